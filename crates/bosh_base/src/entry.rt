@@ -1,0 +1,208 @@
+use crate::{Answer, Call, CopyFault, Copyable, Digest, Failure, Goal, Inst, Name, Owner, Release, Seq, Snapshot, Stemcell, TaskKind, Text};
+use std::alloc::Global;
+
+/// A task is opened.
+#[derive(Drop)]
+pub struct TaskOpen {
+    /// Its number: one more than the tasks before it.
+    pub task: u64,
+    pub kind: TaskKind,
+    pub dep: Option<Name>,
+    /// The current goal of the deployment from here on.
+    pub goal: Option<Goal>,
+    /// Which instances are to be brought to their goal.
+    pub changed: Seq<Inst>,
+    /// Which instances are to go.
+    pub obsolete: Seq<Inst>,
+    /// Which disks are to be deleted.
+    pub disks: Seq<u64>,
+    /// Of the manifest of a deploy.
+    pub source: Option<Digest>,
+}
+
+impl Copyable for TaskOpen {
+    fn copy(&self, alloc: Global) -> Result<Self, CopyFault> {
+        Ok(TaskOpen {
+            task: self.task,
+            kind: self.kind.copy(alloc)?,
+            dep: self.dep.copy(alloc)?,
+            goal: self.goal.copy(alloc)?,
+            changed: self.changed.copy(alloc)?,
+            obsolete: self.obsolete.copy(alloc)?,
+            disks: self.disks.copy(alloc)?,
+            source: self.source,
+        })
+    }
+}
+
+/// The intent of a call, before it is made.
+#[derive(Drop)]
+pub struct Begin {
+    /// The number of the call: one more than that of the last.
+    pub n: u64,
+    pub task: u64,
+    /// Who makes it, from 0 on.
+    pub worker: u8,
+    pub owner: Owner,
+    pub call: Call,
+}
+
+impl Copyable for Begin {
+    fn copy(&self, alloc: Global) -> Result<Self, CopyFault> {
+        Ok(Begin {
+            n: self.n,
+            task: self.task,
+            worker: self.worker,
+            owner: self.owner.copy(alloc)?,
+            call: self.call.copy(alloc)?,
+        })
+    }
+}
+
+/// What a call answered.
+#[derive(Drop)]
+pub struct End {
+    /// The number of the call.
+    pub n: u64,
+    pub answer: Answer,
+}
+
+impl Copyable for End {
+    fn copy(&self, alloc: Global) -> Result<Self, CopyFault> {
+        Ok(End {
+            n: self.n,
+            answer: self.answer.copy(alloc)?,
+        })
+    }
+}
+
+/// A task and one of its instances.
+#[derive(Drop)]
+pub struct Update {
+    pub task: u64,
+    pub inst: Inst,
+}
+
+impl Copyable for Update {
+    fn copy(&self, alloc: Global) -> Result<Self, CopyFault> {
+        Ok(Update {
+            task: self.task,
+            inst: self.inst.copy(alloc)?,
+        })
+    }
+}
+
+/// A task ended without being done.
+#[derive(Drop)]
+pub struct TaskError {
+    pub task: u64,
+    pub cause: Failure,
+}
+
+impl Copyable for TaskError {
+    fn copy(&self, alloc: Global) -> Result<Self, CopyFault> {
+        Ok(TaskError {
+            task: self.task,
+            cause: self.cause.copy(alloc)?,
+        })
+    }
+}
+
+/// A call that changed the cloud.
+#[derive(Drop)]
+pub struct Effect {
+    /// The number of the call.
+    pub n: u64,
+    pub owner: Owner,
+    /// The deployment of the task that made it.
+    pub dep: Name,
+    pub call: Call,
+}
+
+impl Copyable for Effect {
+    fn copy(&self, alloc: Global) -> Result<Self, CopyFault> {
+        Ok(Effect {
+            n: self.n,
+            owner: self.owner.copy(alloc)?,
+            dep: self.dep.copy(alloc)?,
+            call: self.call.copy(alloc)?,
+        })
+    }
+}
+
+/// What a running job wrote to its disk.
+#[derive(Drop)]
+pub struct Write {
+    pub disk: u64,
+    pub text: Text,
+}
+
+impl Copyable for Write {
+    fn copy(&self, alloc: Global) -> Result<Self, CopyFault> {
+        Ok(Write {
+            disk: self.disk,
+            text: self.text.copy(alloc)?,
+        })
+    }
+}
+
+/// A machine vanished, or its agent fell silent.
+#[derive(Clone, Copy, Debug, PartialEq, Eq)]
+pub struct Loss {
+    pub vm: u64,
+    /// The machine vanished.
+    pub whole: bool,
+}
+
+impl Copyable for Loss {
+    fn copy(&self, _alloc: Global) -> Result<Self, CopyFault> {
+        Ok(*self)
+    }
+}
+
+/// One durable fact. The director's store has all kinds but the last three, which the cloud's store has.
+#[derive(Drop)]
+pub enum Entry {
+    Release(Release),
+    Stemcell(Stemcell),
+    /// The bytes of the file.
+    Config(Text),
+    TaskOpen(TaskOpen),
+    Begin(Begin),
+    End(End),
+    /// The work on a changed instance begins.
+    UpdBegin(Update),
+    /// A changed instance stands as its goal asks.
+    UpdDone(Update),
+    /// An obsolete instance has nothing left.
+    Gone(Update),
+    /// By its number.
+    TaskDone(u64),
+    TaskError(TaskError),
+    Snapshot(Snapshot),
+    Effect(Effect),
+    Write(Write),
+    Lost(Loss),
+}
+
+impl Copyable for Entry {
+    fn copy(&self, alloc: Global) -> Result<Self, CopyFault> {
+        match self {
+            Entry::Release(release) => Ok(Entry::Release(release.copy(alloc)?)),
+            Entry::Stemcell(stemcell) => Ok(Entry::Stemcell(stemcell.copy(alloc)?)),
+            Entry::Config(file) => Ok(Entry::Config(file.copy(alloc)?)),
+            Entry::TaskOpen(open) => Ok(Entry::TaskOpen(open.copy(alloc)?)),
+            Entry::Begin(begin) => Ok(Entry::Begin(begin.copy(alloc)?)),
+            Entry::End(end) => Ok(Entry::End(end.copy(alloc)?)),
+            Entry::UpdBegin(update) => Ok(Entry::UpdBegin(update.copy(alloc)?)),
+            Entry::UpdDone(update) => Ok(Entry::UpdDone(update.copy(alloc)?)),
+            Entry::Gone(update) => Ok(Entry::Gone(update.copy(alloc)?)),
+            Entry::TaskDone(task) => Ok(Entry::TaskDone(*task)),
+            Entry::TaskError(error) => Ok(Entry::TaskError(error.copy(alloc)?)),
+            Entry::Snapshot(snapshot) => Ok(Entry::Snapshot(snapshot.copy(alloc)?)),
+            Entry::Effect(effect) => Ok(Entry::Effect(effect.copy(alloc)?)),
+            Entry::Write(write) => Ok(Entry::Write(write.copy(alloc)?)),
+            Entry::Lost(loss) => Ok(Entry::Lost(*loss)),
+        }
+    }
+}
