@@ -1,5 +1,5 @@
 -- An address is spelled as std's `Ipv4Addr` of its octets is.
-use Rattle.std.proofs.Common.{◌≡◌, ℕ, zero, suc, ◌≢◌, subst, ◌+◌, ◌*◌, ◌/◌, ◌%◌, ◌^◌, ◌<◌, List, [], ◌∷◌, get_or, All, arith, refl, ap, sym, ◌∙◌}
+use Rattle.std.proofs.Common.{Result, Ok, Err, IfOk, IfErr, ◌≡◌, ℕ, zero, suc, ◌≢◌, subst, ◌+◌, ◌*◌, ◌/◌, ◌%◌, ◌^◌, ◌<◌, List, [], ◌∷◌, get_or, arith, refl, ap, ◌∙◌}
 use Rattle.std.specs.declared.net.ipv4_addr.Ipv4Addr.{Ipv4Addr}
 use Rattle.std.specs.Net.Addr.{ipv4_octets, ipv4_bits}
 use Rattle.std.specs.Net.Grammar.{IsIpv4Text}
@@ -9,8 +9,9 @@ use Rattle.std.specs.Int.{w32, to_be_bytes}
 use Rattle.std.specs.Net.Text.{ipv4_text}
 use Rattle.std.proofs.NetLemmas.Alphabet.{IsDigitOrDot, All-ipv4_text}
 use Rattle.std.proofs.lemmas.List.Elements.{All-weaker, All-same}
+use Rattle.bosh_ip.specs.declared.fault.IpFault.{IpFault}
 use Rattle.bosh_ip.specs.Bytes.{Lacks}
-use Rattle.bosh_ip.specs.Address.{spelling_of_addr, SpellsAddr}
+use Rattle.bosh_ip.specs.Address.{spelling_of_addr, SpellsAddr, RefusesAddr}
 
 -- the octets of an address, the highest first
 abbrev pub octets : ℕ → List ℕ
@@ -79,3 +80,15 @@ unfolding spelling_of_addr
 Lacks-addr byte text n other h =
     All-same (λ b. b ≢ byte) text (ipv4_text (octets n)) h.spelled
     (All-weaker IsDigitOrDot (λ b. b ≢ byte) (λ b is e. other (subst IsDigitOrDot e is)) (ipv4_text (octets n)) (All-ipv4_text (octets n) (octets_fit n h.fits)))
+
+-- each address has a spelling
+pub SpellsAddr-spelling : (n : ℕ) → n < 2 ^ 32 → SpellsAddr (spelling_of_addr n) n
+SpellsAddr-spelling n fits = record { fits = fits; spelled = refl }
+
+pub Lacks-spelling : (byte n : ℕ) → (IsDigitOrDot byte → ⊥) → n < 2 ^ 32 → Lacks byte (spelling_of_addr n)
+Lacks-spelling byte n other fits = Lacks-addr byte (spelling_of_addr n) n other (SpellsAddr-spelling n fits)
+
+-- on the spelling of an address a reader answers that address
+pub spelling-reads : (n : ℕ) (answer : Result ℕ IpFault) → n < 2 ^ 32 → IfOk answer (SpellsAddr (spelling_of_addr n)) → IfErr answer (RefusesAddr (spelling_of_addr n)) → answer ≡ Ok n
+spelling-reads n (Ok m) fits read refused = ap Ok (SpellsAddr_unique (spelling_of_addr n) m n read (SpellsAddr-spelling n fits))
+spelling-reads n (Err e) fits read refused = absurd (refused.unspelled n (SpellsAddr-spelling n fits))

@@ -1,12 +1,12 @@
 -- Where a text is split at a byte, and its spaces taken away.
-use Rattle.std.proofs.Common.{◌≡◌, ◌≢◌, ℕ, zero, suc, ◌+◌, ◌-◌, ◌<◌, ◌≤◌, ◌==◌, cond, true≢false, lt-ltb, add-one, nat_lt, List, [], ◌∷◌, ◌++◌, length, get_or, take, drop, replicate, reverse, Option, Some, None, All, position, refl, sym, ap, ◌∙◌, arith, inl, inr, take-append-drop, eqb-true, eq-eqb, ne_eqb}
+use Rattle.std.proofs.Common.{◌≡◌, ◌≢◌, ℕ, zero, suc, ◌+◌, ◌-◌, ◌<◌, ◌==◌, cond, true≢false, lt-ltb, add-one, List, [], ◌∷◌, ◌++◌, length, get_or, take, drop, replicate, reverse, Some, None, position, refl, sym, ap, ◌∙◌, arith, inl, inr, take-append-drop, eqb-true, eq-eqb, ne_eqb}
 use Rattle.std.proofs.lemmas.Bool.{cases_lt, cases_eq}
-use Rattle.std.proofs.lemmas.List.{drop_more, reverse-append, reverse-reverse, length-take, length-take-le, get_or-take, length-reverse, get_or-reverse, replicate_more}
+use Rattle.std.proofs.lemmas.List.{drop_more, reverse-append, reverse-reverse, length-take, get_or-take, length-reverse, get_or-reverse, replicate_more}
 use Rattle.std.proofs.lemmas.Option.{none-some}
 use Rattle.std.specs.List.{position_or_len}
 use Rattle.std.proofs.lemmas.List.Quantifiers.{position-Some}
 use Rattle.std.proofs.lemmas.List.Sums.{fails_before_first}
-use Rattle.std.proofs.lemmas.List.Elements.{All-get_or, All-nil, All-cons, All-head, All-tail, All-contains, All-from_get_or, Contains-append_right}
+use Rattle.std.proofs.lemmas.List.Elements.{All-get_or, All-head, All-tail, All-contains, All-from_get_or, Contains-append_right}
 use Rattle.bosh_ip.specs.Bytes.{Lacks, without_leading}
 
 pub Lacks-split : (byte : ℕ) (front back : List ℕ) → Lacks byte (front ++ byte ∷ back) → ⊥
@@ -67,13 +67,11 @@ Lacks-reverse byte text h = All-from_get_or (λ b. b ≢ byte) (reverse text) 0 
     All-get_or (λ b. b ≢ byte) text (length text - 1 - k) 0 (omega arith) h (sym (get_or-reverse text k 0 inside) ∙ e))
 
 -- the bytes at the end are taken away
-pub trim_end-same : (byte n : ℕ) (front trimmed text : List ℕ) → reverse trimmed ≡ without_leading byte (reverse front) → Lacks byte text → front ≡ text ++ replicate n byte → trimmed ≡ text
-trim_end-same byte n front trimmed text is lacks e =
-    let turned : reverse front ≡ replicate n byte ++ reverse text =
-    ap reverse e ∙ reverse-append text (replicate n byte) ∙ ap (λ t. t ++ reverse text) (reverse-replicate n byte) in
-    let same : reverse trimmed ≡ reverse text =
-    is ∙ ap (without_leading byte) turned ∙ without_leading-same byte n (reverse text) (Lacks-reverse byte text lacks) in
-    sym (reverse-reverse trimmed) ∙ ap reverse same ∙ reverse-reverse text
+pub without_leading-end : (byte n : ℕ) (text : List ℕ) → Lacks byte text → without_leading byte (reverse (text ++ replicate n byte)) ≡ reverse text
+without_leading-end byte n text lacks =
+    let turned : reverse (text ++ replicate n byte) ≡ replicate n byte ++ reverse text =
+    reverse-append text (replicate n byte) ∙ ap (λ t. t ++ reverse text) (reverse-replicate n byte) in
+    ap (without_leading byte) turned ∙ without_leading-same byte n (reverse text) (Lacks-reverse byte text lacks)
 
 -- and what is taken away there is bytes of this kind alone
 pub trim_end-split : (byte : ℕ) (front trimmed : List ℕ) → reverse trimmed ≡ without_leading byte (reverse front) → (n : ℕ) × (front ≡ trimmed ++ replicate n byte)

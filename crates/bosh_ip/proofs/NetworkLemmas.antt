@@ -1,13 +1,12 @@
 -- The length of a prefix by its bytes, and a network by its parts.
-use Rattle.std.proofs.Common.{◌≡◌, ℕ, ◌+◌, ◌/◌, ◌%◌, ◌<◌, ◌≤◌, List, [], ◌∷◌, ◌++◌, length, get_or, Option, Some, None, MatchOption, decimal, arith, refl, sym, ap, ◌∙◌, inl, inr}
-use Rattle.std.proofs.lemmas.Fmt.{decimal_digit, decimal_step}
+use Rattle.std.proofs.Common.{◌≡◌, ℕ, ◌+◌, ◌/◌, ◌%◌, ◌<◌, ◌≤◌, List, [], ◌∷◌, ◌++◌, length, get_or, Option, Some, None, MatchOption, decimal, arith, sym, ap, ◌∙◌}
+use Rattle.std.proofs.lemmas.Fmt.{decimal_digit, decimal_step, decimal_injective}
 use Rattle.std.specs.Int.{IsInRange}
 use Rattle.std.proofs.lemmas.List.{append_assoc}
-use Rattle.std.proofs.NetLemmas.Alphabet.{IsDigitOrDot}
 use Rattle.bosh_ip.specs.declared.network.Cidr.{Cidr}
 use Rattle.bosh_ip.specs.Address.{spelling_of_addr, SpellsAddr}
 use Rattle.bosh_ip.specs.Bytes.{Lacks}
-use Rattle.bosh_ip.proofs.AddressLemmas.{Lacks-addr}
+use Rattle.bosh_ip.proofs.AddressLemmas.{SpellsAddr-spelling, SpellsAddr_unique, Lacks-spelling}
 use Rattle.bosh_ip.proofs.BytesLemmas.{split_unique}
 use Rattle.bosh_ip.specs.Network.{IsTwoDigits, SpellsBits, SpellsCidr}
 
@@ -55,13 +54,14 @@ SpellsBits-two (x ∷ y ∷ []) (Some n) len h =
     record { within = h.high; spelled = ap (λ v. v ∷ y ∷ []) h.tens_digit ∙ ap (λ v. (48 + n / 10) ∷ v ∷ []) h.ones_digit ∙ sym (decimal_two n h.low (omega (arith, h.high))) }
 SpellsBits-two (x ∷ y ∷ z ∷ text) (Some n) len h = absurd (omega arith)
 
+-- a network's text at its slash
+at_slash : (text : List ℕ) (net : Cidr) → SpellsCidr text net → text ≡ spelling_of_addr net.first ++ 47 ∷ decimal net.bits
+at_slash text net h = h.spelled ∙ append_assoc (spelling_of_addr net.first) (47 ∷ []) (decimal net.bits)
+
 -- the parts of a text that is a network
 pub SpellsCidr-parts : (text front back : List ℕ) (net : Cidr) → text ≡ front ++ 47 ∷ back → Lacks 47 front → SpellsCidr text net → SpellsAddr front net.first × SpellsBits back net.bits
 SpellsCidr-parts text front back net split lacks h =
-    let first = spelling_of_addr net.first in
-    let addr : SpellsAddr first net.first = record { fits = h.fits; spelled = refl } in
-    let same = split_unique 47 front back first (decimal net.bits) lacks (Lacks-addr 47 first net.first (grind arith) addr)
-    (sym split ∙ h.spelled ∙ append_assoc first (47 ∷ []) (decimal net.bits)) in
+    let same = split_unique 47 front back (spelling_of_addr net.first) (decimal net.bits) lacks (Lacks-spelling 47 net.first (grind arith) h.fits) (sym split ∙ at_slash text net h) in
     (record { fits = h.fits; spelled = same.0 }, record { within = h.within; spelled = same.1 })
 
 -- the parts make up a network
@@ -72,3 +72,10 @@ SpellsCidr-whole text front back first bits split addr prefix =
       within = prefix.within;
       spelled = split ∙ rw (addr.spelled, prefix.spelled) (sym (append_assoc (spelling_of_addr first) (47 ∷ []) (decimal bits)));
     }
+
+pub SpellsCidr_unique : (text : List ℕ) (a b : Cidr) → SpellsCidr text a → SpellsCidr text b → a ≡ b
+SpellsCidr_unique text a b h k =
+    let (addr, prefix) = SpellsCidr-parts text _ _ b (at_slash text a h) (Lacks-spelling 47 a.first (grind arith) h.fits) k in
+    let first = SpellsAddr_unique _ a.first b.first (SpellsAddr-spelling a.first h.fits) addr in
+    let bits = decimal_injective a.bits b.bits (omega (arith, h.within)) (omega (arith, k.within)) prefix.spelled in
+    λ i. record { first = first i; bits = bits i }

@@ -1,14 +1,13 @@
 -- A range by its parts.
-use Rattle.std.proofs.Common.{◌≡◌, ◌≢◌, ℕ, ◌<◌, ◌≤◌, subst, List, [], ◌∷◌, ◌++◌, reverse, replicate, arith, refl, sym, ap, ◌∙◌, inl, inr}
-use Rattle.std.proofs.lemmas.List.{append_assoc}
+use Rattle.std.proofs.Common.{◌≡◌, ◌≢◌, ℕ, subst, List, [], ◌∷◌, ◌++◌, reverse, arith, sym, ap, ◌∙◌, inl, inr}
+use Rattle.std.proofs.lemmas.List.{append_assoc, reverse-reverse}
 use Rattle.std.proofs.lemmas.List.Elements.{All-append, All-replicate}
-use Rattle.std.proofs.NetLemmas.Alphabet.{IsDigitOrDot}
 use Rattle.bosh_ip.specs.declared.range.Span.{Span}
-use Rattle.bosh_ip.specs.Address.{SpellsAddr}
+use Rattle.bosh_ip.specs.Address.{spelling_of_addr, SpellsAddr}
 use Rattle.bosh_ip.specs.Bytes.{Lacks, without_leading}
 use Rattle.bosh_ip.specs.Range.{SpellsPair, SpellsSpan, spaces}
-use Rattle.bosh_ip.proofs.AddressLemmas.{Lacks-addr}
-use Rattle.bosh_ip.proofs.BytesLemmas.{Lacks-split, split_unique, without_leading-same, without_leading-split, trim_end-same, trim_end-split}
+use Rattle.bosh_ip.proofs.AddressLemmas.{SpellsAddr-spelling, SpellsAddr_unique, Lacks-addr, Lacks-spelling}
+use Rattle.bosh_ip.proofs.BytesLemmas.{Lacks-split, split_unique, without_leading-same, without_leading-split, without_leading-end, trim_end-split}
 
 -- a text at a dash, with the spaces on both sides of the dash taken away
 pub record IsCut (text front back first last : List ℕ) : Type 0 where
@@ -17,19 +16,37 @@ pub record IsCut (text front back first last : List ℕ) : Type 0 where
   pub first_is : reverse first ≡ without_leading 32 (reverse front)
   pub last_is : last ≡ without_leading 32 back
 
+-- two addresses at their dash
+IsCut-pair : (text : List ℕ) (span : Span) (h : SpellsPair text span) → IsCut text (spelling_of_addr span.first ++ spaces h.before) (spaces h.after ++ spelling_of_addr span.last) (spelling_of_addr span.first) (spelling_of_addr span.last)
+IsCut-pair text span h =
+    let first = spelling_of_addr span.first in
+    record {
+      split = h.spelled ∙ simp append_assoc;
+      lacks = All-append (λ b. b ≢ 45) first (spaces h.before) (Lacks-spelling 45 span.first (grind arith) h.first_fits) (All-replicate (λ b. b ≢ 45) h.before 32 (omega arith));
+      first_is = sym (without_leading-end 32 h.before first (Lacks-spelling 32 span.first (grind arith) h.first_fits));
+      last_is = sym (without_leading-same 32 h.after (spelling_of_addr span.last) (Lacks-spelling 32 span.last (grind arith) h.last_fits));
+    }
+
+-- a text has one cut
+IsCut_unique : (text front back first last front' back' first' last' : List ℕ) → IsCut text front back first last → IsCut text front' back' first' last' → (first ≡ first') × (last ≡ last')
+IsCut_unique text front back first last front' back' first' last' h k =
+    let same = split_unique 45 front back front' back' h.lacks k.lacks (sym h.split ∙ k.split) in
+    let turned : reverse first ≡ reverse first' = h.first_is ∙ ap (λ t. without_leading 32 (reverse t)) same.0 ∙ sym k.first_is in
+    (sym (reverse-reverse first) ∙ ap reverse turned ∙ reverse-reverse first', h.last_is ∙ ap (without_leading 32) same.1 ∙ sym k.last_is)
+
+-- a text with a dash is no address
+no_dash : (text front back : List ℕ) (n : ℕ) → text ≡ front ++ 45 ∷ back → SpellsAddr text n → ⊥
+no_dash text front back n split h = Lacks-split 45 front back (subst (Lacks 45) split (Lacks-addr 45 text n (grind arith) h))
+
 -- the parts of a text with a dash that is a range
 pub SpellsSpan-parts : (text front back first last : List ℕ) (span : Span) → IsCut text front back first last → SpellsSpan text span → SpellsAddr first span.first × SpellsAddr last span.last
-SpellsSpan-parts text front back first last span cut (inl one) =
-    absurd (Lacks-split 45 front back (subst (Lacks 45) cut.split (Lacks-addr 45 text span.first (grind arith) one.0)))
+SpellsSpan-parts text front back first last span cut (inl one) = absurd (no_dash text front back span.first cut.split one.0)
 SpellsSpan-parts text front back first last span cut (inr h) =
-    let one = Lacks-addr 45 h.first_text span.first (grind arith) h.first_spelled in
-    let dashless = All-append (λ b. b ≢ 45) h.first_text (spaces h.before) one (All-replicate (λ b. b ≢ 45) h.before 32 (omega arith)) in
-    let whole : text ≡ (h.first_text ++ spaces h.before) ++ 45 ∷ (spaces h.after ++ h.last_text) = h.spelled ∙ simp append_assoc in
-    let same = split_unique 45 front back (h.first_text ++ spaces h.before) (spaces h.after ++ h.last_text) cut.lacks dashless (sym cut.split ∙ whole) in
-    let first_same = trim_end-same 32 h.before front first h.first_text cut.first_is (Lacks-addr 32 h.first_text span.first (grind arith) h.first_spelled) same.0 in
-    let last_same : last ≡ h.last_text =
-    cut.last_is ∙ ap (without_leading 32) same.1 ∙ without_leading-same 32 h.after h.last_text (Lacks-addr 32 h.last_text span.last (grind arith) h.last_spelled) in
-    (rw first_same h.first_spelled, rw last_same h.last_spelled)
+    let same = IsCut_unique text _ _ _ _ _ _ _ _ cut (IsCut-pair text span h) in
+    (record { fits = h.first_fits; spelled = same.0 }, record { fits = h.last_fits; spelled = same.1 })
+
+pair_text : (first last first' last' : List ℕ) (before after : ℕ) → first ≡ first' → last ≡ last' → (first ++ spaces before) ++ 45 ∷ (spaces after ++ last) ≡ first' ++ spaces before ++ 45 ∷ [] ++ spaces after ++ last'
+pair_text first last first' last' before after e e' = rw (e, e') (simp append_assoc)
 
 -- the parts make up a range
 pub SpellsSpan-whole : (text front back first last : List ℕ) (a b : ℕ) → IsCut text front back first last → SpellsAddr first a → SpellsAddr last b → SpellsSpan text (record { first = a; last = b })
@@ -38,11 +55,21 @@ SpellsSpan-whole text front back first last a b cut one other =
     let (after, back_is) = without_leading-split 32 back in
     let back_whole : back ≡ spaces after ++ last = back_is ∙ ap (λ t. spaces after ++ t) (sym cut.last_is) in
     inr (record {
-      first_text = first;
-      last_text = last;
       before = before;
       after = after;
-      first_spelled = one;
-      last_spelled = other;
-      spelled = cut.split ∙ ap (λ t. t ++ 45 ∷ back) front_is ∙ ap (λ t. (first ++ spaces before) ++ 45 ∷ t) back_whole ∙ simp append_assoc;
+      first_fits = one.fits;
+      last_fits = other.fits;
+      spelled = cut.split ∙ ap (λ t. t ++ 45 ∷ back) front_is ∙ ap (λ t. (first ++ spaces before) ++ 45 ∷ t) back_whole ∙ pair_text first last _ _ before after one.spelled other.spelled;
     })
+
+pub SpellsSpan_unique : (text : List ℕ) (a b : Span) → SpellsSpan text a → SpellsSpan text b → a ≡ b
+SpellsSpan_unique text a b (inl h) (inl k) =
+    let first = SpellsAddr_unique text a.first b.first h.0 k.0 in
+    let last = h.1 ∙ first ∙ sym k.1 in
+    λ i. record { first = first i; last = last i }
+SpellsSpan_unique text a b (inl h) (inr k) = absurd (no_dash text _ _ a.first (IsCut-pair text b k).split h.0)
+SpellsSpan_unique text a b (inr h) k =
+    let (one, other) = SpellsSpan-parts text _ _ _ _ b (IsCut-pair text a h) k in
+    let first = SpellsAddr_unique _ a.first b.first (SpellsAddr-spelling a.first h.first_fits) one in
+    let last = SpellsAddr_unique _ a.last b.last (SpellsAddr-spelling a.last h.last_fits) other in
+    λ i. record { first = first i; last = last i }

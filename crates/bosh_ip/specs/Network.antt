@@ -1,5 +1,5 @@
 -- Networks as an address and the length of its prefix (RFC 4632, section 3.1).
-use Rattle.std.specs.Prelude.{◌≡◌, ◌≢◌, ℕ, ◌+◌, ◌/◌, ◌%◌, ◌^◌, ◌-◌, ◌<◌, ◌≤◌, List, ◌++◌, codes, decimal}
+use Rattle.std.specs.Prelude.{◌≡◌, ℕ, ◌+◌, ◌/◌, ◌%◌, ◌^◌, ◌-◌, ◌<◌, ◌≤◌, List, ◌++◌, codes, decimal}
 use Rattle.bosh_ip.specs.declared.network.Cidr.{Cidr}
 use Rattle.bosh_ip.specs.declared.fault.IpFault.{IpFault}
 use Rattle.bosh_ip.specs.declared.fault.IpFault.TheVariants.{Syntax, Backwards, HostBits, Memory}

@@ -1,10 +1,10 @@
 -- Ranges of addresses, as the `reserved` and `static` lists of a cloud config's subnet have them
 -- (bosh.io, "Networks", manual networks).
-use Rattle.std.specs.Prelude.{◌≡◌, ℕ, ◌<◌, ◌⊎◌, List, ◌++◌, codes, replicate}
+use Rattle.std.specs.Prelude.{◌≡◌, ℕ, ◌^◌, ◌<◌, ◌⊎◌, List, ◌++◌, codes, replicate}
 use Rattle.bosh_ip.specs.declared.range.Span.{Span}
 use Rattle.bosh_ip.specs.declared.fault.IpFault.{IpFault}
 use Rattle.bosh_ip.specs.declared.fault.IpFault.TheVariants.{Syntax, Backwards, HostBits, Memory}
-use Rattle.bosh_ip.specs.Address.{SpellsAddr}
+use Rattle.bosh_ip.specs.Address.{spelling_of_addr, SpellsAddr}
 
 -- any number of spaces
 abbrev pub spaces : ℕ → List ℕ
@@ -12,13 +12,14 @@ spaces count = replicate count 32
 
 -- the text is two addresses with a dash between them, and any spaces on each side of the dash
 pub record SpellsPair (text : List ℕ) (span : Span) : Type 0 where
-  pub first_text : List ℕ
-  pub last_text : List ℕ
   pub before : ℕ
   pub after : ℕ
-  pub first_spelled : SpellsAddr first_text span.first
-  pub last_spelled : SpellsAddr last_text span.last
-  pub spelled : text ≡ first_text ++ spaces before ++ codes "-" ++ spaces after ++ last_text
+  pub first_fits : span.first < 2 ^ 32
+  pub last_fits : span.last < 2 ^ 32
+  pub spelled :
+      text
+      ≡ spelling_of_addr span.first ++ spaces before ++ codes "-" ++ spaces after
+      ++ spelling_of_addr span.last
 
 -- the text is one address, which is both ends, or two
 abbrev pub SpellsSpan : List ℕ → Span → Type 0

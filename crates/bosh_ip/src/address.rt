@@ -1,7 +1,7 @@
 //! Addresses, as numbers and as texts.
-ghost use Rattle.std.specs.Prelude.{◌≡◌, ℕ, IfOk, IfErr};
-ghost use Rattle.bosh_ip.specs.declared.fault.IpFault.TheVariants.{Syntax, Memory};
-ghost use Rattle.bosh_ip.specs.Address.{SpellsAddr, spelling_of_addr};
+ghost use Rattle.std.specs.Prelude.{◌≡◌, IfOk, IfErr};
+ghost use Rattle.bosh_ip.specs.declared.fault.IpFault.TheVariants.{Memory};
+ghost use Rattle.bosh_ip.specs.Address.{SpellsAddr, RefusesAddr, spelling_of_addr};
 
 use crate::fault::IpFault;
 use std::alloc::Global;
@@ -11,7 +11,7 @@ use std::net::Ipv4Addr;
 /// eight bits. Any other text is `Syntax`, one with a sign, a space or a leading zero among them.
 pub fn parse_addr(text: &[u8]) -> Result<u32, IpFault>
     ensures read { IfOk result (SpellsAddr text.now) }
-    ensures refused { IfErr result (λ e. (e ≡ Syntax) × ((n : ℕ) → ¬ SpellsAddr text.now n)) }
+    ensures refused { IfErr result (RefusesAddr text.now) }
 {
     match Ipv4Addr::parse_ascii(text) {
         Ok(addr) => Ok(addr.to_bits()),

@@ -11,10 +11,8 @@ fn position_of(text: &[u8], byte: u8) -> Option<usize>
 
 // What stands before the first such byte, and what stands after it.
 pub(crate) fn split_once(text: &[u8], byte: u8) -> Option<(&[u8], &[u8])>
-    ensures {
-        MatchOption result (Lacks byte text.now)
-        (λ parts. (text.now ≡ parts.0.now ++ byte ∷ parts.1.now) × Lacks byte parts.0.now)
-    }
+    ensures { MatchOption result (Lacks byte text.now)
+        (λ parts. (text.now ≡ parts.0.now ++ byte ∷ parts.1.now) × Lacks byte parts.0.now) }
 {
     match position_of(text, byte) {
         Some(at) => Some((&text[..at], &text[at + 1..])),

@@ -2,10 +2,10 @@
 ghost use Rattle.std.specs.Prelude.{◌≡◌};
 ghost use Rattle.bosh_ip.specs.declared.fault.IpFault.TheVariants.{Memory};
 
-use std::alloc::{AllocError, AllocFailed};
+use std::alloc::AllocError;
 
-/// The reasons for which a text of this crate is refused, or an address is not shown.
-#[derive(Clone, Copy, Debug, Drop, PartialEq, Eq)]
+/// The reasons for which a text is refused, or an address is not shown.
+#[derive(Clone, Copy, Debug, PartialEq, Eq)]
 pub enum IpFault {
     /// The text has not the form that is read.
     Syntax,
@@ -21,14 +21,6 @@ impl From<AllocError> for IpFault {
     ghost from_gives = { λ _ e. e ≡ Memory };
 
     fn from(_error: AllocError) -> IpFault {
-        IpFault::Memory
-    }
-}
-
-impl<T: Drop> From<AllocFailed<T>> for IpFault {
-    ghost from_gives = { λ _ e. e ≡ Memory };
-
-    fn from(_failed: AllocFailed<T>) -> IpFault {
         IpFault::Memory
     }
 }

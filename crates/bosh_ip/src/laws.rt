@@ -1,9 +1,23 @@
-//! Laws of the texts, each the contract of a function that does nothing.
-ghost use Rattle.std.specs.Prelude.{◌≡◌, ℕ, List};
-ghost use Rattle.bosh_ip.specs.Address.{SpellsAddr};
+//! Laws of the texts. Each is the contract of a function that does nothing.
+ghost use Rattle.std.specs.Prelude.{◌≡◌, ℕ, ◌^◌, ◌<◌, List, Result, Ok, IfOk, IfErr};
+ghost use Rattle.bosh_ip.specs.declared.fault.IpFault.{IpFault};
+ghost use Rattle.bosh_ip.specs.declared.network.Cidr.{Cidr};
+ghost use Rattle.bosh_ip.specs.declared.range.Span.{Span};
+ghost use Rattle.bosh_ip.specs.Address.{SpellsAddr, RefusesAddr, spelling_of_addr};
+ghost use Rattle.bosh_ip.specs.Network.{SpellsCidr};
+ghost use Rattle.bosh_ip.specs.Range.{SpellsSpan};
 
-/// A text spells one address at most.
-pub fn one_spelling()
-    ensures { (text : List ℕ) (m n : ℕ) → SpellsAddr text m → SpellsAddr text n → m ≡ n }
-{
-}
+/// A text spells one address at most, one network at most and one range at most.
+pub fn spelled_once()
+    ensures addr { (text : List ℕ) (m n : ℕ) → SpellsAddr text m → SpellsAddr text n → m ≡ n }
+    ensures cidr { (text : List ℕ) (a b : Cidr) → SpellsCidr text a → SpellsCidr text b → a ≡ b }
+    ensures range { (text : List ℕ) (a b : Span) → SpellsSpan text a → SpellsSpan text b → a ≡ b }
+{}
+
+/// What `show_addr` writes reads back: whatever `parse_addr` answers on it is the same address.
+pub fn shown_reads_back()
+    ensures { (n : ℕ) (answer : Result ℕ IpFault) → n < 2 ^ 32
+        → IfOk answer (SpellsAddr (spelling_of_addr n))
+        → IfErr answer (RefusesAddr (spelling_of_addr n))
+        → answer ≡ Ok n }
+{}

@@ -11,6 +11,9 @@ mod range;
 
 pub use address::{parse_addr, show_addr};
 pub use fault::IpFault;
-pub use laws::one_spelling;
+pub use laws::{shown_reads_back, spelled_once};
 pub use network::{Cidr, contains, parse_cidr};
 pub use range::{Span, parse_range};
+
+#[cfg(test)]
+mod tests;

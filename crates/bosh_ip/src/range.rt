@@ -22,7 +22,10 @@ pub fn parse_range(text: &[u8]) -> Result<Span, IpFault>
 {
     let Some((before, after)) = split_once(text, b'-') else {
         let addr = parse_addr(text)?;
-        return Ok(Span { first: addr, last: addr });
+        return Ok(Span {
+            first: addr,
+            last: addr,
+        });
     };
     let first = parse_addr(trim_end(before))?;
     let last = parse_addr(trim_start(after))?;

@@ -1,4 +1,4 @@
-use Rattle.std.proofs.Common.{sym, ◌∙◌}
+use Rattle.std.proofs.Common.{sym}
 use Rattle.std.proofs.lemmas.List.{take_rest}
 use Rattle.bosh_ip.proofs.BytesLemmas.{split_at_position, Lacks-position}
 use Rattle.bosh_ip.proofs.bytes.split_once.Goals as goal

@@ -5,8 +5,8 @@ use Rattle.bosh_ip.proofs.network.parse_cidr.Goals as goal
 pub returns-in_err-first-clause-refused : goal.returns-in_err-first-clause-refused
 returns-in_err-first-clause-refused c =
     let p = err_from_is_err_and c.from_residual.result c.from_residual.ensures.1 in
-    rw (p.1, p.2, c.in_err-first.ensures.refused.0) λ net h.
-    c.in_err-first.ensures.refused.1 net.first (SpellsCidr-parts _ _ _ net c.in-Some.ensures.0 c.in-Some.ensures.1 h).0
+    rw (p.1, p.2, c.in_err-first.ensures.refused.is_syntax) λ net h.
+    c.in_err-first.ensures.refused.unspelled net.first (SpellsCidr-parts _ _ _ net c.in-Some.ensures.0 c.in-Some.ensures.1 h).0
 
 pub returns-in_default-parse_bits-clause-refused : goal.returns-in_default-parse_bits-clause-refused
 returns-in_default-parse_bits-clause-refused c = λ net h.
