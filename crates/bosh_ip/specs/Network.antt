@@ -12,7 +12,7 @@ pub record IsTwoDigits (tens ones n : ℕ) : Type 0 where
   pub tens_digit : tens ≡ 48 + n / 10
   pub ones_digit : ones ≡ 48 + n % 10
 
--- the text is the length of a prefix, a decimal without leading zeros
+-- the text is the length of a prefix, a decimal; without leading zeros, by this project's profile
 pub record SpellsBits (text : List ℕ) (n : ℕ) : Type 0 where
   pub within : n ≤ 32
   pub spelled : text ≡ decimal n
