@@ -1,14 +1,16 @@
 -- The length of a prefix by its bytes, and a network by its parts.
-use Rattle.std.proofs.Common.{◌≡◌, ℕ, ◌+◌, ◌/◌, ◌%◌, ◌<◌, ◌≤◌, List, [], ◌∷◌, ◌++◌, length, get_or, Option, Some, None, MatchOption, decimal, arith, sym, ap, ◌∙◌}
+use Rattle.std.proofs.Common.{subst, ◌≡◌, ℕ, ◌+◌, ◌/◌, ◌%◌, ◌<◌, ◌≤◌, List, [], ◌∷◌, ◌++◌, length, get_or, Option, Some, None, MatchOption, decimal, arith, sym, ap, ◌∙◌}
 use Rattle.std.proofs.lemmas.Fmt.{decimal_digit, decimal_step, decimal_injective}
 use Rattle.std.specs.Int.{IsInRange}
 use Rattle.std.proofs.lemmas.List.{append_assoc}
+use Rattle.bosh_ip.specs.declared.fault.IpFault.{IpFault}
+use Rattle.bosh_ip.specs.declared.fault.IpFault.TheVariants.{Syntax, Backwards, HostBits, Memory}
 use Rattle.bosh_ip.specs.declared.network.Cidr.{Cidr}
 use Rattle.bosh_ip.specs.Address.{spelling_of_addr, SpellsAddr}
 use Rattle.bosh_ip.specs.Bytes.{Lacks}
 use Rattle.bosh_ip.proofs.AddressLemmas.{SpellsAddr-spelling, SpellsAddr_unique, Lacks-spelling}
 use Rattle.bosh_ip.proofs.BytesLemmas.{split_unique}
-use Rattle.bosh_ip.specs.Network.{IsTwoDigits, SpellsBits, SpellsCidr}
+use Rattle.bosh_ip.specs.Network.{IsTwoDigits, SpellsBits, SpellsCidr, IsNetwork, RefusesCidr}
 
 -- the digits of a number of one or two digits
 pub decimal_two : (n : ℕ) → 10 ≤ n → n < 100 → decimal n ≡ (48 + n / 10) ∷ (48 + n % 10) ∷ []
@@ -79,3 +81,9 @@ SpellsCidr_unique text a b h k =
     let first = SpellsAddr_unique _ a.first b.first (SpellsAddr-spelling a.first h.fits) addr in
     let bits = decimal_injective a.bits b.bits (omega (arith, h.within)) (omega (arith, k.within)) prefix.spelled in
     λ i. record { first = first i; bits = bits i }
+
+pub RefusesCidr-none : (text : List ℕ) (fault : IpFault) → RefusesCidr text fault → (net : Cidr) → SpellsCidr text net → IsNetwork net → ⊥
+RefusesCidr-none text Syntax refused net h ordered = refused net h
+RefusesCidr-none text HostBits refused net h ordered = refused.2 (subst IsNetwork (SpellsCidr_unique text net refused.0 h refused.1) ordered)
+RefusesCidr-none text Backwards refused net h ordered = refused
+RefusesCidr-none text Memory refused net h ordered = refused

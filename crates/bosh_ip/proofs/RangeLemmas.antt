@@ -1,11 +1,13 @@
 -- A range by its parts.
-use Rattle.std.proofs.Common.{◌≡◌, ◌≢◌, ℕ, subst, List, [], ◌∷◌, ◌++◌, reverse, arith, sym, ap, ◌∙◌, inl, inr}
+use Rattle.std.proofs.Common.{◌<◌, ◌≡◌, ◌≢◌, ℕ, subst, List, [], ◌∷◌, ◌++◌, reverse, arith, sym, ap, ◌∙◌, inl, inr}
 use Rattle.std.proofs.lemmas.List.{append_assoc, reverse-reverse}
 use Rattle.std.proofs.lemmas.List.Elements.{All-append, All-replicate}
+use Rattle.bosh_ip.specs.declared.fault.IpFault.{IpFault}
+use Rattle.bosh_ip.specs.declared.fault.IpFault.TheVariants.{Syntax, Backwards, HostBits, Memory}
 use Rattle.bosh_ip.specs.declared.range.Span.{Span}
 use Rattle.bosh_ip.specs.Address.{spelling_of_addr, SpellsAddr}
 use Rattle.bosh_ip.specs.Bytes.{Lacks, without_leading}
-use Rattle.bosh_ip.specs.Range.{SpellsPair, SpellsSpan, spaces}
+use Rattle.bosh_ip.specs.Range.{SpellsPair, SpellsSpan, RefusesRange, spaces}
 use Rattle.bosh_ip.proofs.AddressLemmas.{SpellsAddr-spelling, SpellsAddr_unique, Lacks-addr, Lacks-spelling}
 use Rattle.bosh_ip.proofs.BytesLemmas.{Lacks-split, split_unique, without_leading-same, without_leading-split, without_leading-end, trim_end-split}
 
@@ -73,3 +75,9 @@ SpellsSpan_unique text a b (inr h) k =
     let first = SpellsAddr_unique _ a.first b.first (SpellsAddr-spelling a.first h.first_fits) one in
     let last = SpellsAddr_unique _ a.last b.last (SpellsAddr-spelling a.last h.last_fits) other in
     λ i. record { first = first i; last = last i }
+
+pub RefusesRange-none : (text : List ℕ) (fault : IpFault) → RefusesRange text fault → (span : Span) → SpellsSpan text span → span.last < span.first
+RefusesRange-none text Syntax refused span h = absurd (refused span h)
+RefusesRange-none text Backwards refused span h = subst (λ (s : Span). s.last < s.first) (SpellsSpan_unique text refused.0 span refused.1 h) refused.2
+RefusesRange-none text HostBits refused span h = absurd refused
+RefusesRange-none text Memory refused span h = absurd refused

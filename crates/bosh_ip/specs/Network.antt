@@ -27,7 +27,7 @@ pub record SpellsCidr (text : List ℕ) (net : Cidr) : Type 0 where
 abbrev pub IsNetwork : Cidr → Type 0
 IsNetwork net = net.first % 2 ^ (32 - net.bits) ≡ 0
 
--- which texts are refused, and why
+-- `Syntax` where the text spells no network, `HostBits` where it spells one with such a bit set
 abbrev pub RefusesCidr : List ℕ → IpFault → Type 0
 RefusesCidr text Syntax = (net : Cidr) → ¬ SpellsCidr text net
 RefusesCidr text HostBits = (net : Cidr) × SpellsCidr text net × ¬ IsNetwork net

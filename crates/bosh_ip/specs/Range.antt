@@ -25,7 +25,7 @@ pub record SpellsPair (text : List ℕ) (span : Span) : Type 0 where
 abbrev pub SpellsSpan : List ℕ → Span → Type 0
 SpellsSpan text span = (SpellsAddr text span.first × (span.last ≡ span.first)) ⊎ SpellsPair text span
 
--- which texts are refused, and why
+-- `Syntax` where the text spells no range, `Backwards` where the last address is less than the first
 abbrev pub RefusesRange : List ℕ → IpFault → Type 0
 RefusesRange text Syntax = (span : Span) → ¬ SpellsSpan text span
 RefusesRange text Backwards = (span : Span) × SpellsSpan text span × (span.last < span.first)

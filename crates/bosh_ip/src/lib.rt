@@ -11,7 +11,7 @@ mod range;
 
 pub use address::{parse_addr, show_addr};
 pub use fault::IpFault;
-pub use laws::{shown_reads_back, spelled_once};
+pub use laws::{refused_spells_none, shown_reads_back, spelled_once};
 pub use network::{Cidr, contains, parse_cidr};
 pub use range::{Span, parse_range};
 

@@ -7,7 +7,7 @@ use crate::address::parse_addr;
 use crate::bytes::split_once;
 use crate::fault::IpFault;
 
-/// A network: its first address, and how many of the highest bits its addresses share.
+/// A network: its first address, and how many of the highest bits its addresses share, 0 to 32.
 #[derive(Clone, Copy, Debug, PartialEq, Eq)]
 pub struct Cidr {
     pub first: u32,
