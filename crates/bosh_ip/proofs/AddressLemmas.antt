@@ -21,6 +21,7 @@ octets n = n / 2 ^ 24 ∷ n / 2 ^ 16 % 2 ^ 8 ∷ n / 2 ^ 8 % 2 ^ 8 ∷ n % 2 ^ 8
 abbrev pub addr_of : ℕ → Ipv4Addr
 addr_of n = record { octets = octets n }
 
+-- a number of four octets is spelled by them
 pub spelling_of_addr-octets : (a b c d n : ℕ) → a < 256 → b < 256 → c < 256 → d < 256 → n ≡ a * 2 ^ 24 + b * 2 ^ 16 + c * 2 ^ 8 + d → dotted_text a b c d ≡ spelling_of_addr n
 unfolding spelling_of_addr
 spelling_of_addr-octets a b c d n fa fb fc fd e =
@@ -30,6 +31,7 @@ spelling_of_addr-octets a b c d n fa fb fc fd e =
     let ed : n % 2 ^ 8 ≡ d = omega arith in
     rw (ea, eb, ec, ed)
 
+-- what this crate spells std reads
 pub IsIpv4Text-spelled : (text : List ℕ) (n : ℕ) → SpellsAddr text n → IsIpv4Text text (addr_of n)
 unfolding spelling_of_addr
 IsIpv4Text-spelled text n h =
@@ -44,6 +46,7 @@ IsIpv4Text-spelled text n h =
       spelled = h.spelled;
     }
 
+-- what std reads this crate spells
 pub SpellsAddr-text : (text : List ℕ) (addr : Ipv4Addr) → IsIpv4Text text addr → SpellsAddr text (ipv4_bits addr)
 unfolding ipv4_bits
 SpellsAddr-text text addr h =
@@ -53,6 +56,7 @@ SpellsAddr-text text addr h =
       spelled = h.spelled ∙ spelling_of_addr-octets h.a h.b h.c h.d _ h.fit.0 h.fit.1 h.fit.2 h.fit.3 value;
     }
 
+-- a text spells one address at most
 pub SpellsAddr_unique : (text : List ℕ) (m n : ℕ) → SpellsAddr text m → SpellsAddr text n → m ≡ n
 SpellsAddr_unique text m n h k =
     let same = IsIpv4Text_unique text (addr_of m) (addr_of n) (IsIpv4Text-spelled text m h) (IsIpv4Text-spelled text n k) in
@@ -67,6 +71,7 @@ pub spelling_of_addr-bytes : (n : ℕ) → n < 2 ^ 32 → ipv4_text (to_be_bytes
 spelling_of_addr-bytes n fits =
     spelling_of_addr-octets (n / 2 ^ 24 % 256) (n / 2 ^ 16 % 256) (n / 2 ^ 8 % 256) (n % 256) n (omega arith) (omega arith) (omega arith) (omega arith) (omega arith)
 
+-- each octet is a byte
 octets_fit : (n : ℕ) → n < 2 ^ 32 → (k : ℕ) → get_or (octets n) k 0 < 2 ^ 8
 octets_fit n fits zero = omega arith
 octets_fit n fits (suc zero) = omega arith
@@ -85,6 +90,7 @@ Lacks-addr byte text n other h =
 pub SpellsAddr-spelling : (n : ℕ) → n < 2 ^ 32 → SpellsAddr (spelling_of_addr n) n
 SpellsAddr-spelling n fits = record { fits = fits; spelled = refl }
 
+-- and so is each spelling
 pub Lacks-spelling : (byte n : ℕ) → (IsDigitOrDot byte → ⊥) → n < 2 ^ 32 → Lacks byte (spelling_of_addr n)
 Lacks-spelling byte n other fits = Lacks-addr byte (spelling_of_addr n) n other (SpellsAddr-spelling n fits)
 

@@ -9,6 +9,7 @@ use Rattle.std.proofs.lemmas.List.Sums.{fails_before_first}
 use Rattle.std.proofs.lemmas.List.Elements.{All-get_or, All-head, All-tail, All-contains, All-from_get_or, Contains-append_right}
 use Rattle.bosh_ip.specs.Bytes.{Lacks, without_leading}
 
+-- a text that has the byte does not lack it
 pub Lacks-split : (byte : ℕ) (front back : List ℕ) → Lacks byte (front ++ byte ∷ back) → ⊥
 Lacks-split byte front back h =
     All-contains (λ b. b ≢ byte) (front ++ byte ∷ back) byte h (Contains-append_right front (byte ∷ back) byte (0, omega arith, refl)) refl
@@ -50,17 +51,24 @@ split_at_position byte text at found =
     true≢false (sym (eq-eqb _ _ (sym (get_or-take at text k 0 below) ∙ e)) ∙ before k below)) in
     (within, split, lacks)
 
+-- and a text where none is found lacks it
 pub Lacks-position : (byte : ℕ) (text : List ℕ) → position (λ b. b == byte) text ≡ None → Lacks byte text
-Lacks-position byte text none = elim (cases_lt (position_or_len (λ b. b == byte) text) (length text)) [
-  | inl within ↦ absurd (none-some _ (sym none ∙ ap (λ t. cond t (Some (position_or_len (λ b. b == byte) text)) None) (lt-ltb _ _ within)))
-  | inr past ↦ All-from_get_or (λ b. b ≢ byte) text 0 (λ k h e. let before : k < position_or_len (λ b. b == byte) text = omega arith in true≢false (sym (eq-eqb _ _ e) ∙ fails_before_first (λ b. b == byte) text k 0 before))
-]
+Lacks-position byte text none =
+    let place = position_or_len (λ b. b == byte) text in
+    elim (cases_lt place (length text)) [
+      | inl within ↦ absurd (none-some _ (sym none ∙ ap (λ t. cond t (Some place) None) (lt-ltb _ _ within)))
+      | inr past ↦ All-from_get_or (λ b. b ≢ byte) text 0 (λ k h e.
+          let before : k < place = omega arith in
+          true≢false (sym (eq-eqb _ _ e) ∙ fails_before_first (λ b. b == byte) text k 0 before))
+    ]
 
+-- equal bytes read the same from both ends
 pub reverse-replicate : (n x : ℕ) → reverse (replicate n x) ≡ replicate n x
 reverse-replicate zero x = refl
 reverse-replicate (suc n) x =
     reverse-append (x ∷ []) (replicate n x) ∙ ap (λ t. t ++ x ∷ []) (reverse-replicate n x) ∙ replicate_more n x ∙ rw add-one
 
+-- nor does the order of the bytes matter
 Lacks-reverse : (byte : ℕ) (text : List ℕ) → Lacks byte text → Lacks byte (reverse text)
 Lacks-reverse byte text h = All-from_get_or (λ b. b ≢ byte) (reverse text) 0 (λ k within e.
     let inside : k < length text = omega (arith, length-reverse text) in
@@ -78,4 +86,6 @@ pub trim_end-split : (byte : ℕ) (front trimmed : List ℕ) → reverse trimmed
 trim_end-split byte front trimmed is =
     let (n, e) = without_leading-split byte (reverse front) in
     let turned : reverse front ≡ replicate n byte ++ reverse trimmed = e ∙ ap (λ t. replicate n byte ++ t) (sym is) in
-    (n, sym (reverse-reverse front) ∙ ap reverse turned ∙ reverse-append (replicate n byte) (reverse trimmed) ∙ ap (λ t. t ++ reverse (replicate n byte)) (reverse-reverse trimmed) ∙ ap (λ t. trimmed ++ t) (reverse-replicate n byte))
+    let whole : front ≡ reverse (reverse trimmed) ++ reverse (replicate n byte) =
+    sym (reverse-reverse front) ∙ ap reverse turned ∙ reverse-append (replicate n byte) (reverse trimmed) in
+    (n, rw (reverse-reverse, reverse-replicate n byte) at whole)

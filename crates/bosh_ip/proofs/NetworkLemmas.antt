@@ -25,6 +25,7 @@ pub record BitsBytes (text : List ℕ) (n : ℕ) : Type 0 where
   pub tens : 10 ≤ n → get_or text 0 0 ≡ 48 + n / 10
   pub ones : 10 ≤ n → get_or text 1 0 ≡ 48 + n % 10
 
+-- and each spelling has those
 pub BitsBytes-spelled : (text : List ℕ) (n : ℕ) → SpellsBits text n → BitsBytes text n
 BitsBytes-spelled text n h =
     let within : n ≤ 32 = h.within in
@@ -75,6 +76,7 @@ SpellsCidr-whole text front back first bits split addr prefix =
       spelled = split ∙ rw (addr.spelled, prefix.spelled) (sym (append_assoc (spelling_of_addr first) (47 ∷ []) (decimal bits)));
     }
 
+-- a text spells one network at most
 pub SpellsCidr_unique : (text : List ℕ) (a b : Cidr) → SpellsCidr text a → SpellsCidr text b → a ≡ b
 SpellsCidr_unique text a b h k =
     let (addr, prefix) = SpellsCidr-parts text _ _ b (at_slash text a h) (Lacks-spelling 47 a.first (grind arith) h.fits) k in
@@ -82,6 +84,7 @@ SpellsCidr_unique text a b h k =
     let bits = decimal_injective a.bits b.bits (omega (arith, h.within)) (omega (arith, k.within)) prefix.spelled in
     λ i. record { first = first i; bits = bits i }
 
+-- a refused text spells no network without further bits
 pub RefusesCidr-none : (text : List ℕ) (fault : IpFault) → RefusesCidr text fault → (net : Cidr) → SpellsCidr text net → IsNetwork net → ⊥
 RefusesCidr-none text Syntax refused net h ordered = refused net h
 RefusesCidr-none text HostBits refused net h ordered = refused.2 (subst IsNetwork (SpellsCidr_unique text net refused.0 h refused.1) ordered)

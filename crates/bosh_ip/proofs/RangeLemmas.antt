@@ -47,6 +47,7 @@ SpellsSpan-parts text front back first last span cut (inr h) =
     let same = IsCut_unique text _ _ _ _ _ _ _ _ cut (IsCut-pair text span h) in
     (record { fits = h.first_fits; spelled = same.0 }, record { fits = h.last_fits; spelled = same.1 })
 
+-- how the definition of a range writes its parts
 pair_text : (first last first' last' : List ℕ) (before after : ℕ) → first ≡ first' → last ≡ last' → (first ++ spaces before) ++ 45 ∷ (spaces after ++ last) ≡ first' ++ spaces before ++ 45 ∷ [] ++ spaces after ++ last'
 pair_text first last first' last' before after e e' = rw (e, e') (simp append_assoc)
 
@@ -64,6 +65,7 @@ SpellsSpan-whole text front back first last a b cut one other =
       spelled = cut.split ∙ ap (λ t. t ++ 45 ∷ back) front_is ∙ ap (λ t. (first ++ spaces before) ++ 45 ∷ t) back_whole ∙ pair_text first last _ _ before after one.spelled other.spelled;
     })
 
+-- a text spells one range at most
 pub SpellsSpan_unique : (text : List ℕ) (a b : Span) → SpellsSpan text a → SpellsSpan text b → a ≡ b
 SpellsSpan_unique text a b (inl h) (inl k) =
     let first = SpellsAddr_unique text a.first b.first h.0 k.0 in
@@ -76,6 +78,7 @@ SpellsSpan_unique text a b (inr h) k =
     let last = SpellsAddr_unique _ a.last b.last (SpellsAddr-spelling a.last h.last_fits) other in
     λ i. record { first = first i; last = last i }
 
+-- a refused text spells no range in order
 pub RefusesRange-none : (text : List ℕ) (fault : IpFault) → RefusesRange text fault → (span : Span) → SpellsSpan text span → span.last < span.first
 RefusesRange-none text Syntax refused span h = absurd (refused span h)
 RefusesRange-none text Backwards refused span h = subst (λ (s : Span). s.last < s.first) (SpellsSpan_unique text refused.0 span refused.1 h) refused.2
