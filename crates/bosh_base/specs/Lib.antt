@@ -1,3 +1,7 @@
+pub mod Call
+pub mod CallStep
+pub mod Cloud
 pub mod Exact
+pub mod History
 pub mod Method
 pub mod Name

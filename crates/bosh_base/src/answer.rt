@@ -29,7 +29,7 @@ impl Copyable for Answer {
             Answer::Found(number) => Ok(Answer::Found(*number)),
             Answer::Yes => Ok(Answer::Yes),
             Answer::No => Ok(Answer::No),
-            Answer::Disks(disks) => Ok(Answer::Disks(disks.copy(alloc)?)),
+            Answer::Disks(disks) => disks.copy(alloc).map(Answer::Disks),
             Answer::Facts { spec, running, drained } => Ok(Answer::Facts {
                 spec: spec.copy(alloc)?,
                 running: *running,

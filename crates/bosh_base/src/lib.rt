@@ -13,6 +13,7 @@ mod entry;
 mod exact;
 mod failure;
 mod goal;
+mod history;
 mod inst;
 mod key;
 mod link;
@@ -47,6 +48,7 @@ pub use entry::{Begin, Effect, End, Entry, Loss, TaskError, TaskOpen, Update, Wr
 pub use exact::{Exact, is_same};
 pub use failure::Failure;
 pub use goal::{Goal, GoalRow, GroupPlan};
+pub use history::{Invariant, Rule, always_of_a_front, always_of_one_more, each_of_a_front, each_of_one_more, each_of_two, extends, kept_along, latest_of_one_more, latest_seen_of_one_more};
 pub use inst::Inst;
 pub use key::{Key, KeyWork};
 pub use link::{Joint, Tie};

@@ -112,8 +112,7 @@ impl Eq for Name {
 }
 
 impl PartialOrd for Name {
-    ghost use Rattle.std.specs.Prelude.{nat_cmp};
-    ghost use Rattle.std.specs.Ordering.{as_partial_cmp};
+    ghost use Rattle.std.specs.Ordering.{nat_cmp, as_partial_cmp};
     ghost use Rattle.std.specs.Cmp.Lexicographic.{slice_cmp};
     ghost use Rattle.std.specs.Cmp.{partial_order_from_own_ties};
     ghost use Rattle.std.specs.Cmp.Rules.{comparing};
@@ -130,7 +129,7 @@ impl PartialOrd for Name {
 
 /// By their bytes.
 impl Ord for Name {
-    ghost use Rattle.std.specs.Prelude.{nat_cmp};
+    ghost use Rattle.std.specs.Ordering.{nat_cmp};
     ghost use Rattle.std.specs.Cmp.Lexicographic.{slice_cmp};
     ghost use Rattle.std.specs.Cmp.Rules.{comparing};
     ghost use Rattle.std.proofs.Common.{rules};
