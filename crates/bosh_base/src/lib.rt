@@ -40,7 +40,7 @@ mod view;
 pub use addr::{Addr, Band, NetAddr};
 pub use answer::Answer;
 pub use call::Call;
-pub use copyable::{CopyFault, Copyable};
+pub use copyable::{CopyFault, Copyable, copy_both};
 pub use count::Count;
 pub use digest::Digest;
 pub use disk_want::DiskWant;

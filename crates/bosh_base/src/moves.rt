@@ -1,4 +1,4 @@
-use crate::{Answer, CopyFault, Copyable, Entry, Inst, Loss, Reply, Seq, Text};
+use crate::{Answer, CopyFault, Copyable, Entry, Inst, Loss, Reply, Seq, Text, copy_both};
 use std::alloc::Global;
 
 /// Why a site halted.
@@ -66,11 +66,9 @@ pub struct Stop {
 
 impl Copyable for Stop {
     fn copy(&self, alloc: Global) -> Result<Self, CopyFault> {
-        Ok(Stop {
-            kept: self.kept.copy(alloc)?,
-            took: self.took.copy(alloc)?,
-            wrote: self.wrote.copy(alloc)?,
-        })
+        let took = self.took.copy(alloc)?;
+        let (kept, wrote) = copy_both(&self.kept, &self.wrote, alloc)?;
+        Ok(Stop { kept, took, wrote })
     }
 }
 
