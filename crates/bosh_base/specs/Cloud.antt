@@ -2,7 +2,8 @@
 -- and of losses. Each fact of a machine or disk is the answer of the latest entry that sets it, and an entry
 -- that the list lacks counts as earlier than all
 -- (bosh.io, "CPI API v1" and "Agent API", in this project's profile).
-use Rattle.std.specs.Prelude.{ℕ, ◌+◌, suc, Bool, true, false, not, ◌&&◌, ◌==◌, if◌then◌else◌, Option, Some, None, List, [], ◌∷◌, ◌++◌, filter, fold, count_by}
+use Prim.Native.Nat.{zero, suc}
+use Rattle.std.specs.Prelude.{ℕ, ◌+◌, Bool, true, false, not, ◌&&◌, ◌==◌, if◌then◌else◌, Option, Some, None, List, [], ◌∷◌, ◌++◌, filter, fold, count_by}
 use Rattle.std.specs.List.{filter_map}
 use Rattle.std.specs.Option.{option_map, option_and_then}
 use Rattle.bosh_base.specs.History.{latest, latest_seen}

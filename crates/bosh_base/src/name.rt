@@ -1,4 +1,5 @@
 ghost use Rattle.std.specs.Prelude.{◌≡◌, ◌↔◌, false, IfOk, IsErrOf, OnOk};
+ghost use Rattle.std.specs.List.{list_all};
 ghost use Rattle.bosh_base.specs.Name.{IsName, is_name, is_name_byte};
 ghost use Rattle.bosh_base.specs.declared.name.OfFault.TheVariants.{Memory, NotOne};
 
@@ -45,15 +46,19 @@ fn is_name_byte(byte: u8) -> bool
     byte.is_ascii_alphanumeric() || byte == b'_' || byte == b'-' || byte == b'.'
 }
 
+fn are_name_bytes(bytes: &[u8]) -> bool
+    ensures { result ≡ list_all is_name_byte bytes.now }
+{
+    bytes.iter().all(|byte| is_name_byte(*byte))
+}
+
 fn is_name(bytes: &[u8]) -> bool
     ensures { result ≡ is_name bytes.now }
 {
     match bytes {
         [] => false,
         [first, rest @ ..] => {
-            rest.len() < 64
-                && first.is_ascii_alphanumeric()
-                && rest.iter().all(|byte| is_name_byte(*byte))
+            rest.len() < 64 && first.is_ascii_alphanumeric() && are_name_bytes(rest)
         }
     }
 }
