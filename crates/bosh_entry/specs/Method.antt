@@ -1,0 +1,62 @@
+-- How methods are spelled.
+use Rattle.std.specs.Prelude.{ℕ, Bool, true, List, [], ◌∷◌}
+use Rattle.bosh_base.specs.declared.method.Method.{Method}
+use Rattle.bosh_base.specs.declared.method.Method.TheVariants.{CreateVm, DeleteVm, HasVm, FindVm, CreateDisk, DeleteDisk, HasDisk, FindDisk, AttachDisk, DetachDisk, GetDisks, Ping, GetState, Apply, Start, Drain, Stop, MountDisk, UnmountDisk, ListDisk, MigrateDisk, CompilePackage}
+use Rattle.bosh_entry.specs.Reading.{Reader, making, one_of_at}
+
+-- a method, in the order of the list of methods
+unfoldable pub method : Method → List ℕ
+method CreateVm = 0 ∷ []
+method DeleteVm = 1 ∷ []
+method HasVm = 2 ∷ []
+method FindVm = 3 ∷ []
+method CreateDisk = 4 ∷ []
+method DeleteDisk = 5 ∷ []
+method HasDisk = 6 ∷ []
+method FindDisk = 7 ∷ []
+method AttachDisk = 8 ∷ []
+method DetachDisk = 9 ∷ []
+method GetDisks = 10 ∷ []
+method Ping = 11 ∷ []
+method GetState = 12 ∷ []
+method Apply = 13 ∷ []
+method Start = 14 ∷ []
+method Drain = 15 ∷ []
+method Stop = 16 ∷ []
+method MountDisk = 17 ∷ []
+method UnmountDisk = 18 ∷ []
+method ListDisk = 19 ∷ []
+method MigrateDisk = 20 ∷ []
+method CompilePackage = 21 ∷ []
+
+unfoldable pub is_method : Method → Bool
+is_method x = true
+
+abbrev pub methods : List (Reader Method)
+methods =
+    making CreateVm
+    ∷ making DeleteVm
+    ∷ making HasVm
+    ∷ making FindVm
+    ∷ making CreateDisk
+    ∷ making DeleteDisk
+    ∷ making HasDisk
+    ∷ making FindDisk
+    ∷ making AttachDisk
+    ∷ making DetachDisk
+    ∷ making GetDisks
+    ∷ making Ping
+    ∷ making GetState
+    ∷ making Apply
+    ∷ making Start
+    ∷ making Drain
+    ∷ making Stop
+    ∷ making MountDisk
+    ∷ making UnmountDisk
+    ∷ making ListDisk
+    ∷ making MigrateDisk
+    ∷ making CompilePackage
+    ∷ []
+
+unfoldable pub method_at : Reader Method
+method_at = one_of_at methods
