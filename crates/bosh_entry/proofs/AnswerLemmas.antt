@@ -5,7 +5,7 @@ use Rattle.bosh_base.specs.declared.answer.Answer.TheVariants.{Done, Cid, Found,
 use Rattle.bosh_entry.specs.Reading.{one_of_at}
 use Rattle.bosh_entry.specs.Answer.{answer, is_answer, answer_at, answers}
 use Rattle.bosh_entry.proofs.CodingLemmas.{IsCoding, making_law, ◌and◌}
-use Rattle.bosh_entry.proofs.VariantLemmas.{AreVariants, variant_law, one_of_law, ◌also◌}
+use Rattle.bosh_entry.proofs.VariantLemmas.{AreVariants, variant_law, one_of_law}
 use Rattle.bosh_entry.proofs.NumberLemmas.{number_law}
 use Rattle.bosh_entry.proofs.ChoiceLemmas.{flag_law, option_law}
 use Rattle.bosh_entry.proofs.PlainLemmas.{digest_law}
@@ -28,17 +28,16 @@ answer_again Failed rest h = (making_law Failed).again tt rest h
 answers_are : AreVariants answer is_answer 0 answers
 unfolding answer is_answer
 answers_are =
-    variant_law (making_law Done) (λ p. refl) (λ p. refl)
-    also variant_law (making_law Cid and number_law) (λ p. refl) (λ p. refl)
-    also variant_law (making_law Found and option_law number_law) (λ p. refl) (λ p. refl)
-    also variant_law (making_law Yes) (λ p. refl) (λ p. refl)
-    also variant_law (making_law No) (λ p. refl) (λ p. refl)
-    also variant_law (making_law Disks and list_law number_law) (λ p. refl) (λ p. refl)
-    also variant_law (making_law Facts and option_law spec_law and flag_law and flag_law) (λ p. refl) (λ p. refl)
-    also variant_law (making_law Built and digest_law) (λ p. refl) (λ p. refl)
-    also variant_law (making_law Gone) (λ p. refl) (λ p. refl)
-    also variant_law (making_law Failed) (λ p. refl) (λ p. refl)
-    also tt
+    (variant_law (making_law Done) (λ p. refl) (λ p. refl),
+    (variant_law (making_law Cid and number_law) (λ p. refl) (λ p. refl),
+    (variant_law (making_law Found and option_law number_law) (λ p. refl) (λ p. refl),
+    (variant_law (making_law Yes) (λ p. refl) (λ p. refl),
+    (variant_law (making_law No) (λ p. refl) (λ p. refl),
+    (variant_law (making_law Disks and list_law number_law) (λ p. refl) (λ p. refl),
+    (variant_law (making_law Facts and option_law spec_law and flag_law and flag_law) (λ p. refl) (λ p. refl),
+    (variant_law (making_law Built and digest_law) (λ p. refl) (λ p. refl),
+    (variant_law (making_law Gone) (λ p. refl) (λ p. refl),
+    (variant_law (making_law Failed) (λ p. refl) (λ p. refl), tt))))))))))
 
 pub answer_law : IsCoding answer is_answer answer_at
 unfolding answer_at

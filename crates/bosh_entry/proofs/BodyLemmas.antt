@@ -10,10 +10,11 @@ use Rattle.bosh_entry.specs.declared.fault.EntryFault.TheVariants.{NotAnEntry, M
 use Rattle.bosh_entry.specs.declared.format.Format.{Format}
 use Rattle.bosh_entry.specs.declared.format.Format.TheVariants.{Older, Present}
 use Rattle.bosh_entry.specs.Reading.{◌>>=◌, IsBytes, byte_at, variant_at}
+use Rattle.bosh_entry.specs.Later.{present_at}
 use Rattle.bosh_entry.specs.Number.{byte}
 use Rattle.bosh_entry.specs.Body.{kind_of, first_of, fields, entry, is_entry, kinds, entry_at, whole, Answers}
 use Rattle.bosh_entry.proofs.CodingLemmas.{Takes, Takes-then, IsCoding, bind_some, some_is, chosen, byte_takes, making_law, ◌and◌}
-use Rattle.bosh_entry.proofs.VariantLemmas.{AreVariants, ◌also◌, variant_law, variants_take}
+use Rattle.bosh_entry.proofs.VariantLemmas.{AreVariants, variant_law, variants_take}
 use Rattle.bosh_entry.proofs.NumberLemmas.{number_law}
 use Rattle.bosh_entry.proofs.ListLemmas.{text_law}
 use Rattle.bosh_entry.proofs.LaterLemmas.{present_law}
@@ -27,7 +28,7 @@ kind_and_fields : Format → Entry → List ℕ
 kind_and_fields format e = kind_of e ∷ fields format e
 
 kinds_again : (e : Entry) (format : Format) (rest : List ℕ) → is_entry format e ≡ true → variant_at 1 (kinds format) (kind_of e) (fields format e ++ rest) ≡ Some (e, rest)
-unfolding fields is_entry
+unfolding fields is_entry present_at
 kinds_again (Release r) format rest h = (making_law Release and release_law).again (tt, r) rest h
 kinds_again (Stemcell s) format rest h = (making_law Stemcell and stemcell_law).again (tt, s) rest h
 kinds_again (Config file) format rest h = (making_law Config and text_law).again (tt, file) rest h
@@ -48,22 +49,21 @@ kinds_again (Lost l) Present rest h = (making_law Lost and loss_law).again (tt, 
 kinds_are : (format : Format) → AreVariants (kind_and_fields format) (is_entry format) 1 (kinds format)
 unfolding kind_and_fields fields is_entry
 kinds_are format =
-    variant_law (making_law Release and release_law) (λ p. refl) (λ p. refl)
-    also variant_law (making_law Stemcell and stemcell_law) (λ p. refl) (λ p. refl)
-    also variant_law (making_law Config and text_law) (λ p. refl) (λ p. refl)
-    also variant_law (making_law TaskOpen and task_open_law format) (λ p. refl) (λ p. refl)
-    also variant_law (making_law Begin and begin_law) (λ p. refl) (λ p. refl)
-    also variant_law (making_law End and end_law) (λ p. refl) (λ p. refl)
-    also variant_law (making_law UpdBegin and update_law) (λ p. refl) (λ p. refl)
-    also variant_law (making_law UpdDone and update_law) (λ p. refl) (λ p. refl)
-    also variant_law (making_law Gone and update_law) (λ p. refl) (λ p. refl)
-    also variant_law (making_law TaskDone and number_law) (λ p. refl) (λ p. refl)
-    also variant_law (making_law TaskError and task_error_law format) (λ p. refl) (λ p. refl)
-    also variant_law (making_law Snapshot and snapshot_law format) (λ p. refl) (λ p. refl)
-    also variant_law (making_law Effect and effect_law) (λ p. refl) (λ p. refl)
-    also variant_law (making_law Write and write_law) (λ p. refl) (λ p. refl)
-    also present_law format (λ e. variant_law (making_law Lost and loss_law) (λ p. refl) (λ p. rw e refl))
-    also tt
+    (variant_law (making_law Release and release_law) (λ p. refl) (λ p. refl),
+    (variant_law (making_law Stemcell and stemcell_law) (λ p. refl) (λ p. refl),
+    (variant_law (making_law Config and text_law) (λ p. refl) (λ p. refl),
+    (variant_law (making_law TaskOpen and task_open_law format) (λ p. refl) (λ p. refl),
+    (variant_law (making_law Begin and begin_law) (λ p. refl) (λ p. refl),
+    (variant_law (making_law End and end_law) (λ p. refl) (λ p. refl),
+    (variant_law (making_law UpdBegin and update_law) (λ p. refl) (λ p. refl),
+    (variant_law (making_law UpdDone and update_law) (λ p. refl) (λ p. refl),
+    (variant_law (making_law Gone and update_law) (λ p. refl) (λ p. refl),
+    (variant_law (making_law TaskDone and number_law) (λ p. refl) (λ p. refl),
+    (variant_law (making_law TaskError and task_error_law format) (λ p. refl) (λ p. refl),
+    (variant_law (making_law Snapshot and snapshot_law format) (λ p. refl) (λ p. refl),
+    (variant_law (making_law Effect and effect_law) (λ p. refl) (λ p. refl),
+    (variant_law (making_law Write and write_law) (λ p. refl) (λ p. refl),
+    (present_law format (λ e. variant_law (making_law Lost and loss_law) (λ p. refl) (λ p. rw e refl)), tt)))))))))))))))
 
 guarded : {A : Type 0} (b : Bool) (o : Option A) (y : A) → cond b o None ≡ Some y → (b ≡ true) × (o ≡ Some y)
 guarded true o y e = (refl, e)

@@ -5,7 +5,7 @@ use Rattle.bosh_base.specs.declared.owner.Owner.TheVariants.{Instance, Compile, 
 use Rattle.bosh_entry.specs.Reading.{one_of_at}
 use Rattle.bosh_entry.specs.Owner.{owner, is_owner, owner_at, owners}
 use Rattle.bosh_entry.proofs.CodingLemmas.{IsCoding, making_law, ◌and◌}
-use Rattle.bosh_entry.proofs.VariantLemmas.{AreVariants, variant_law, one_of_law, ◌also◌}
+use Rattle.bosh_entry.proofs.VariantLemmas.{AreVariants, variant_law, one_of_law}
 use Rattle.bosh_entry.proofs.NumberLemmas.{number_law, small_law}
 use Rattle.bosh_entry.proofs.InstLemmas.{inst_law}
 
@@ -18,10 +18,9 @@ owner_again (Disk n) rest h = (making_law Disk and number_law).again (tt, n) res
 owners_are : AreVariants owner is_owner 0 owners
 unfolding owner is_owner
 owners_are =
-    variant_law (making_law Instance and inst_law) (λ p. refl) (λ p. refl)
-    also variant_law (making_law Compile and number_law and small_law) (λ p. refl) (λ p. refl)
-    also variant_law (making_law Disk and number_law) (λ p. refl) (λ p. refl)
-    also tt
+    (variant_law (making_law Instance and inst_law) (λ p. refl) (λ p. refl),
+    (variant_law (making_law Compile and number_law and small_law) (λ p. refl) (λ p. refl),
+    (variant_law (making_law Disk and number_law) (λ p. refl) (λ p. refl), tt)))
 
 pub owner_law : IsCoding owner is_owner owner_at
 unfolding owner_at

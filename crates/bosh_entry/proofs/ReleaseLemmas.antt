@@ -12,7 +12,7 @@ use Rattle.bosh_base.specs.declared.release.Release.{Release}
 use Rattle.bosh_entry.specs.Reading.{one_of_at}
 use Rattle.bosh_entry.specs.Release.{setting, is_setting, setting_at, settings, prop, is_prop, prop_at, prop_spec, is_prop_spec, prop_spec_at, link_spec, is_link_spec, link_spec_at, template_spec, is_template_spec, template_spec_at, job_spec, is_job_spec, job_spec_at, package_spec, is_package_spec, package_spec_at, release, is_release, release_at}
 use Rattle.bosh_entry.proofs.CodingLemmas.{IsCoding, making_law, struct_law, ◌and◌}
-use Rattle.bosh_entry.proofs.VariantLemmas.{AreVariants, variant_law, one_of_law, ◌also◌}
+use Rattle.bosh_entry.proofs.VariantLemmas.{AreVariants, variant_law, one_of_law}
 use Rattle.bosh_entry.proofs.ChoiceLemmas.{flag_law, option_law}
 use Rattle.bosh_entry.proofs.ListLemmas.{text_law, list_law}
 use Rattle.bosh_entry.proofs.PlainLemmas.{name_law, digest_law}
@@ -25,9 +25,8 @@ setting_again Compound rest h = (making_law Compound).again tt rest h
 settings_are : AreVariants setting is_setting 0 settings
 unfolding setting is_setting
 settings_are =
-    variant_law (making_law Scalar and text_law) (λ p. refl) (λ p. refl)
-    also variant_law (making_law Compound) (λ p. refl) (λ p. refl)
-    also tt
+    (variant_law (making_law Scalar and text_law) (λ p. refl) (λ p. refl),
+    (variant_law (making_law Compound) (λ p. refl) (λ p. refl), tt))
 
 pub setting_law : IsCoding setting is_setting setting_at
 unfolding setting_at

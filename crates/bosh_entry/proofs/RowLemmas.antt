@@ -12,7 +12,7 @@ use Rattle.bosh_entry.specs.declared.format.Format.TheVariants.{Older, Present}
 use Rattle.bosh_entry.specs.Reading.{one_of_at}
 use Rattle.bosh_entry.specs.Row.{role, is_role, role_at, roles, disk_row, is_disk_row, disk_row_at, vm, is_vm, vm_at, doubt, is_doubt, doubt_at, row, is_row, row_at}
 use Rattle.bosh_entry.proofs.CodingLemmas.{IsCoding, making_law, struct_law, ◌and◌}
-use Rattle.bosh_entry.proofs.VariantLemmas.{AreVariants, variant_law, one_of_law, ◌also◌}
+use Rattle.bosh_entry.proofs.VariantLemmas.{AreVariants, variant_law, one_of_law}
 use Rattle.bosh_entry.proofs.NumberLemmas.{number_law}
 use Rattle.bosh_entry.proofs.ChoiceLemmas.{flag_law, option_law}
 use Rattle.bosh_entry.proofs.ListLemmas.{list_law}
@@ -32,10 +32,9 @@ role_again Old rest h = (making_law Old).again tt rest h
 roles_are : AreVariants role is_role 0 roles
 unfolding role is_role
 roles_are =
-    variant_law (making_law Active) (λ p. refl) (λ p. refl)
-    also variant_law (making_law New) (λ p. refl) (λ p. refl)
-    also variant_law (making_law Old) (λ p. refl) (λ p. refl)
-    also tt
+    (variant_law (making_law Active) (λ p. refl) (λ p. refl),
+    (variant_law (making_law New) (λ p. refl) (λ p. refl),
+    (variant_law (making_law Old) (λ p. refl) (λ p. refl), tt)))
 
 pub role_law : IsCoding role is_role role_at
 unfolding role_at

@@ -9,9 +9,10 @@ use Rattle.bosh_base.specs.declared.task.TaskRow.{TaskRow}
 use Rattle.bosh_entry.specs.declared.format.Format.{Format}
 use Rattle.bosh_entry.specs.declared.format.Format.TheVariants.{Older, Present}
 use Rattle.bosh_entry.specs.Reading.{one_of_at}
+use Rattle.bosh_entry.specs.Later.{present_at}
 use Rattle.bosh_entry.specs.Task.{task_kind, is_task_kind, task_kind_at, task_kinds, task_end, is_task_end, task_end_at, task_ends, task_row, is_task_row, task_row_at}
 use Rattle.bosh_entry.proofs.CodingLemmas.{IsCoding, making_law, struct_law, ◌and◌}
-use Rattle.bosh_entry.proofs.VariantLemmas.{AreVariants, variant_law, one_of_law, ◌also◌}
+use Rattle.bosh_entry.proofs.VariantLemmas.{AreVariants, variant_law, one_of_law}
 use Rattle.bosh_entry.proofs.NumberLemmas.{number_law}
 use Rattle.bosh_entry.proofs.PlainLemmas.{name_law, digest_law}
 use Rattle.bosh_entry.proofs.ChoiceLemmas.{option_law}
@@ -21,7 +22,7 @@ use Rattle.bosh_entry.proofs.OwnerLemmas.{owner_law}
 use Rattle.bosh_entry.proofs.MethodLemmas.{method_law}
 
 task_kind_again : (x : TaskKind) (format : Format) (rest : List ℕ) → is_task_kind format x ≡ true → one_of_at (task_kinds format) (task_kind x ++ rest) ≡ Some (x, rest)
-unfolding task_kind is_task_kind
+unfolding task_kind is_task_kind present_at
 task_kind_again Deploy format rest h = (making_law Deploy).again tt rest h
 task_kind_again (Recreate i) format rest h = (making_law Recreate and inst_law).again (tt, i) rest h
 task_kind_again (Start i) format rest h = (making_law Start and inst_law).again (tt, i) rest h
@@ -37,23 +38,22 @@ task_kind_again (Resolve i) Present rest h = (making_law Resolve and inst_law).a
 task_kinds_are : (format : Format) → AreVariants task_kind (is_task_kind format) 0 (task_kinds format)
 unfolding task_kind is_task_kind
 task_kinds_are format =
-    variant_law (making_law Deploy) (λ p. refl) (λ p. refl)
-    also variant_law (making_law Recreate and inst_law) (λ p. refl) (λ p. refl)
-    also variant_law (making_law Start and inst_law) (λ p. refl) (λ p. refl)
-    also variant_law (making_law Stop and inst_law) (λ p. refl) (λ p. refl)
-    also variant_law (making_law DeleteDeployment) (λ p. refl) (λ p. refl)
-    also variant_law (making_law DeleteDisk and number_law) (λ p. refl) (λ p. refl)
-    also variant_law (making_law CleanUp) (λ p. refl) (λ p. refl)
-    also present_law format (λ e. variant_law (making_law Fix) (λ p. refl) (λ p. rw e refl))
-    also present_law format (λ e. variant_law (making_law Resolve and inst_law) (λ p. refl) (λ p. rw e refl))
-    also tt
+    (variant_law (making_law Deploy) (λ p. refl) (λ p. refl),
+    (variant_law (making_law Recreate and inst_law) (λ p. refl) (λ p. refl),
+    (variant_law (making_law Start and inst_law) (λ p. refl) (λ p. refl),
+    (variant_law (making_law Stop and inst_law) (λ p. refl) (λ p. refl),
+    (variant_law (making_law DeleteDeployment) (λ p. refl) (λ p. refl),
+    (variant_law (making_law DeleteDisk and number_law) (λ p. refl) (λ p. refl),
+    (variant_law (making_law CleanUp) (λ p. refl) (λ p. refl),
+    (present_law format (λ e. variant_law (making_law Fix) (λ p. refl) (λ p. rw e refl)),
+    (present_law format (λ e. variant_law (making_law Resolve and inst_law) (λ p. refl) (λ p. rw e refl)), tt)))))))))
 
 pub task_kind_law : (format : Format) → IsCoding task_kind (is_task_kind format) (task_kind_at format)
 unfolding task_kind_at
 task_kind_law format = one_of_law (task_kinds format) (task_kinds_are format) (λ x. task_kind_again x format)
 
 task_end_again : (x : TaskEnd) (format : Format) (rest : List ℕ) → is_task_end format x ≡ true → one_of_at (task_ends format) (task_end x ++ rest) ≡ Some (x, rest)
-unfolding task_end is_task_end
+unfolding task_end is_task_end present_at
 task_end_again Finished format rest h = (making_law Finished).again tt rest h
 task_end_again (Fault n m o) format rest h = (making_law Fault and number_law and method_law and owner_law).again (((tt, n), m), o) rest h
 task_end_again Interrupted format rest h = (making_law Interrupted).again tt rest h
@@ -63,11 +63,10 @@ task_end_again (Gone n m o) Present rest h = (making_law Gone and number_law and
 task_ends_are : (format : Format) → AreVariants task_end (is_task_end format) 0 (task_ends format)
 unfolding task_end is_task_end
 task_ends_are format =
-    variant_law (making_law Finished) (λ p. refl) (λ p. refl)
-    also variant_law (making_law Fault and number_law and method_law and owner_law) (λ p. refl) (λ p. refl)
-    also variant_law (making_law Interrupted) (λ p. refl) (λ p. refl)
-    also present_law format (λ e. variant_law (making_law Gone and number_law and method_law and owner_law) (λ p. refl) (λ p. rw e refl))
-    also tt
+    (variant_law (making_law Finished) (λ p. refl) (λ p. refl),
+    (variant_law (making_law Fault and number_law and method_law and owner_law) (λ p. refl) (λ p. refl),
+    (variant_law (making_law Interrupted) (λ p. refl) (λ p. refl),
+    (present_law format (λ e. variant_law (making_law Gone and number_law and method_law and owner_law) (λ p. refl) (λ p. rw e refl)), tt))))
 
 pub task_end_law : (format : Format) → IsCoding task_end (is_task_end format) (task_end_at format)
 unfolding task_end_at

@@ -23,11 +23,6 @@ abbrev pub AreVariants : {A : Type 0} → (A → List ℕ) → (A → Bool) → 
 AreVariants s f place [] = Unit {0}
 AreVariants s f place (r ∷ rs) = IsVariant s f place r × AreVariants s f (suc place) rs
 
--- a variant and those after it
-infixr 10 ◌also◌
-pub ◌also◌ : {A : Type 0} {s : A → List ℕ} {f : A → Bool} {place : ℕ} {r : Reader A} {rs : List (Reader A)} → IsVariant s f place r → AreVariants s f (suc place) rs → AreVariants s f place (r ∷ rs)
-v also vs = (v, vs)
-
 pub variants_take : {A : Type 0} (s : A → List ℕ) (f : A → Bool) (place : ℕ) (rs : List (Reader A)) → AreVariants s f place rs
     → (b : ℕ) (bytes : List ℕ) (x : A × List ℕ) → IsBytes bytes → variant_at place rs b bytes ≡ Some x → Takes (b ∷ bytes) (s x.0) x.1 × (f x.0 ≡ true)
 variants_take s f place [] each b bytes x fits e = absurd cc

@@ -31,7 +31,7 @@ abbrev pub making : {A : Type 0} → A → Reader A
 making make bytes = Some (make, bytes)
 
 -- what is made, with its next field
-infixl 60 ◌with◌
+infixl 70 ◌with◌
 abbrev pub ◌with◌ : {A B : Type 0} → Reader (A → B) → Reader A → Reader B
 ◌with◌ reader next bytes = do
   make ← reader bytes

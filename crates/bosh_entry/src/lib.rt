@@ -41,3 +41,6 @@ pub use laws::{
     older_bodies_are_read, one_entry_for_a_body, what_is_read_is_older, what_is_read_is_written,
     what_is_written_is_read,
 };
+
+#[cfg(test)]
+mod tests;
