@@ -1,5 +1,5 @@
 -- What is read is what was spelled.
-use Rattle.std.proofs.Common.{◌≡◌, ℕ, Bool, true, false, List, [], ◌∷◌, ◌++◌, Option, Some, None, refl}
+use Rattle.std.proofs.Common.{refl}
 use Rattle.bosh_base.specs.declared.addr.Addr.{Addr}
 use Rattle.bosh_base.specs.declared.addr.NetAddr.{NetAddr}
 use Rattle.bosh_entry.specs.Addr.{addr, is_addr, addr_at, net_addr, is_net_addr, net_addr_at}

@@ -1,5 +1,5 @@
 -- What is read is what was spelled.
-use Rattle.std.proofs.Common.{◌≡◌, ℕ, Bool, true, false, List, [], ◌∷◌, ◌++◌, Option, Some, None, refl}
+use Rattle.std.proofs.Common.{◌≡◌, ℕ, true, List, ◌++◌, Some, refl}
 use Rattle.bosh_base.specs.declared.answer.Answer.{Answer}
 use Rattle.bosh_base.specs.declared.answer.Answer.TheVariants.{Done, Cid, Found, Yes, No, Disks, Facts, Built, Gone, Failed}
 use Rattle.bosh_entry.specs.Reading.{one_of_at}
@@ -27,17 +27,34 @@ answer_again Failed rest h = (making_law Failed).again tt rest h
 
 answers_are : AreVariants answer is_answer 0 answers
 unfolding answer is_answer
-answers_are =
-    (variant_law (making_law Done) (λ p. refl) (λ p. refl),
-    (variant_law (making_law Cid and number_law) (λ p. refl) (λ p. refl),
-    (variant_law (making_law Found and option_law number_law) (λ p. refl) (λ p. refl),
-    (variant_law (making_law Yes) (λ p. refl) (λ p. refl),
-    (variant_law (making_law No) (λ p. refl) (λ p. refl),
-    (variant_law (making_law Disks and list_law number_law) (λ p. refl) (λ p. refl),
-    (variant_law (making_law Facts and option_law spec_law and flag_law and flag_law) (λ p. refl) (λ p. refl),
-    (variant_law (making_law Built and digest_law) (λ p. refl) (λ p. refl),
-    (variant_law (making_law Gone) (λ p. refl) (λ p. refl),
-    (variant_law (making_law Failed) (λ p. refl) (λ p. refl), tt))))))))))
+answers_are = (
+  variant_law (making_law Done) (λ p. refl) (λ p. refl),
+  (
+    variant_law (making_law Cid and number_law) (λ p. refl) (λ p. refl),
+    (
+      variant_law (making_law Found and option_law number_law) (λ p. refl) (λ p. refl),
+      (
+        variant_law (making_law Yes) (λ p. refl) (λ p. refl),
+        (
+          variant_law (making_law No) (λ p. refl) (λ p. refl),
+          (
+            variant_law (making_law Disks and list_law number_law) (λ p. refl) (λ p. refl),
+            (
+              variant_law (making_law Facts and option_law spec_law and flag_law and flag_law) (λ p. refl) (λ p. refl),
+              (
+                variant_law (making_law Built and digest_law) (λ p. refl) (λ p. refl),
+                (
+                  variant_law (making_law Gone) (λ p. refl) (λ p. refl),
+                  (variant_law (making_law Failed) (λ p. refl) (λ p. refl), tt),
+                ),
+              ),
+            ),
+          ),
+        ),
+      ),
+    ),
+  ),
+)
 
 pub answer_law : IsCoding answer is_answer answer_at
 unfolding answer_at

@@ -11,9 +11,8 @@ use Rattle.bosh_entry.specs.declared.format.Format.{Format}
 use Rattle.bosh_entry.specs.declared.format.Format.TheVariants.{Older, Present}
 use Rattle.bosh_entry.specs.Reading.{◌>>=◌, IsBytes, byte_at, variant_at}
 use Rattle.bosh_entry.specs.Later.{present_at}
-use Rattle.bosh_entry.specs.Number.{byte}
 use Rattle.bosh_entry.specs.Body.{kind_of, first_of, fields, entry, is_entry, kinds, entry_at, whole, Answers}
-use Rattle.bosh_entry.proofs.CodingLemmas.{Takes, Takes-then, IsCoding, bind_some, some_is, chosen, byte_takes, making_law, ◌and◌}
+use Rattle.bosh_entry.proofs.CodingLemmas.{IsCoding, bind_some, some_is, chosen, byte_takes, making_law, ◌and◌}
 use Rattle.bosh_entry.proofs.VariantLemmas.{AreVariants, variant_law, variants_take}
 use Rattle.bosh_entry.proofs.NumberLemmas.{number_law}
 use Rattle.bosh_entry.proofs.ListLemmas.{text_law}
@@ -48,22 +47,49 @@ kinds_again (Lost l) Present rest h = (making_law Lost and loss_law).again (tt, 
 
 kinds_are : (format : Format) → AreVariants (kind_and_fields format) (is_entry format) 1 (kinds format)
 unfolding kind_and_fields fields is_entry
-kinds_are format =
-    (variant_law (making_law Release and release_law) (λ p. refl) (λ p. refl),
-    (variant_law (making_law Stemcell and stemcell_law) (λ p. refl) (λ p. refl),
-    (variant_law (making_law Config and text_law) (λ p. refl) (λ p. refl),
-    (variant_law (making_law TaskOpen and task_open_law format) (λ p. refl) (λ p. refl),
-    (variant_law (making_law Begin and begin_law) (λ p. refl) (λ p. refl),
-    (variant_law (making_law End and end_law) (λ p. refl) (λ p. refl),
-    (variant_law (making_law UpdBegin and update_law) (λ p. refl) (λ p. refl),
-    (variant_law (making_law UpdDone and update_law) (λ p. refl) (λ p. refl),
-    (variant_law (making_law Gone and update_law) (λ p. refl) (λ p. refl),
-    (variant_law (making_law TaskDone and number_law) (λ p. refl) (λ p. refl),
-    (variant_law (making_law TaskError and task_error_law format) (λ p. refl) (λ p. refl),
-    (variant_law (making_law Snapshot and snapshot_law format) (λ p. refl) (λ p. refl),
-    (variant_law (making_law Effect and effect_law) (λ p. refl) (λ p. refl),
-    (variant_law (making_law Write and write_law) (λ p. refl) (λ p. refl),
-    (present_law format (λ e. variant_law (making_law Lost and loss_law) (λ p. refl) (λ p. rw e refl)), tt)))))))))))))))
+kinds_are format = (
+  variant_law (making_law Release and release_law) (λ p. refl) (λ p. refl),
+  (
+    variant_law (making_law Stemcell and stemcell_law) (λ p. refl) (λ p. refl),
+    (
+      variant_law (making_law Config and text_law) (λ p. refl) (λ p. refl),
+      (
+        variant_law (making_law TaskOpen and task_open_law format) (λ p. refl) (λ p. refl),
+        (
+          variant_law (making_law Begin and begin_law) (λ p. refl) (λ p. refl),
+          (
+            variant_law (making_law End and end_law) (λ p. refl) (λ p. refl),
+            (
+              variant_law (making_law UpdBegin and update_law) (λ p. refl) (λ p. refl),
+              (
+                variant_law (making_law UpdDone and update_law) (λ p. refl) (λ p. refl),
+                (
+                  variant_law (making_law Gone and update_law) (λ p. refl) (λ p. refl),
+                  (
+                    variant_law (making_law TaskDone and number_law) (λ p. refl) (λ p. refl),
+                    (
+                      variant_law (making_law TaskError and task_error_law format) (λ p. refl) (λ p. refl),
+                      (
+                        variant_law (making_law Snapshot and snapshot_law format) (λ p. refl) (λ p. refl),
+                        (
+                          variant_law (making_law Effect and effect_law) (λ p. refl) (λ p. refl),
+                          (
+                            variant_law (making_law Write and write_law) (λ p. refl) (λ p. refl),
+                            (present_law format (λ e. variant_law (making_law Lost and loss_law) (λ p. refl) (λ p. rw e refl)), tt),
+                          ),
+                        ),
+                      ),
+                    ),
+                  ),
+                ),
+              ),
+            ),
+          ),
+        ),
+      ),
+    ),
+  ),
+)
 
 guarded : {A : Type 0} (b : Bool) (o : Option A) (y : A) → cond b o None ≡ Some y → (b ≡ true) × (o ≡ Some y)
 guarded true o y e = (refl, e)
@@ -76,20 +102,22 @@ pub entry_law : (format : Format) → IsCoding (entry format) (is_entry format) 
 unfolding kind_and_fields entry entry_at
 entry_law format = record {
   takes = λ bytes x fits e.
-    let first = bind_some (byte_at bytes) (λ (first : ℕ × List ℕ). byte_at first.1 >>= λ kind. cond (eqb first.0 (first_of format kind.0)) (variant_at 1 (kinds format) kind.0 kind.1) None) x e in
-    let kind = bind_some (byte_at first.0.1) (λ (kind : ℕ × List ℕ). cond (eqb first.0.0 (first_of format kind.0)) (variant_at 1 (kinds format) kind.0 kind.1) None) x first.2 in
-    let guard = guarded (eqb first.0.0 (first_of format kind.0.0)) (variant_at 1 (kinds format) kind.0.0 kind.0.1) x kind.2 in
-    let one = byte_takes bytes first.0 fits first.1 in
-    let two = byte_takes first.0.1 kind.0 one.0.rest_fits kind.1 in
-    let three = variants_take (kind_and_fields format) (is_entry format) 1 (kinds format) (kinds_are format) kind.0.0 kind.0.1 x two.0.rest_fits guard.1 in
-    let same : kind.0.0 ≡ kind_of x.0 = same_head _ _ _ _ three.0.parts in
-    let known : first.0.0 ≡ first_of format (kind_of x.0) = eqb-true _ _ guard.0 ∙ ap (first_of format) same in
-    (record {
-      parts = one.0.parts ∙ ap (λ (t : List ℕ). first.0.0 ∷ t) (two.0.parts ∙ three.0.parts) ∙ ap (λ (k : ℕ). k ∷ (kind_and_fields format x.0 ++ x.1)) known;
-      rest_fits = three.0.rest_fits;
-    }, three.1);
+      let first = bind_some (byte_at bytes) (λ (first : ℕ × List ℕ). byte_at first.1 >>= λ kind. cond (eqb first.0 (first_of format kind.0)) (variant_at 1 (kinds format) kind.0 kind.1) None) x e in
+      let kind = bind_some (byte_at first.0.1) (λ (kind : ℕ × List ℕ). cond (eqb first.0.0 (first_of format kind.0)) (variant_at 1 (kinds format) kind.0 kind.1) None) x first.2 in
+      let guard = guarded (eqb first.0.0 (first_of format kind.0.0)) (variant_at 1 (kinds format) kind.0.0 kind.0.1) x kind.2 in
+      let one = byte_takes bytes first.0 fits first.1 in
+      let two = byte_takes first.0.1 kind.0 one.0.rest_fits kind.1 in
+      let three = variants_take (kind_and_fields format) (is_entry format) 1 (kinds format) (kinds_are format) kind.0.0 kind.0.1 x two.0.rest_fits guard.1 in
+      let same : kind.0.0 ≡ kind_of x.0 = same_head _ _ _ _ three.0.parts in
+      let known : first.0.0 ≡ first_of format (kind_of x.0) = eqb-true _ _ guard.0 ∙ ap (first_of format) same in (
+        record {
+          parts = one.0.parts ∙ ap (λ (t : List ℕ). first.0.0 ∷ t) (two.0.parts ∙ three.0.parts) ∙ ap (λ (k : ℕ). k ∷ (kind_and_fields format x.0 ++ x.1)) known;
+          rest_fits = three.0.rest_fits;
+        },
+        three.1,
+      );
   again = λ e rest h.
-    rw (eq-eqb (first_of format (kind_of e)) (first_of format (kind_of e)) refl) (kinds_again e format rest h);
+      rw (eq-eqb (first_of format (kind_of e)) (first_of format (kind_of e)) refl) (kinds_again e format rest h);
 }
 
 pub whole_takes : (format : Format) (body : List ℕ) (e : Entry) → IsBytes body → whole format body ≡ Some e → (is_entry format e ≡ true) × (body ≡ entry format e)

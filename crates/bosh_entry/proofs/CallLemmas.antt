@@ -1,5 +1,5 @@
 -- What is read is what was spelled.
-use Rattle.std.proofs.Common.{◌≡◌, ℕ, Bool, true, false, List, [], ◌∷◌, ◌++◌, Option, Some, None, refl}
+use Rattle.std.proofs.Common.{◌≡◌, ℕ, Bool, true, List, ◌++◌, Some, refl}
 use Rattle.bosh_base.specs.declared.call.Call.{Call}
 use Rattle.bosh_base.specs.declared.call.Call.TheVariants.{CreateVm, DeleteVm, HasVm, FindVm, CreateDisk, DeleteDisk, HasDisk, FindDisk, AttachDisk, DetachDisk, GetDisks, Ping, GetState, Apply, Start, Drain, Stop, MountDisk, UnmountDisk, ListDisk, MigrateDisk, CompilePackage}
 use Rattle.std.proofs.Common.{sym, ap, subst, ◌∙◌, append_assoc}
@@ -28,8 +28,8 @@ of_method : {P : Type 0} {s : P → List ℕ} {f : P → Bool} {make : P → Cal
     → ((p : P) → call_fields (make p) ≡ s p) → ((p : P) → is_call (make p) ≡ f p) → ((p : P) → method_of (make p) ≡ asked) → IsCallOf asked r
 of_method {P} {s} {f} {make} {r} {asked} law spelled tested asks = record {
   takes = λ bytes x fits e.
-    let one = law.takes bytes x fits e in
-    subst (λ (c : Call). Takes bytes (call_fields c) x.1 × (is_call c ≡ true) × (method_of c ≡ asked)) one.1
+      let one = law.takes bytes x fits e in
+      subst (λ (c : Call). Takes bytes (call_fields c) x.1 × (is_call c ≡ true) × (method_of c ≡ asked)) one.1
       (subst (λ (t : List ℕ). Takes bytes t x.1) (sym (spelled one.0)) one.2, tested one.0 ∙ one.3, asks one.0);
 }
 
@@ -87,12 +87,12 @@ pub call_law : IsCoding call is_call call_at
 unfolding call call_at is_method
 call_law = record {
   takes = λ bytes x fits e.
-    let asked = bind_some (method_at bytes) (λ (m : Method × List ℕ). call_of_at m.0 m.1) x e in
-    let one = method_law.takes bytes asked.0 fits asked.1 in
-    let two = (call_of_takes asked.0.0).takes asked.0.1 x one.0.rest_fits asked.2 in
-    let both = Takes-then bytes (method asked.0.0) asked.0.1 (call_fields x.0) x.1 one.0 two.0 in
-    (subst (λ (m : Method). Takes bytes (method m ++ call_fields x.0) x.1) (sym two.2) both, two.1);
+      let asked = bind_some (method_at bytes) (λ (m : Method × List ℕ). call_of_at m.0 m.1) x e in
+      let one = method_law.takes bytes asked.0 fits asked.1 in
+      let two = (call_of_takes asked.0.0).takes asked.0.1 x one.0.rest_fits asked.2 in
+      let both = Takes-then bytes (method asked.0.0) asked.0.1 (call_fields x.0) x.1 one.0 two.0 in
+      (subst (λ (m : Method). Takes bytes (method m ++ call_fields x.0) x.1) (sym two.2) both, two.1);
   again = λ c rest h.
-    ap call_at (append_assoc (method (method_of c)) (call_fields c) rest)
+      ap call_at (append_assoc (method (method_of c)) (call_fields c) rest)
       ∙ rw (method_law.again (method_of c) (call_fields c ++ rest) refl) (call_of_again c rest h);
 }

@@ -1,5 +1,5 @@
 -- What a coding is: what is read is what was spelled, and how codings are put together.
-use Rattle.std.proofs.Common.{◌≡◌, ℕ, suc, ◌<◌, Bool, true, false, ◌&&◌, cond, List, [], ◌∷◌, ◌++◌, get_or, Option, Some, None, refl, sym, ap, subst, ◌∙◌, append_assoc}
+use Rattle.std.proofs.Common.{◌≡◌, ℕ, suc, Bool, true, false, ◌&&◌, cond, List, [], ◌∷◌, ◌++◌, Option, Some, None, refl, sym, ap, subst, ◌∙◌, append_assoc}
 use Rattle.std.proofs.lemmas.Bool.{lt-ltb, and_parts, and_from}
 use Rattle.bosh_entry.specs.Reading.{IsBytes, ◌>>=◌, Reader, byte_at, making, ◌with◌, only_at}
 use Rattle.bosh_entry.specs.Number.{byte, is_byte}
@@ -61,16 +61,16 @@ pub ◌and◌ : {P A B : Type 0} {s : P → List ℕ} {f : P → Bool} {make : P
     → IsMaking s f make r → IsCoding t g q → IsMaking (λ (p : P × A). s p.0 ++ t p.1) (λ (p : P × A). f p.0 && g p.1) (λ (p : P × A). make p.0 p.1) (r with q)
 ◌and◌ {P} {A} {B} {s} {f} {make} {r} {t} {g} {q} before law = record {
   takes = λ bytes x fits e.
-    let a = bind_some (r bytes) (λ (a : (A → B) × List ℕ). q a.1 >>= λ b. Some (a.0 b.0, b.1)) x e in
-    let b = bind_some (q a.0.1) (λ (b : A × List ℕ). Some (a.0.0 b.0, b.1)) x a.2 in
-    let one = before.takes bytes a.0 fits a.1 in
-    let two = law.takes a.0.1 b.0 one.2.rest_fits b.1 in
-    let made : make one.0 b.0.0 ≡ a.0.0 b.0.0 = ap (λ (m : A → B). m b.0.0) one.1 in
-    subst (λ (y : B × List ℕ). (p : P × A) × (make p.0 p.1 ≡ y.0) × Takes bytes (s p.0 ++ t p.1) y.1 × ((f p.0 && g p.1) ≡ true)) (some_is (a.0.0 b.0.0, b.0.1) x b.2)
+      let a = bind_some (r bytes) (λ (a : (A → B) × List ℕ). q a.1 >>= λ b. Some (a.0 b.0, b.1)) x e in
+      let b = bind_some (q a.0.1) (λ (b : A × List ℕ). Some (a.0.0 b.0, b.1)) x a.2 in
+      let one = before.takes bytes a.0 fits a.1 in
+      let two = law.takes a.0.1 b.0 one.2.rest_fits b.1 in
+      let made : make one.0 b.0.0 ≡ a.0.0 b.0.0 = ap (λ (m : A → B). m b.0.0) one.1 in
+      subst (λ (y : B × List ℕ). (p : P × A) × (make p.0 p.1 ≡ y.0) × Takes bytes (s p.0 ++ t p.1) y.1 × ((f p.0 && g p.1) ≡ true)) (some_is (a.0.0 b.0.0, b.0.1) x b.2)
       ((one.0, b.0.0), made, Takes-then bytes (s one.0) a.0.1 (t b.0.0) b.0.1 one.2 two.0, and_from (f one.0) (g b.0.0) one.3 two.1);
   again = λ p rest h.
-    let fits = and_parts (f p.0) (g p.1) h in
-    rw (append_assoc, before.again p.0 (t p.1 ++ rest) fits.0, law.again p.1 rest fits.1) refl;
+      let fits = and_parts (f p.0) (g p.1) h in
+      rw (append_assoc, before.again p.0 (t p.1 ++ rest) fits.0, law.again p.1 rest fits.1) refl;
 }
 
 -- a struct, by its fields
@@ -78,9 +78,9 @@ pub struct_law : {S P : Type 0} {s : P → List ℕ} {f : P → Bool} {make : P 
     → ((p : P) → parts (make p) ≡ p) → ((x : S) → make (parts x) ≡ x) → IsMaking s f make r → IsCoding (λ (x : S). s (parts x)) (λ (x : S). f (parts x)) r
 struct_law {S} {P} {s} {f} {make} {r} parts there back law = record {
   takes = λ bytes x fits e.
-    let one = law.takes bytes x fits e in
-    let same : one.0 ≡ parts x.0 = sym (there one.0) ∙ ap parts one.1 in
-    subst (λ (p : P). Takes bytes (s p) x.1 × (f p ≡ true)) same (one.2, one.3);
+      let one = law.takes bytes x fits e in
+      let same : one.0 ≡ parts x.0 = sym (there one.0) ∙ ap parts one.1 in
+      subst (λ (p : P). Takes bytes (s p) x.1 × (f p ≡ true)) same (one.2, one.3);
   again = λ x rest h. law.again (parts x) rest h ∙ ap (λ (y : S). Some (y, rest)) (back x);
 }
 
@@ -89,8 +89,8 @@ struct_law {S} {P} {s} {f} {make} {r} parts there back law = record {
 pub only_law : {A : Type 0} {s : A → List ℕ} {f : A → Bool} {r : Reader A} (test : A → Bool) → ((a : A) → test a ≡ true → f a ≡ true) → IsCoding s f r → IsCoding s test (only_at test r)
 only_law {A} {s} {f} {r} test implied law = record {
   takes = λ bytes x fits e.
-    let a = bind_some (r bytes) (λ (a : A × List ℕ). cond (test a.0) (Some a) None) x e in
-    let c = chosen (test a.0.0) a.0 x a.2 in
-    subst (λ (y : A × List ℕ). Takes bytes (s y.0) y.1 × (test y.0 ≡ true)) c.1 ((law.takes bytes a.0 fits a.1).0, c.0);
+      let a = bind_some (r bytes) (λ (a : A × List ℕ). cond (test a.0) (Some a) None) x e in
+      let c = chosen (test a.0.0) a.0 x a.2 in
+      subst (λ (y : A × List ℕ). Takes bytes (s y.0) y.1 × (test y.0 ≡ true)) c.1 ((law.takes bytes a.0 fits a.1).0, c.0);
   again = λ a rest h. rw (law.again a rest (implied a h), h) refl;
 }

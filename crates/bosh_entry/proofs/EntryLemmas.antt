@@ -1,5 +1,5 @@
 -- What is read is what was spelled.
-use Rattle.std.proofs.Common.{◌≡◌, ℕ, Bool, true, false, List, [], ◌∷◌, ◌++◌, Option, Some, None, refl}
+use Rattle.std.proofs.Common.{None, refl}
 use Rattle.std.specs.Option.{is_none}
 use Rattle.bosh_base.specs.declared.entry.TaskOpen.{TaskOpen}
 use Rattle.bosh_base.specs.declared.entry.Begin.{Begin}
@@ -10,7 +10,6 @@ use Rattle.bosh_base.specs.declared.entry.Effect.{Effect}
 use Rattle.bosh_base.specs.declared.entry.Write.{Write}
 use Rattle.bosh_base.specs.declared.entry.Loss.{Loss}
 use Rattle.bosh_entry.specs.declared.format.Format.{Format}
-use Rattle.bosh_entry.specs.declared.format.Format.TheVariants.{Older, Present}
 use Rattle.bosh_entry.specs.Entry.{task_open, is_task_open, task_open_at, begin, is_begin, begin_at, end, is_end, end_at, update, is_update, update_at, task_error, is_task_error, task_error_at, effect, is_effect, effect_at, write, is_write, write_at, loss, is_loss, loss_at}
 use Rattle.bosh_entry.proofs.CodingLemmas.{IsCoding, making_law, struct_law, ◌and◌}
 use Rattle.bosh_entry.proofs.NumberLemmas.{number_law, worker_law}

@@ -1,5 +1,5 @@
 -- What is read is what was spelled.
-use Rattle.std.proofs.Common.{◌≡◌, ℕ, Bool, true, false, List, [], ◌∷◌, ◌++◌, Option, Some, None, refl}
+use Rattle.std.proofs.Common.{◌≡◌, ℕ, true, List, ◌++◌, Some, refl}
 use Rattle.bosh_base.specs.declared.failure.Failure.{Failure}
 use Rattle.bosh_base.specs.declared.failure.Failure.TheVariants.{Interrupted, Call, Gone}
 use Rattle.bosh_entry.specs.declared.format.Format.{Format}
@@ -21,10 +21,13 @@ failure_again (Gone n) Present rest h = (making_law Gone and number_law).again (
 
 failures_are : (format : Format) → AreVariants failure (is_failure format) 0 (failures format)
 unfolding failure is_failure
-failures_are format =
-    (variant_law (making_law Interrupted) (λ p. refl) (λ p. refl),
-    (variant_law (making_law Call and number_law) (λ p. refl) (λ p. refl),
-    (present_law format (λ e. variant_law (making_law Gone and number_law) (λ p. refl) (λ p. rw e refl)), tt)))
+failures_are format = (
+  variant_law (making_law Interrupted) (λ p. refl) (λ p. refl),
+  (
+    variant_law (making_law Call and number_law) (λ p. refl) (λ p. refl),
+    (present_law format (λ e. variant_law (making_law Gone and number_law) (λ p. refl) (λ p. rw e refl)), tt),
+  ),
+)
 
 pub failure_law : (format : Format) → IsCoding failure (is_failure format) (failure_at format)
 unfolding failure_at

@@ -1,10 +1,9 @@
 -- What is read is what was spelled.
-use Rattle.std.proofs.Common.{◌≡◌, ℕ, Bool, true, false, List, [], ◌∷◌, ◌++◌, Option, Some, None, refl}
+use Rattle.std.proofs.Common.{[], refl}
 use Rattle.bosh_base.specs.declared.goal.GoalRow.{GoalRow}
 use Rattle.bosh_base.specs.declared.goal.GroupPlan.{GroupPlan}
 use Rattle.bosh_base.specs.declared.goal.Goal.{Goal}
 use Rattle.bosh_entry.specs.declared.format.Format.{Format}
-use Rattle.bosh_entry.specs.declared.format.Format.TheVariants.{Older, Present}
 use Rattle.bosh_entry.specs.Later.{is_nil}
 use Rattle.bosh_entry.specs.Goal.{goal_row, is_goal_row, goal_row_at, group_plan, is_group_plan, group_plan_at, goal, is_goal, goal_at}
 use Rattle.bosh_entry.proofs.CodingLemmas.{IsCoding, making_law, struct_law, ◌and◌}

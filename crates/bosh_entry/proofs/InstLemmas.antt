@@ -1,5 +1,5 @@
 -- What is read is what was spelled.
-use Rattle.std.proofs.Common.{◌≡◌, ℕ, Bool, true, false, List, [], ◌∷◌, ◌++◌, Option, Some, None, refl}
+use Rattle.std.proofs.Common.{refl}
 use Rattle.bosh_base.specs.declared.inst.Inst.{Inst}
 use Rattle.bosh_entry.specs.Inst.{inst, is_inst, inst_at}
 use Rattle.bosh_entry.proofs.CodingLemmas.{IsCoding, making_law, struct_law, ◌and◌}

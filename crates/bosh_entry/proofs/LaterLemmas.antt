@@ -1,5 +1,5 @@
 -- What the older format has not is read as it was spelled, in both formats.
-use Rattle.std.proofs.Common.{◌≡◌, ℕ, Bool, true, false, List, [], ◌∷◌, ◌++◌, Option, Some, None, refl, sym, ap, subst, ◌∙◌}
+use Rattle.std.proofs.Common.{◌≡◌, ℕ, Bool, true, false, List, [], ◌∷◌, Option, Some, None, refl, sym, ap, subst}
 use Rattle.std.specs.Prelude.{not}
 use Rattle.std.specs.Option.{is_none}
 use Rattle.bosh_entry.specs.declared.format.Format.{Format}
@@ -27,7 +27,7 @@ pub later_law : {A : Type 0} {s : A → List ℕ} {f : A → Bool} {r : Reader A
 unfolding later_at
 later_law {A} {s} {f} {r} is_absent absent only absent_is law Older = record {
   takes = λ bytes x fits e.
-    subst (λ (y : A × List ℕ). Takes bytes [] y.1 × (is_absent y.0 ≡ true)) (some_is (absent, bytes) x e) (record { parts = refl; rest_fits = fits }, absent_is);
+      subst (λ (y : A × List ℕ). Takes bytes [] y.1 × (is_absent y.0 ≡ true)) (some_is (absent, bytes) x e) (record { parts = refl; rest_fits = fits }, absent_is);
   again = λ a rest h. ap (λ (b : A). Some (b, rest)) (sym (only a h));
 }
 later_law is_absent absent only absent_is law Present = record { takes = law.takes; again = law.again }

@@ -1,5 +1,5 @@
 -- What is read is what was spelled.
-use Rattle.std.proofs.Common.{◌≡◌, ℕ, Bool, true, false, List, [], ◌∷◌, ◌++◌, Option, Some, None, refl}
+use Rattle.std.proofs.Common.{refl}
 use Rattle.bosh_base.specs.declared.link.Joint.{Joint}
 use Rattle.bosh_base.specs.declared.link.Tie.{Tie}
 use Rattle.bosh_entry.specs.Link.{joint, is_joint, joint_at, tie, is_tie, tie_at}

@@ -1,5 +1,5 @@
 -- Lists are read as they were spelled, and a loop reads them item by item.
-use Rattle.std.proofs.Common.{◌≡◌, ℕ, zero, suc, ◌-◌, ◌+◌, ◌^◌, ◌≤◌, ◌<◌, Bool, true, false, ◌&&◌, List, [], ◌∷◌, ◌++◌, length, Option, Some, None, Result, Ok, Err, refl, sym, ap, subst, ◌∙◌, append_assoc, arith}
+use Rattle.std.proofs.Common.{◌≡◌, ℕ, zero, suc, ◌-◌, ◌+◌, ◌≤◌, ◌<◌, Bool, true, ◌&&◌, List, [], ◌∷◌, ◌++◌, length, Option, Some, None, Err, refl, sym, ap, subst, ◌∙◌, append_assoc, arith}
 use Rattle.std.specs.List.{flat_map, list_all}
 use Rattle.std.proofs.lemmas.Bool.{and_parts, and_from}
 use Rattle.std.proofs.lemmas.List.{append-nil}
@@ -59,7 +59,7 @@ items_take {A} {s} {f} {r} law (suc n) bytes x fits e =
     let both = Takes-then bytes (s a.0.0) a.0.1 (flat_map s b.0.0) b.0.1 first.0 others.0 in
     let made : List A × List ℕ = (a.0.0 ∷ b.0.0, b.0.1) in
     subst (λ (y : List A × List ℕ). Takes bytes (flat_map s y.0) y.1 × (length y.0 ≡ suc n) × (list_all f y.0 ≡ true)) (some_is made x b.2)
-      (rw flat_map-cons both, ap suc others.1, and_from (f a.0.0) (list_all f b.0.0) first.1 others.2)
+    (rw flat_map-cons both, ap suc others.1, and_from (f a.0.0) (list_all f b.0.0) first.1 others.2)
 
 items_again : {A : Type 0} {s : A → List ℕ} {f : A → Bool} {r : Reader A} → IsCoding s f r → (items : List A) (rest : List ℕ) → list_all f items ≡ true → items_at r (length items) (flat_map s items ++ rest) ≡ Some (items, rest)
 unfolding items_at
@@ -73,15 +73,15 @@ pub list_law : {A : Type 0} {s : A → List ℕ} {f : A → Bool} {r : Reader A}
 unfolding list_at
 list_law {A} {s} {f} {r} law = record {
   takes = λ bytes x fits e.
-    let n = bind_some (number_at bytes) (λ (n : ℕ × List ℕ). items_at r n.0 n.1) x e in
-    let count = number_law.takes bytes n.0 fits n.1 in
-    let items = items_take law n.0.0 n.0.1 x count.0.rest_fits n.2 in
-    let both = Takes-then bytes (number n.0.0) n.0.1 (flat_map s x.0) x.1 count.0 items.0 in
-    subst (λ (k : ℕ). Takes bytes (number k ++ flat_map s x.0) x.1 × ((is_number k && list_all f x.0) ≡ true)) (sym items.1)
+      let n = bind_some (number_at bytes) (λ (n : ℕ × List ℕ). items_at r n.0 n.1) x e in
+      let count = number_law.takes bytes n.0 fits n.1 in
+      let items = items_take law n.0.0 n.0.1 x count.0.rest_fits n.2 in
+      let both = Takes-then bytes (number n.0.0) n.0.1 (flat_map s x.0) x.1 count.0 items.0 in
+      subst (λ (k : ℕ). Takes bytes (number k ++ flat_map s x.0) x.1 × ((is_number k && list_all f x.0) ≡ true)) (sym items.1)
       (both, and_from (is_number n.0.0) (list_all f x.0) count.1 items.2);
   again = λ items rest h.
-    let fits = and_parts (is_number (length items)) (list_all f items) h in
-    ap (list_at r) (append_assoc (number (length items)) (flat_map s items) rest)
+      let fits = and_parts (is_number (length items)) (list_all f items) h in
+      ap (list_at r) (append_assoc (number (length items)) (flat_map s items) rest)
       ∙ rw (number_law.again (length items) (flat_map s items ++ rest) fits.0) (items_again law items rest fits.1);
 }
 

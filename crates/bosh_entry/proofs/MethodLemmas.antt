@@ -1,5 +1,5 @@
 -- What is read is what was spelled.
-use Rattle.std.proofs.Common.{◌≡◌, ℕ, Bool, true, false, List, [], ◌∷◌, ◌++◌, Option, Some, None, refl}
+use Rattle.std.proofs.Common.{◌≡◌, ℕ, true, List, ◌++◌, Some, refl}
 use Rattle.bosh_base.specs.declared.method.Method.{Method}
 use Rattle.bosh_base.specs.declared.method.Method.TheVariants.{CreateVm, DeleteVm, HasVm, FindVm, CreateDisk, DeleteDisk, HasDisk, FindDisk, AttachDisk, DetachDisk, GetDisks, Ping, GetState, Apply, Start, Drain, Stop, MountDisk, UnmountDisk, ListDisk, MigrateDisk, CompilePackage}
 use Rattle.bosh_entry.specs.Reading.{one_of_at}
@@ -34,29 +34,70 @@ method_again CompilePackage rest h = (making_law CompilePackage).again tt rest h
 
 methods_are : AreVariants method is_method 0 methods
 unfolding method is_method
-methods_are =
-    (variant_law (making_law CreateVm) (λ p. refl) (λ p. refl),
-    (variant_law (making_law DeleteVm) (λ p. refl) (λ p. refl),
-    (variant_law (making_law HasVm) (λ p. refl) (λ p. refl),
-    (variant_law (making_law FindVm) (λ p. refl) (λ p. refl),
-    (variant_law (making_law CreateDisk) (λ p. refl) (λ p. refl),
-    (variant_law (making_law DeleteDisk) (λ p. refl) (λ p. refl),
-    (variant_law (making_law HasDisk) (λ p. refl) (λ p. refl),
-    (variant_law (making_law FindDisk) (λ p. refl) (λ p. refl),
-    (variant_law (making_law AttachDisk) (λ p. refl) (λ p. refl),
-    (variant_law (making_law DetachDisk) (λ p. refl) (λ p. refl),
-    (variant_law (making_law GetDisks) (λ p. refl) (λ p. refl),
-    (variant_law (making_law Ping) (λ p. refl) (λ p. refl),
-    (variant_law (making_law GetState) (λ p. refl) (λ p. refl),
-    (variant_law (making_law Apply) (λ p. refl) (λ p. refl),
-    (variant_law (making_law Start) (λ p. refl) (λ p. refl),
-    (variant_law (making_law Drain) (λ p. refl) (λ p. refl),
-    (variant_law (making_law Stop) (λ p. refl) (λ p. refl),
-    (variant_law (making_law MountDisk) (λ p. refl) (λ p. refl),
-    (variant_law (making_law UnmountDisk) (λ p. refl) (λ p. refl),
-    (variant_law (making_law ListDisk) (λ p. refl) (λ p. refl),
-    (variant_law (making_law MigrateDisk) (λ p. refl) (λ p. refl),
-    (variant_law (making_law CompilePackage) (λ p. refl) (λ p. refl), tt))))))))))))))))))))))
+methods_are = (
+  variant_law (making_law CreateVm) (λ p. refl) (λ p. refl),
+  (
+    variant_law (making_law DeleteVm) (λ p. refl) (λ p. refl),
+    (
+      variant_law (making_law HasVm) (λ p. refl) (λ p. refl),
+      (
+        variant_law (making_law FindVm) (λ p. refl) (λ p. refl),
+        (
+          variant_law (making_law CreateDisk) (λ p. refl) (λ p. refl),
+          (
+            variant_law (making_law DeleteDisk) (λ p. refl) (λ p. refl),
+            (
+              variant_law (making_law HasDisk) (λ p. refl) (λ p. refl),
+              (
+                variant_law (making_law FindDisk) (λ p. refl) (λ p. refl),
+                (
+                  variant_law (making_law AttachDisk) (λ p. refl) (λ p. refl),
+                  (
+                    variant_law (making_law DetachDisk) (λ p. refl) (λ p. refl),
+                    (
+                      variant_law (making_law GetDisks) (λ p. refl) (λ p. refl),
+                      (
+                        variant_law (making_law Ping) (λ p. refl) (λ p. refl),
+                        (
+                          variant_law (making_law GetState) (λ p. refl) (λ p. refl),
+                          (
+                            variant_law (making_law Apply) (λ p. refl) (λ p. refl),
+                            (
+                              variant_law (making_law Start) (λ p. refl) (λ p. refl),
+                              (
+                                variant_law (making_law Drain) (λ p. refl) (λ p. refl),
+                                (
+                                  variant_law (making_law Stop) (λ p. refl) (λ p. refl),
+                                  (
+                                    variant_law (making_law MountDisk) (λ p. refl) (λ p. refl),
+                                    (
+                                      variant_law (making_law UnmountDisk) (λ p. refl) (λ p. refl),
+                                      (
+                                        variant_law (making_law ListDisk) (λ p. refl) (λ p. refl),
+                                        (
+                                          variant_law (making_law MigrateDisk) (λ p. refl) (λ p. refl),
+                                          (variant_law (making_law CompilePackage) (λ p. refl) (λ p. refl), tt),
+                                        ),
+                                      ),
+                                    ),
+                                  ),
+                                ),
+                              ),
+                            ),
+                          ),
+                        ),
+                      ),
+                    ),
+                  ),
+                ),
+              ),
+            ),
+          ),
+        ),
+      ),
+    ),
+  ),
+)
 
 pub method_law : IsCoding method is_method method_at
 unfolding method_at

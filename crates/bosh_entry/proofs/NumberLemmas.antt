@@ -1,8 +1,8 @@
 -- Numbers are read as they were spelled.
-use Rattle.std.proofs.Common.{◌≡◌, ℕ, zero, suc, ◌+◌, ◌^◌, ◌<◌, ◌≤◌, Bool, true, false, cond, ltb, List, [], ◌∷◌, ◌++◌, length, get_or, take, drop, Option, Some, None, refl, sym, ap, subst, ◌∙◌, append_assoc, arith, inl, inr}
+use Rattle.std.proofs.Common.{◌≡◌, ℕ, ◌+◌, ◌^◌, ◌<◌, ◌≤◌, Bool, true, false, cond, ltb, List, ◌++◌, length, take, drop, Some, None, refl, sym, ap, subst, ◌∙◌, arith, inl, inr}
 use Rattle.std.specs.Int.{w64, from_be_bytes, to_be_bytes}
 use Rattle.std.proofs.lemmas.Bool.{cases_lt, ltb-false, ltb-true, lt-ltb, le-ltb}
-use Rattle.std.proofs.lemmas.List.{take_at, drop_at, take-append-drop, length-append, length-take, get_or-drop, get_or-take, get_or_past}
+use Rattle.std.proofs.lemmas.List.{take-append-drop, length-append, length-take, get_or-drop, get_or-take, get_or_past}
 use Rattle.std.proofs.lemmas.Nat.{be_bytes_8, from_be_bytes-to_be_bytes_8}
 use Rattle.bosh_entry.specs.Reading.{IsBytes}
 use Rattle.bosh_entry.specs.Number.{is_byte, number, is_number, number_at, is_small, small_at, worker_at}
@@ -34,7 +34,7 @@ number_takes bytes x fits e =
     let front : to_be_bytes w64 (from_be_bytes w64 (take 8 bytes)) ≡ take 8 bytes = be_bytes_8 (take 8 bytes) _ (omega (arith, length-take 8 bytes)) front_fits refl in
     let whole : bytes ≡ to_be_bytes w64 (from_be_bytes w64 (take 8 bytes)) ++ drop 8 bytes = sym (take-append-drop 8 bytes) ∙ ap (λ (t : List ℕ). t ++ drop 8 bytes) (sym front) in
     subst (λ (y : ℕ × List ℕ). Takes bytes (number y.0) y.1 × (is_number y.0 ≡ true)) g.1
-      (record { parts = whole; rest_fits = IsBytes-drop 8 bytes fits }, lt-ltb _ _ (below (take 8 bytes) front_fits))
+    (record { parts = whole; rest_fits = IsBytes-drop 8 bytes fits }, lt-ltb _ _ (below (take 8 bytes) front_fits))
 
 number_again : (n : ℕ) (rest : List ℕ) → is_number n ≡ true → number_at (number n ++ rest) ≡ Some (n, rest)
 unfolding number_at number

@@ -1,5 +1,5 @@
 -- What is read is what was spelled.
-use Rattle.std.proofs.Common.{◌≡◌, ℕ, Bool, true, false, List, [], ◌∷◌, ◌++◌, Option, Some, None, refl}
+use Rattle.std.proofs.Common.{refl}
 use Rattle.bosh_base.specs.declared.offer.Offer.{Offer}
 use Rattle.bosh_entry.specs.Offer.{offer, is_offer, offer_at}
 use Rattle.bosh_entry.proofs.CodingLemmas.{IsCoding, making_law, struct_law, ◌and◌}

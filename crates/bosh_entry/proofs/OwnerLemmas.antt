@@ -1,5 +1,5 @@
 -- What is read is what was spelled.
-use Rattle.std.proofs.Common.{◌≡◌, ℕ, Bool, true, false, List, [], ◌∷◌, ◌++◌, Option, Some, None, refl}
+use Rattle.std.proofs.Common.{◌≡◌, ℕ, true, List, ◌++◌, Some, refl}
 use Rattle.bosh_base.specs.declared.owner.Owner.{Owner}
 use Rattle.bosh_base.specs.declared.owner.Owner.TheVariants.{Instance, Compile, Disk}
 use Rattle.bosh_entry.specs.Reading.{one_of_at}
@@ -17,10 +17,13 @@ owner_again (Disk n) rest h = (making_law Disk and number_law).again (tt, n) res
 
 owners_are : AreVariants owner is_owner 0 owners
 unfolding owner is_owner
-owners_are =
-    (variant_law (making_law Instance and inst_law) (λ p. refl) (λ p. refl),
-    (variant_law (making_law Compile and number_law and small_law) (λ p. refl) (λ p. refl),
-    (variant_law (making_law Disk and number_law) (λ p. refl) (λ p. refl), tt)))
+owners_are = (
+  variant_law (making_law Instance and inst_law) (λ p. refl) (λ p. refl),
+  (
+    variant_law (making_law Compile and number_law and small_law) (λ p. refl) (λ p. refl),
+    (variant_law (making_law Disk and number_law) (λ p. refl) (λ p. refl), tt),
+  ),
+)
 
 pub owner_law : IsCoding owner is_owner owner_at
 unfolding owner_at

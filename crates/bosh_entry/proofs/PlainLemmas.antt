@@ -1,5 +1,5 @@
 -- Names and digests are read as they were spelled.
-use Rattle.std.proofs.Common.{◌≡◌, ℕ, suc, ◌≤◌, Bool, true, false, ◌&&◌, ◌||◌, ltb, eqb, List, [], ◌∷◌, ◌++◌, length, take, drop, Option, Some, None, refl, sym, ap, subst, ◌∙◌, arith}
+use Rattle.std.proofs.Common.{◌≡◌, ℕ, suc, ◌≤◌, true, false, ◌&&◌, ltb, eqb, List, [], ◌∷◌, ◌++◌, length, take, drop, Some, refl, sym, subst, arith}
 use Rattle.std.specs.List.{list_all}
 use Rattle.std.specs.Char.{is_ascii_alphanumeric}
 use Rattle.std.proofs.lemmas.Bool.{ltb-true, ltb-false, lt-ltb, le-ltb, eqb-true, eq-eqb, and_parts, and_from, or_left}
@@ -45,9 +45,10 @@ unfolding digest is_digest digest_at
 digest_takes bytes x fits e =
     let g = guard_some (ltb (length bytes) 32) (record { 0 = take 32 bytes }, drop 32 bytes) x e in
     let long : 32 ≤ length bytes = ltb-false _ _ g.0 in
-    subst (λ (y : Digest × List ℕ). Takes bytes (digest y.0) y.1 × (is_digest y.0 ≡ true)) g.1
-      (record { parts = sym (take-append-drop 32 bytes); rest_fits = IsBytes-drop 32 bytes fits },
-        and_from (eqb (length (take 32 bytes)) 32) (list_all is_byte (take 32 bytes)) (eq-eqb _ _ (omega (arith, length-take 32 bytes))) (all_bytes (take 32 bytes) (IsBytes-take 32 bytes fits)))
+    subst (λ (y : Digest × List ℕ). Takes bytes (digest y.0) y.1 × (is_digest y.0 ≡ true)) g.1 (
+      record { parts = sym (take-append-drop 32 bytes); rest_fits = IsBytes-drop 32 bytes fits },
+      and_from (eqb (length (take 32 bytes)) 32) (list_all is_byte (take 32 bytes)) (eq-eqb _ _ (omega (arith, length-take 32 bytes))) (all_bytes (take 32 bytes) (IsBytes-take 32 bytes fits)),
+    )
 
 digest_again : (d : Digest) (rest : List ℕ) → is_digest d ≡ true → digest_at (digest d ++ rest) ≡ Some (d, rest)
 unfolding digest is_digest digest_at

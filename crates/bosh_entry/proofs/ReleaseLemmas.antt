@@ -1,5 +1,5 @@
 -- What is read is what was spelled.
-use Rattle.std.proofs.Common.{◌≡◌, ℕ, Bool, true, false, List, [], ◌∷◌, ◌++◌, Option, Some, None, refl}
+use Rattle.std.proofs.Common.{◌≡◌, ℕ, true, List, ◌++◌, Some, refl}
 use Rattle.bosh_base.specs.declared.release.Setting.{Setting}
 use Rattle.bosh_base.specs.declared.release.Setting.TheVariants.{Scalar, Compound}
 use Rattle.bosh_base.specs.declared.release.Prop.{Prop}
@@ -24,9 +24,10 @@ setting_again Compound rest h = (making_law Compound).again tt rest h
 
 settings_are : AreVariants setting is_setting 0 settings
 unfolding setting is_setting
-settings_are =
-    (variant_law (making_law Scalar and text_law) (λ p. refl) (λ p. refl),
-    (variant_law (making_law Compound) (λ p. refl) (λ p. refl), tt))
+settings_are = (
+  variant_law (making_law Scalar and text_law) (λ p. refl) (λ p. refl),
+  (variant_law (making_law Compound) (λ p. refl) (λ p. refl), tt),
+)
 
 pub setting_law : IsCoding setting is_setting setting_at
 unfolding setting_at

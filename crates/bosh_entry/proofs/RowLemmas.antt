@@ -1,5 +1,5 @@
 -- What is read is what was spelled.
-use Rattle.std.proofs.Common.{◌≡◌, ℕ, Bool, true, false, List, [], ◌∷◌, ◌++◌, Option, Some, None, refl}
+use Rattle.std.proofs.Common.{◌≡◌, ℕ, true, false, List, ◌++◌, Some, refl}
 use Rattle.std.specs.Prelude.{not}
 use Rattle.bosh_base.specs.declared.row.Role.{Role}
 use Rattle.bosh_base.specs.declared.row.Role.TheVariants.{Active, New, Old}
@@ -8,7 +8,6 @@ use Rattle.bosh_base.specs.declared.row.Vm.{Vm}
 use Rattle.bosh_base.specs.declared.row.Doubt.{Doubt}
 use Rattle.bosh_base.specs.declared.row.Row.{Row}
 use Rattle.bosh_entry.specs.declared.format.Format.{Format}
-use Rattle.bosh_entry.specs.declared.format.Format.TheVariants.{Older, Present}
 use Rattle.bosh_entry.specs.Reading.{one_of_at}
 use Rattle.bosh_entry.specs.Row.{role, is_role, role_at, roles, disk_row, is_disk_row, disk_row_at, vm, is_vm, vm_at, doubt, is_doubt, doubt_at, row, is_row, row_at}
 use Rattle.bosh_entry.proofs.CodingLemmas.{IsCoding, making_law, struct_law, ◌and◌}
@@ -31,10 +30,13 @@ role_again Old rest h = (making_law Old).again tt rest h
 
 roles_are : AreVariants role is_role 0 roles
 unfolding role is_role
-roles_are =
-    (variant_law (making_law Active) (λ p. refl) (λ p. refl),
-    (variant_law (making_law New) (λ p. refl) (λ p. refl),
-    (variant_law (making_law Old) (λ p. refl) (λ p. refl), tt)))
+roles_are = (
+  variant_law (making_law Active) (λ p. refl) (λ p. refl),
+  (
+    variant_law (making_law New) (λ p. refl) (λ p. refl),
+    (variant_law (making_law Old) (λ p. refl) (λ p. refl), tt),
+  ),
+)
 
 pub role_law : IsCoding role is_role role_at
 unfolding role_at

@@ -1,12 +1,11 @@
 -- What is read is what was spelled.
-use Rattle.std.proofs.Common.{◌≡◌, ℕ, Bool, true, false, List, [], ◌∷◌, ◌++◌, Option, Some, None, refl}
+use Rattle.std.proofs.Common.{[], refl}
 use Rattle.bosh_base.specs.declared.snapshot.DepRow.{DepRow}
 use Rattle.bosh_base.specs.declared.snapshot.CompileRow.{CompileRow}
 use Rattle.bosh_base.specs.declared.snapshot.Orphan.{Orphan}
 use Rattle.bosh_base.specs.declared.snapshot.BuiltKey.{BuiltKey}
 use Rattle.bosh_base.specs.declared.snapshot.Snapshot.{Snapshot}
 use Rattle.bosh_entry.specs.declared.format.Format.{Format}
-use Rattle.bosh_entry.specs.declared.format.Format.TheVariants.{Older, Present}
 use Rattle.bosh_entry.specs.Later.{is_nil}
 use Rattle.bosh_entry.specs.Snapshot.{dep_row, is_dep_row, dep_row_at, compile_row, is_compile_row, compile_row_at, orphan, is_orphan, orphan_at, built_key, is_built_key, built_key_at, snapshot, is_snapshot, snapshot_at}
 use Rattle.bosh_entry.proofs.CodingLemmas.{IsCoding, making_law, struct_law, ◌and◌}

@@ -1,5 +1,5 @@
 -- What is read is what was spelled.
-use Rattle.std.proofs.Common.{◌≡◌, ℕ, Bool, true, false, List, [], ◌∷◌, ◌++◌, Option, Some, None, refl}
+use Rattle.std.proofs.Common.{refl}
 use Rattle.bosh_base.specs.declared.spec.Mark.{Mark}
 use Rattle.bosh_base.specs.declared.spec.Placed.{Placed}
 use Rattle.bosh_base.specs.declared.spec.Spec.{Spec}

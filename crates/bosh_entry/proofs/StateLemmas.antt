@@ -1,5 +1,5 @@
 -- What is read is what was spelled.
-use Rattle.std.proofs.Common.{◌≡◌, ℕ, Bool, true, false, List, [], ◌∷◌, ◌++◌, Option, Some, None, refl}
+use Rattle.std.proofs.Common.{◌≡◌, ℕ, true, List, ◌++◌, Some, refl}
 use Rattle.bosh_base.specs.declared.state.State.{State}
 use Rattle.bosh_base.specs.declared.state.State.TheVariants.{Running, Stopped, Detached}
 use Rattle.bosh_entry.specs.Reading.{one_of_at}
@@ -15,10 +15,13 @@ state_again Detached rest h = (making_law Detached).again tt rest h
 
 states_are : AreVariants state is_state 0 states
 unfolding state is_state
-states_are =
-    (variant_law (making_law Running) (λ p. refl) (λ p. refl),
-    (variant_law (making_law Stopped) (λ p. refl) (λ p. refl),
-    (variant_law (making_law Detached) (λ p. refl) (λ p. refl), tt)))
+states_are = (
+  variant_law (making_law Running) (λ p. refl) (λ p. refl),
+  (
+    variant_law (making_law Stopped) (λ p. refl) (λ p. refl),
+    (variant_law (making_law Detached) (λ p. refl) (λ p. refl), tt),
+  ),
+)
 
 pub state_law : IsCoding state is_state state_at
 unfolding state_at

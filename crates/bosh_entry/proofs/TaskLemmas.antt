@@ -1,5 +1,5 @@
 -- What is read is what was spelled.
-use Rattle.std.proofs.Common.{◌≡◌, ℕ, Bool, true, false, List, [], ◌∷◌, ◌++◌, Option, Some, None, refl}
+use Rattle.std.proofs.Common.{◌≡◌, ℕ, true, List, ◌++◌, Some, None, refl}
 use Rattle.std.specs.Option.{is_none}
 use Rattle.bosh_base.specs.declared.task.TaskKind.{TaskKind}
 use Rattle.bosh_base.specs.declared.task.TaskKind.TheVariants.{Deploy, Recreate, Start, Stop, DeleteDeployment, DeleteDisk, CleanUp, Fix, Resolve}
@@ -37,16 +37,31 @@ task_kind_again (Resolve i) Present rest h = (making_law Resolve and inst_law).a
 
 task_kinds_are : (format : Format) → AreVariants task_kind (is_task_kind format) 0 (task_kinds format)
 unfolding task_kind is_task_kind
-task_kinds_are format =
-    (variant_law (making_law Deploy) (λ p. refl) (λ p. refl),
-    (variant_law (making_law Recreate and inst_law) (λ p. refl) (λ p. refl),
-    (variant_law (making_law Start and inst_law) (λ p. refl) (λ p. refl),
-    (variant_law (making_law Stop and inst_law) (λ p. refl) (λ p. refl),
-    (variant_law (making_law DeleteDeployment) (λ p. refl) (λ p. refl),
-    (variant_law (making_law DeleteDisk and number_law) (λ p. refl) (λ p. refl),
-    (variant_law (making_law CleanUp) (λ p. refl) (λ p. refl),
-    (present_law format (λ e. variant_law (making_law Fix) (λ p. refl) (λ p. rw e refl)),
-    (present_law format (λ e. variant_law (making_law Resolve and inst_law) (λ p. refl) (λ p. rw e refl)), tt)))))))))
+task_kinds_are format = (
+  variant_law (making_law Deploy) (λ p. refl) (λ p. refl),
+  (
+    variant_law (making_law Recreate and inst_law) (λ p. refl) (λ p. refl),
+    (
+      variant_law (making_law Start and inst_law) (λ p. refl) (λ p. refl),
+      (
+        variant_law (making_law Stop and inst_law) (λ p. refl) (λ p. refl),
+        (
+          variant_law (making_law DeleteDeployment) (λ p. refl) (λ p. refl),
+          (
+            variant_law (making_law DeleteDisk and number_law) (λ p. refl) (λ p. refl),
+            (
+              variant_law (making_law CleanUp) (λ p. refl) (λ p. refl),
+              (
+                present_law format (λ e. variant_law (making_law Fix) (λ p. refl) (λ p. rw e refl)),
+                (present_law format (λ e. variant_law (making_law Resolve and inst_law) (λ p. refl) (λ p. rw e refl)), tt),
+              ),
+            ),
+          ),
+        ),
+      ),
+    ),
+  ),
+)
 
 pub task_kind_law : (format : Format) → IsCoding task_kind (is_task_kind format) (task_kind_at format)
 unfolding task_kind_at
@@ -62,11 +77,16 @@ task_end_again (Gone n m o) Present rest h = (making_law Gone and number_law and
 
 task_ends_are : (format : Format) → AreVariants task_end (is_task_end format) 0 (task_ends format)
 unfolding task_end is_task_end
-task_ends_are format =
-    (variant_law (making_law Finished) (λ p. refl) (λ p. refl),
-    (variant_law (making_law Fault and number_law and method_law and owner_law) (λ p. refl) (λ p. refl),
-    (variant_law (making_law Interrupted) (λ p. refl) (λ p. refl),
-    (present_law format (λ e. variant_law (making_law Gone and number_law and method_law and owner_law) (λ p. refl) (λ p. rw e refl)), tt))))
+task_ends_are format = (
+  variant_law (making_law Finished) (λ p. refl) (λ p. refl),
+  (
+    variant_law (making_law Fault and number_law and method_law and owner_law) (λ p. refl) (λ p. refl),
+    (
+      variant_law (making_law Interrupted) (λ p. refl) (λ p. refl),
+      (present_law format (λ e. variant_law (making_law Gone and number_law and method_law and owner_law) (λ p. refl) (λ p. rw e refl)), tt),
+    ),
+  ),
+)
 
 pub task_end_law : (format : Format) → IsCoding task_end (is_task_end format) (task_end_at format)
 unfolding task_end_at

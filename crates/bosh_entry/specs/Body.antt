@@ -1,12 +1,12 @@
 -- How an entry is spelled (this project's profile): a byte for the format, a byte for the kind, and the fields of the kind.
-use Rattle.std.specs.Prelude.{◌≡◌, ℕ, Bool, true, false, ◌&&◌, nat_lt, ◌==◌, if◌then◌else◌, List, [], ◌∷◌, ◌++◌, length, Option, Some, None, Result, Ok, Err}
+use Rattle.std.specs.Prelude.{◌≡◌, ℕ, Bool, true, ◌&&◌, nat_lt, ◌==◌, if◌then◌else◌, List, [], ◌∷◌, length, Option, Some, None, Result, Ok, Err}
 use Rattle.bosh_base.specs.declared.entry.Entry.{Entry}
 use Rattle.bosh_base.specs.declared.entry.Entry.TheVariants.{Release, Stemcell, Config, TaskOpen, Begin, End, UpdBegin, UpdDone, Gone, TaskDone, TaskError, Snapshot, Effect, Write, Lost}
 use Rattle.bosh_entry.specs.declared.fault.EntryFault.{EntryFault}
 use Rattle.bosh_entry.specs.declared.fault.EntryFault.TheVariants.{NotAnEntry, Memory}
 use Rattle.bosh_entry.specs.declared.format.Format.{Format}
 use Rattle.bosh_entry.specs.declared.format.Format.TheVariants.{Older, Present}
-use Rattle.bosh_entry.specs.Reading.{◌>>=◌, Reader, byte_at, making, ◌with◌, variant_at}
+use Rattle.bosh_entry.specs.Reading.{Reader, byte_at, making, ◌with◌, variant_at}
 use Rattle.bosh_entry.specs.Number.{number, is_number, number_at}
 use Rattle.bosh_entry.specs.List.{text, is_text, text_at}
 use Rattle.bosh_entry.specs.Later.{is_present, present_at}

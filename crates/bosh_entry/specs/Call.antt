@@ -6,7 +6,7 @@ use Rattle.bosh_base.specs.Call.{method_of}
 use Rattle.bosh_base.specs.declared.method.Method.{Method}
 use Rattle.bosh_base.specs.declared.method.Method.TheVariants as methods
 use Rattle.bosh_entry.specs.Method.{method, method_at}
-use Rattle.bosh_entry.specs.Reading.{Reader, making, ◌with◌, ◌>>=◌}
+use Rattle.bosh_entry.specs.Reading.{Reader, making, ◌with◌}
 use Rattle.bosh_entry.specs.Number.{number, is_number, number_at}
 use Rattle.bosh_entry.specs.Plain.{digest, is_digest, digest_at}
 use Rattle.bosh_entry.specs.List.{list, is_list, list_at}

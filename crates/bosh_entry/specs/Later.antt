@@ -1,5 +1,5 @@
 -- What the older format has not: fields at the end of a struct, which have one value there, and variants at the end of an enum.
-use Rattle.std.specs.Prelude.{ℕ, Bool, true, false, List, [], ◌∷◌, Option, Some, None}
+use Rattle.std.specs.Prelude.{ℕ, Bool, true, false, List, [], ◌∷◌, Some, None}
 use Rattle.bosh_entry.specs.declared.format.Format.{Format}
 use Rattle.bosh_entry.specs.declared.format.Format.TheVariants.{Older, Present}
 use Rattle.bosh_entry.specs.Reading.{Reader}

@@ -1,7 +1,7 @@
 -- How lists and texts are spelled (this project's profile): the count, and the items.
-use Rattle.std.specs.Prelude.{ℕ, zero, suc, Bool, ◌&&◌, List, [], ◌∷◌, ◌++◌, length, Option, Some, None}
+use Rattle.std.specs.Prelude.{ℕ, zero, suc, Bool, ◌&&◌, List, [], ◌∷◌, ◌++◌, length, Some}
 use Rattle.std.specs.List.{flat_map, list_all}
-use Rattle.bosh_entry.specs.Reading.{◌>>=◌, Reader, byte_at}
+use Rattle.bosh_entry.specs.Reading.{Reader, byte_at}
 use Rattle.bosh_entry.specs.Number.{byte, is_byte, number, is_number, number_at}
 
 abbrev pub list : {A : Type 0} → (A → List ℕ) → List A → List ℕ

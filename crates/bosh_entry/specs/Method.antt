@@ -2,32 +2,12 @@
 use Rattle.std.specs.Prelude.{ℕ, Bool, true, List, [], ◌∷◌}
 use Rattle.bosh_base.specs.declared.method.Method.{Method}
 use Rattle.bosh_base.specs.declared.method.Method.TheVariants.{CreateVm, DeleteVm, HasVm, FindVm, CreateDisk, DeleteDisk, HasDisk, FindDisk, AttachDisk, DetachDisk, GetDisks, Ping, GetState, Apply, Start, Drain, Stop, MountDisk, UnmountDisk, ListDisk, MigrateDisk, CompilePackage}
+use Rattle.bosh_base.specs.Method.{place_of}
 use Rattle.bosh_entry.specs.Reading.{Reader, making, one_of_at}
 
 -- a method, in the order of the list of methods
 unfoldable pub method : Method → List ℕ
-method CreateVm = 0 ∷ []
-method DeleteVm = 1 ∷ []
-method HasVm = 2 ∷ []
-method FindVm = 3 ∷ []
-method CreateDisk = 4 ∷ []
-method DeleteDisk = 5 ∷ []
-method HasDisk = 6 ∷ []
-method FindDisk = 7 ∷ []
-method AttachDisk = 8 ∷ []
-method DetachDisk = 9 ∷ []
-method GetDisks = 10 ∷ []
-method Ping = 11 ∷ []
-method GetState = 12 ∷ []
-method Apply = 13 ∷ []
-method Start = 14 ∷ []
-method Drain = 15 ∷ []
-method Stop = 16 ∷ []
-method MountDisk = 17 ∷ []
-method UnmountDisk = 18 ∷ []
-method ListDisk = 19 ∷ []
-method MigrateDisk = 20 ∷ []
-method CompilePackage = 21 ∷ []
+method m = place_of m ∷ []
 
 unfoldable pub is_method : Method → Bool
 is_method x = true

@@ -1,5 +1,5 @@
 -- How bytes and numbers are spelled (this project's profile): a number of any type in eight bytes, the most significant first.
-use Rattle.std.specs.Prelude.{ℕ, Bool, ◌^◌, nat_lt, List, [], ◌∷◌, length, take, drop, Option, Some, None, if◌then◌else◌}
+use Rattle.std.specs.Prelude.{ℕ, Bool, ◌^◌, nat_lt, List, [], ◌∷◌, length, take, drop, Some, None, if◌then◌else◌}
 use Rattle.std.specs.Int.{w64, from_be_bytes, to_be_bytes}
 use Rattle.bosh_entry.specs.Reading.{Reader, only_at}
 

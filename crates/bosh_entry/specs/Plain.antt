@@ -1,5 +1,5 @@
 -- How names and digests are spelled (this project's profile): a name as a text, a digest by its 32 bytes (FIPS 180-4).
-use Rattle.std.specs.Prelude.{ℕ, Bool, ◌&&◌, ◌==◌, nat_lt, List, length, take, drop, Option, Some, None, if◌then◌else◌}
+use Rattle.std.specs.Prelude.{ℕ, Bool, ◌&&◌, ◌==◌, nat_lt, List, length, take, drop, Some, None, if◌then◌else◌}
 use Rattle.std.specs.List.{list_all}
 use Rattle.bosh_base.specs.Name.{is_name}
 use Rattle.bosh_base.specs.declared.digest.Digest.{Digest}

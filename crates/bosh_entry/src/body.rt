@@ -6,7 +6,10 @@ use crate::coded::Coded;
 use crate::fault::EntryFault;
 use crate::format::Format;
 use crate::source::Source;
-use bosh_base::{Begin, Effect, End, Entry, Loss, Release, Snapshot, Stemcell, TaskError, TaskOpen, Text, Update, Write};
+use bosh_base::{
+    Begin, Effect, End, Entry, Loss, Release, Snapshot, Stemcell, TaskError, TaskOpen, Text,
+    Update, Write,
+};
 use std::alloc::Global;
 
 /// Its number in the list of kinds, from 1 on.
@@ -38,13 +41,7 @@ fn first(format: Format, kind: u8) -> u8
 {
     match format {
         Format::Older => 1,
-        Format::Present => {
-            if kind < 13 {
-                2
-            } else {
-                1
-            }
-        }
+        Format::Present => { if kind < 13 { 2 } else { 1 } }
     }
 }
 
@@ -67,9 +64,9 @@ fn fields(alloc: Global, format: Format, kind: u8, from: &mut Source) -> Result<
         13 => Ok(Entry::Effect(Effect::read(alloc, format, from)?)),
         14 => Ok(Entry::Write(Write::read(alloc, format, from)?)),
         15 => match format {
-                Format::Older => Err(EntryFault::NotAnEntry),
-                Format::Present => Ok(Entry::Lost(Loss::read(alloc, format, from)?)),
-            },
+            Format::Older => Err(EntryFault::NotAnEntry),
+            Format::Present => Ok(Entry::Lost(Loss::read(alloc, format, from)?)),
+        },
         _ => Err(EntryFault::NotAnEntry),
     }
 }

@@ -6,7 +6,10 @@ use crate::format::Format;
 use crate::later::later;
 use crate::number::worker;
 use crate::source::Source;
-use bosh_base::{Answer, Begin, Call, Effect, End, Failure, Inst, Loss, Name, Owner, Seq, TaskError, TaskKind, TaskOpen, Text, Update, Write};
+use bosh_base::{
+    Answer, Begin, Call, Effect, End, Failure, Inst, Loss, Name, Owner, Seq, TaskError, TaskKind,
+    TaskOpen, Text, Update, Write,
+};
 use std::alloc::Global;
 
 impl Coded for TaskOpen {

@@ -4,7 +4,7 @@ use crate::coded::Coded;
 use crate::fault::EntryFault;
 use crate::format::Format;
 use crate::source::Source;
-use bosh_base::{Failure};
+use bosh_base::Failure;
 use std::alloc::Global;
 
 impl Coded for Failure {
@@ -17,9 +17,18 @@ impl Coded for Failure {
     #[tactic(auto, unfolding(crate::specs::Failure::failure))]
     fn write(&self, out: &mut Vec<u8>) -> Result<(), EntryFault> {
         match self {
-            Failure::Interrupted => { out.push(0)?; Ok(()) }
-            Failure::Call(number) => { out.push(1)?; number.write(out) }
-            Failure::Gone(number) => { out.push(2)?; number.write(out) }
+            Failure::Interrupted => {
+                out.push(0)?;
+                Ok(())
+            }
+            Failure::Call(number) => {
+                out.push(1)?;
+                number.write(out)
+            }
+            Failure::Gone(number) => {
+                out.push(2)?;
+                number.write(out)
+            }
         }
     }
 
@@ -28,7 +37,10 @@ impl Coded for Failure {
         match from.byte()? {
             0 => Ok(Failure::Interrupted),
             1 => Ok(Failure::Call(u64::read(alloc, format, from)?)),
-            2 => match format { Format::Older => Err(EntryFault::NotAnEntry), Format::Present => Ok(Failure::Gone(u64::read(alloc, format, from)?)) },
+            2 => match format {
+                Format::Older => Err(EntryFault::NotAnEntry),
+                Format::Present => Ok(Failure::Gone(u64::read(alloc, format, from)?))
+            },
             _ => Err(EntryFault::NotAnEntry),
         }
     }

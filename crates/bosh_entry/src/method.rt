@@ -4,7 +4,7 @@ use crate::coded::Coded;
 use crate::fault::EntryFault;
 use crate::format::Format;
 use crate::source::Source;
-use bosh_base::{Method};
+use bosh_base::Method;
 use std::alloc::Global;
 
 impl Coded for Method {

@@ -17,9 +17,19 @@ impl Coded for Owner {
     #[tactic(auto, unfolding(crate::specs::Owner::owner))]
     fn write(&self, out: &mut Vec<u8>) -> Result<(), EntryFault> {
         match self {
-            Owner::Instance(inst) => { out.push(0)?; inst.write(out) }
-            Owner::Compile(task, slot) => { out.push(1)?; task.write(out)?; slot.write(out) }
-            Owner::Disk(number) => { out.push(2)?; number.write(out) }
+            Owner::Instance(inst) => {
+                out.push(0)?;
+                inst.write(out)
+            }
+            Owner::Compile(task, slot) => {
+                out.push(1)?;
+                task.write(out)?;
+                slot.write(out)
+            }
+            Owner::Disk(number) => {
+                out.push(2)?;
+                number.write(out)
+            }
         }
     }
 
@@ -27,7 +37,10 @@ impl Coded for Owner {
     fn read(alloc: Global, format: Format, from: &mut Source) -> Result<Self, EntryFault> {
         match from.byte()? {
             0 => Ok(Owner::Instance(Inst::read(alloc, format, from)?)),
-            1 => Ok(Owner::Compile(u64::read(alloc, format, from)?, u32::read(alloc, format, from)?)),
+            1 => Ok(Owner::Compile(
+                u64::read(alloc, format, from)?,
+                u32::read(alloc, format, from)?,
+            )),
             2 => Ok(Owner::Disk(u64::read(alloc, format, from)?)),
             _ => Err(EntryFault::NotAnEntry),
         }

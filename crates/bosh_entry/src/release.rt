@@ -4,7 +4,10 @@ use crate::coded::Coded;
 use crate::fault::EntryFault;
 use crate::format::Format;
 use crate::source::Source;
-use bosh_base::{Digest, JobSpec, LinkSpec, Name, PackageSpec, Prop, PropSpec, Release, Seq, Setting, TemplateSpec, Text};
+use bosh_base::{
+    Digest, JobSpec, LinkSpec, Name, PackageSpec, Prop, PropSpec, Release, Seq, Setting,
+    TemplateSpec, Text,
+};
 use std::alloc::Global;
 
 impl Coded for Setting {
@@ -17,8 +20,14 @@ impl Coded for Setting {
     #[tactic(auto, unfolding(crate::specs::Release::setting))]
     fn write(&self, out: &mut Vec<u8>) -> Result<(), EntryFault> {
         match self {
-            Setting::Scalar(text) => { out.push(0)?; text.write(out) }
-            Setting::Compound => { out.push(1)?; Ok(()) }
+            Setting::Scalar(text) => {
+                out.push(0)?;
+                text.write(out)
+            }
+            Setting::Compound => {
+                out.push(1)?;
+                Ok(())
+            }
         }
     }
 

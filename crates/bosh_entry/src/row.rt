@@ -18,9 +18,18 @@ impl Coded for Role {
     #[tactic(auto, unfolding(crate::specs::Row::role))]
     fn write(&self, out: &mut Vec<u8>) -> Result<(), EntryFault> {
         match self {
-            Role::Active => { out.push(0)?; Ok(()) }
-            Role::New => { out.push(1)?; Ok(()) }
-            Role::Old => { out.push(2)?; Ok(()) }
+            Role::Active => {
+                out.push(0)?;
+                Ok(())
+            }
+            Role::New => {
+                out.push(1)?;
+                Ok(())
+            }
+            Role::Old => {
+                out.push(2)?;
+                Ok(())
+            }
         }
     }
 

@@ -5,7 +5,10 @@ use crate::fault::EntryFault;
 use crate::format::Format;
 use crate::later::later;
 use crate::source::Source;
-use bosh_base::{BuiltKey, CompileRow, DepRow, Digest, DiskWant, Goal, Inst, Key, Make, Name, Orphan, Seq, Snapshot};
+use bosh_base::{
+    BuiltKey, CompileRow, DepRow, Digest, DiskWant, Goal, Inst, Key, Make, Name, Orphan, Seq,
+    Snapshot,
+};
 use std::alloc::Global;
 
 impl Coded for DepRow {

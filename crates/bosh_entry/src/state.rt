@@ -4,7 +4,7 @@ use crate::coded::Coded;
 use crate::fault::EntryFault;
 use crate::format::Format;
 use crate::source::Source;
-use bosh_base::{State};
+use bosh_base::State;
 use std::alloc::Global;
 
 impl Coded for State {
@@ -17,9 +17,18 @@ impl Coded for State {
     #[tactic(auto, unfolding(crate::specs::State::state))]
     fn write(&self, out: &mut Vec<u8>) -> Result<(), EntryFault> {
         match self {
-            State::Running => { out.push(0)?; Ok(()) }
-            State::Stopped => { out.push(1)?; Ok(()) }
-            State::Detached => { out.push(2)?; Ok(()) }
+            State::Running => {
+                out.push(0)?;
+                Ok(())
+            }
+            State::Stopped => {
+                out.push(1)?;
+                Ok(())
+            }
+            State::Detached => {
+                out.push(2)?;
+                Ok(())
+            }
         }
     }
 

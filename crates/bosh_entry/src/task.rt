@@ -18,15 +18,42 @@ impl Coded for TaskKind {
     #[tactic(auto, unfolding(crate::specs::Task::task_kind))]
     fn write(&self, out: &mut Vec<u8>) -> Result<(), EntryFault> {
         match self {
-            TaskKind::Deploy => { out.push(0)?; Ok(()) }
-            TaskKind::Recreate(inst) => { out.push(1)?; inst.write(out) }
-            TaskKind::Start(inst) => { out.push(2)?; inst.write(out) }
-            TaskKind::Stop(inst) => { out.push(3)?; inst.write(out) }
-            TaskKind::DeleteDeployment => { out.push(4)?; Ok(()) }
-            TaskKind::DeleteDisk(number) => { out.push(5)?; number.write(out) }
-            TaskKind::CleanUp => { out.push(6)?; Ok(()) }
-            TaskKind::Fix => { out.push(7)?; Ok(()) }
-            TaskKind::Resolve(inst) => { out.push(8)?; inst.write(out) }
+            TaskKind::Deploy => {
+                out.push(0)?;
+                Ok(())
+            }
+            TaskKind::Recreate(inst) => {
+                out.push(1)?;
+                inst.write(out)
+            }
+            TaskKind::Start(inst) => {
+                out.push(2)?;
+                inst.write(out)
+            }
+            TaskKind::Stop(inst) => {
+                out.push(3)?;
+                inst.write(out)
+            }
+            TaskKind::DeleteDeployment => {
+                out.push(4)?;
+                Ok(())
+            }
+            TaskKind::DeleteDisk(number) => {
+                out.push(5)?;
+                number.write(out)
+            }
+            TaskKind::CleanUp => {
+                out.push(6)?;
+                Ok(())
+            }
+            TaskKind::Fix => {
+                out.push(7)?;
+                Ok(())
+            }
+            TaskKind::Resolve(inst) => {
+                out.push(8)?;
+                inst.write(out)
+            }
         }
     }
 
@@ -40,8 +67,14 @@ impl Coded for TaskKind {
             4 => Ok(TaskKind::DeleteDeployment),
             5 => Ok(TaskKind::DeleteDisk(u64::read(alloc, format, from)?)),
             6 => Ok(TaskKind::CleanUp),
-            7 => match format { Format::Older => Err(EntryFault::NotAnEntry), Format::Present => Ok(TaskKind::Fix) },
-            8 => match format { Format::Older => Err(EntryFault::NotAnEntry), Format::Present => Ok(TaskKind::Resolve(Inst::read(alloc, format, from)?)) },
+            7 => match format {
+                Format::Older => Err(EntryFault::NotAnEntry),
+                Format::Present => Ok(TaskKind::Fix)
+            },
+            8 => match format {
+                Format::Older => Err(EntryFault::NotAnEntry),
+                Format::Present => Ok(TaskKind::Resolve(Inst::read(alloc, format, from)?))
+            },
             _ => Err(EntryFault::NotAnEntry),
         }
     }
@@ -57,10 +90,26 @@ impl Coded for TaskEnd {
     #[tactic(auto, unfolding(crate::specs::Task::task_end))]
     fn write(&self, out: &mut Vec<u8>) -> Result<(), EntryFault> {
         match self {
-            TaskEnd::Finished => { out.push(0)?; Ok(()) }
-            TaskEnd::Fault { n, method, owner } => { out.push(1)?; n.write(out)?; method.write(out)?; owner.write(out) }
-            TaskEnd::Interrupted => { out.push(2)?; Ok(()) }
-            TaskEnd::Gone { n, method, owner } => { out.push(3)?; n.write(out)?; method.write(out)?; owner.write(out) }
+            TaskEnd::Finished => {
+                out.push(0)?;
+                Ok(())
+            }
+            TaskEnd::Fault { n, method, owner } => {
+                out.push(1)?;
+                n.write(out)?;
+                method.write(out)?;
+                owner.write(out)
+            }
+            TaskEnd::Interrupted => {
+                out.push(2)?;
+                Ok(())
+            }
+            TaskEnd::Gone { n, method, owner } => {
+                out.push(3)?;
+                n.write(out)?;
+                method.write(out)?;
+                owner.write(out)
+            }
         }
     }
 
@@ -68,9 +117,20 @@ impl Coded for TaskEnd {
     fn read(alloc: Global, format: Format, from: &mut Source) -> Result<Self, EntryFault> {
         match from.byte()? {
             0 => Ok(TaskEnd::Finished),
-            1 => Ok(TaskEnd::Fault { n: u64::read(alloc, format, from)?, method: Method::read(alloc, format, from)?, owner: Owner::read(alloc, format, from)? }),
+            1 => Ok(TaskEnd::Fault {
+                n: u64::read(alloc, format, from)?,
+                method: Method::read(alloc, format, from)?,
+                owner: Owner::read(alloc, format, from)?,
+            }),
             2 => Ok(TaskEnd::Interrupted),
-            3 => match format { Format::Older => Err(EntryFault::NotAnEntry), Format::Present => Ok(TaskEnd::Gone { n: u64::read(alloc, format, from)?, method: Method::read(alloc, format, from)?, owner: Owner::read(alloc, format, from)? }) },
+            3 => match format {
+                Format::Older => Err(EntryFault::NotAnEntry),
+                Format::Present => Ok(TaskEnd::Gone {
+                    n: u64::read(alloc, format, from)?,
+                    method: Method::read(alloc, format, from)?,
+                    owner: Owner::read(alloc, format, from)?,
+                })
+            },
             _ => Err(EntryFault::NotAnEntry),
         }
     }

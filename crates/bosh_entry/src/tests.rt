@@ -38,10 +38,7 @@ const BODIES: [&[u8]; 15] = [
 
 /// Bodies of the older format, and those of the same entries in the present one.
 const TRANSLATED: [(&[u8], &[u8]); 3] = [
-    (
-        b"\x01\x0a\0\0\0\0\0\0\0\x01",
-        b"\x02\x0a\0\0\0\0\0\0\0\x01",
-    ),
+    (b"\x01\x0a\0\0\0\0\0\0\0\x01", b"\x02\x0a\0\0\0\0\0\0\0\x01"),
     (
         b"\x01\x0c\0\0\0\0\0\0\0\0\0\0\0\0\0\0\0\0\0\0\0\0\0\0\0\0\0\0\0\0\0\0\0\0\x01\0\0\0\0\0\0\0\x01d\0\0\0\0\0\0\0\x01g\0\0\0\0\0\0\0\x05\0\x01\0\0\0\0\0\0\0\x04\0\0\0\0\0\0\0\x02\0\x01\0\0\0\0\0\0\0\0\0\0\0\0\0\0\0\0\0\0\0\0\0\0\0\0\0\0\0\0\0\0\0\0\0\0\0\0\0\0\0\0\0\x01\0\0\0\0\0\0\0\x01\0\x01\0\0\0\0\0\0\0\x01d\x01\0\0\0\0\0\0\0\0\x02",
         b"\x02\x0c\0\0\0\0\0\0\0\0\0\0\0\0\0\0\0\0\0\0\0\0\0\0\0\0\0\0\0\0\0\0\0\0\x01\0\0\0\0\0\0\0\x01d\0\0\0\0\0\0\0\x01g\0\0\0\0\0\0\0\x05\0\x01\0\0\0\0\0\0\0\x04\0\0\0\0\0\0\0\x02\0\x01\0\0\0\0\0\0\0\0\0\0\0\0\0\0\0\0\0\0\0\0\0\0\0\0\0\0\0\0\0\0\0\0\0\0\0\0\0\0\0\0\0\0\x01\0\0\0\0\0\0\0\x01\0\x01\0\0\0\0\0\0\0\x01d\x01\0\0\0\0\0\0\0\0\0\0\x02",
@@ -61,18 +58,37 @@ fn bodies(rt: HostRuntime) -> Result<(), Fail> {
         assert_eq!(rt; written.as_slice(), body);
     }
     for (older, body) in TRANSLATED {
-        let entry = read_old(alloc, older).ok().ok_or("the older body spells an entry")?;
-        let written = write(alloc, &entry).ok().ok_or("the older entry is written")?;
+        let entry = read_old(alloc, older)
+            .ok()
+            .ok_or("the older body spells an entry")?;
+        let written = write(alloc, &entry)
+            .ok()
+            .ok_or("the older entry is written")?;
         assert_eq!(rt; written.as_slice(), body);
     }
     let done = BODIES[9];
     assert!(rt; matches!(read(alloc, done), Ok(Entry::TaskDone(1))));
     assert!(rt; matches!(read(alloc, &done[..9]), Err(EntryFault::NotAnEntry)));
-    assert!(rt; matches!(read(alloc, b"\x02\x0a\0\0\0\0\0\0\0\x01\0"), Err(EntryFault::NotAnEntry)));
-    assert!(rt; matches!(read(alloc, b"\x01\x0a\0\0\0\0\0\0\0\x01"), Err(EntryFault::NotAnEntry)));
+    assert!(rt;
+        matches!(
+            read(alloc, b"\x02\x0a\0\0\0\0\0\0\0\x01\0"),
+            Err(EntryFault::NotAnEntry)
+        )
+    );
+    assert!(rt;
+        matches!(
+            read(alloc, b"\x01\x0a\0\0\0\0\0\0\0\x01"),
+            Err(EntryFault::NotAnEntry)
+        )
+    );
     assert!(rt; matches!(read_old(alloc, done), Err(EntryFault::NotAnEntry)));
     assert!(rt; matches!(read_old(alloc, BODIES[14]), Err(EntryFault::NotAnEntry)));
-    assert!(rt; matches!(read(alloc, b"\x02\x03\x10\0\0\0\0\0\0\0xyz"), Err(EntryFault::NotAnEntry)));
+    assert!(rt;
+        matches!(
+            read(alloc, b"\x02\x03\x10\0\0\0\0\0\0\0xyz"),
+            Err(EntryFault::NotAnEntry)
+        )
+    );
     let lost = read(alloc, BODIES[14]);
     assert!(rt; matches!(lost, Ok(Entry::Lost(Loss { vm: 4, whole: true }))));
     what_is_written_is_read();

@@ -1,4 +1,3 @@
-use Rattle.std.proofs.Common.{◌≡◌, ◌++◌, ◌∷◌, []}
 use Rattle.std.proofs.lemmas.Result.{err_from_is_err_and}
 use Rattle.bosh_entry.specs.List.{items_at}
 use Rattle.bosh_entry.proofs.ListLemmas.{goes_on, ends, is_done}
