@@ -1,0 +1,20 @@
+# run: the program on the first session.  test: the gate.  sessions: every session of sessions/ through the
+# built program.  fmt: lays out all sources.
+.PHONY: run test sessions fmt build
+
+PROGRAM := crates/boshd/out/boshd
+
+run: build
+	@$(PROGRAM) < sessions/first
+
+test:
+	@bash .ci/run
+
+build:
+	@cd crates/boshd && rt run < /dev/null > /dev/null
+
+sessions:
+	@bash sessions/run.sh
+
+fmt:
+	@for crate in crates/*/; do (cd "$$crate" && rt fmt) || exit 1; done

@@ -1,0 +1,4 @@
+pub mod AddressLemmas
+pub mod BytesLemmas
+pub mod NetworkLemmas
+pub mod RangeLemmas

@@ -1,0 +1,4 @@
+pub mod Address
+pub mod Bytes
+pub mod Network
+pub mod Range
