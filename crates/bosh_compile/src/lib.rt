@@ -1,0 +1,10 @@
+//! In which order packages are compiled, when one may be, and the digest of what a compilation gives.
+#![tactic(auto)]
+
+mod fault;
+mod listing;
+mod readiness;
+
+pub use fault::CompileFault;
+pub use listing::built;
+pub use readiness::ready;

@@ -1,0 +1,26 @@
+ghost use Rattle.std.specs.Prelude.{◌≡◌, ◌↔◌, IsTrue, Contains};
+ghost use Rattle.std.specs.List.{list_all};
+ghost use Rattle.bosh_compile.specs.Readiness.{IsReady, is_among};
+
+use bosh_base::{Key, KeyWork};
+
+#[tactic(auto, using(crate::proofs::KeyLemmas::is_among_decides))]
+pub(crate) fn is_among(key: &Key, keys: &[Key]) -> bool
+    ensures test { result ≡ is_among key.now keys.now }
+    ensures member { IsTrue result ↔ Contains keys.now key.now }
+{
+    keys.contains(key)
+}
+
+fn are_among(keys: &[Key], compiled: &[Key]) -> bool
+    ensures { result ≡ list_all (λ key. is_among key compiled.now) keys.now }
+{
+    keys.iter().all(|key| is_among(key, compiled))
+}
+
+/// Whether a work may be compiled: all that it needs is.
+pub fn ready(work: &KeyWork, compiled: &[Key]) -> bool
+    ensures { IsTrue result ↔ IsReady work.now compiled.now }
+{
+    are_among(work.deps.as_slice(), compiled)
+}
