@@ -1,2 +1,4 @@
+pub mod GreatestLemmas
 pub mod KeyLemmas
+pub mod LevelLemmas
 pub mod ListingLemmas

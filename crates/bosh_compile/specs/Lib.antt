@@ -1,2 +1,4 @@
+pub mod CompileOrder
+pub mod Level
 pub mod Listing
 pub mod Readiness

@@ -1,0 +1,127 @@
+-- The level of a work: without a cycle it is one more than the greatest level of a listed dependency.
+use Rattle.std.proofs.Common.{◌≡◌, ◌⊎◌, refl, sym, subst, inl, inr, ⊎_elim, ℕ, zero, suc, ◌+◌, ◌≤◌, ◌<◌, Bool, true, false, cond, leb, List, length, arith}
+use Rattle.std.specs.List.{All, Contains}
+use Rattle.std.specs.List.Sorted.{IsPermutation}
+use Rattle.std.proofs.lemmas.Bool.{cases_lt}
+use Rattle.std.proofs.lemmas.Bool.Decides.{leb_tells}
+use Rattle.std.proofs.lemmas.List.Elements.{All-contains}
+use Rattle.std.proofs.lemmas.List.Sorted.{IsPermutation-sym, Contains-permutation, length_permutation}
+use Rattle.bosh_base.specs.declared.key.KeyWork.{KeyWork}
+use Rattle.bosh_compile.specs.Level.{needs, greatest, one_above, level_within, level, IsGrounded, grounded, IsAcyclic}
+use Rattle.bosh_compile.proofs.KeyLemmas.{is_among_decides}
+use Rattle.bosh_compile.proofs.GreatestLemmas.{All-from_Contains, greatest-le, le-greatest, greatest_reached, how_many, how_many-le-length, how_many_some, how_many_none, how_many-lt}
+
+cond-le : (test : Bool) (m b : ℕ) → (test ≡ true → m ≤ b) → cond test m 0 ≤ b
+cond-le true m b h = h refl
+cond-le false m b h = omega arith
+
+le-cond : (test : Bool) (m : ℕ) → test ≡ true → m ≤ cond test m 0
+le-cond true m h = omega arith
+le-cond false m h = cc
+
+cond_reached : (test : Bool) (m n : ℕ) → n < cond test m 0 → (test ≡ true) × (n < m)
+cond_reached true m n h = (refl, h)
+cond_reached false m n h = absurd (omega arith)
+
+module _ (works : List KeyWork) where
+  module _ (number : KeyWork → ℕ) (work : KeyWork) where
+    pub one_above-le : (b : ℕ) → ((other : KeyWork) → Contains works other → needs work other ≡ true → suc (number other) ≤ b) → one_above works number work ≤ b
+    one_above-le b h = greatest-le (λ other. cond (needs work other) (suc (number other)) 0) works b
+        (All-from_Contains (λ other. cond (needs work other) (suc (number other)) 0 ≤ b) works (λ other c. cond-le (needs work other) (suc (number other)) b (h other c)))
+
+    pub le-one_above : (other : KeyWork) → Contains works other → needs work other ≡ true → suc (number other) ≤ one_above works number work
+    le-one_above other c needed =
+        let a = le-greatest (λ other. cond (needs work other) (suc (number other)) 0) works other c in
+        let b = le-cond (needs work other) (suc (number other)) needed in
+        omega arith
+
+    one_above_reached : (n : ℕ) → n < one_above works number work → (other : KeyWork) × Contains works other × (needs work other ≡ true) × (n ≤ number other)
+    one_above_reached n h =
+        let found = greatest_reached (λ other. cond (needs work other) (suc (number other)) 0) works n h in
+        let at = cond_reached (needs work found.0) (suc (number found.0)) n found.2 in
+        (found.0, found.1, at.0, omega (arith, at.1))
+
+  within-le : (n : ℕ) (work : KeyWork) → level_within works n work ≤ n
+  within-le zero work = omega arith
+  within-le (suc n) work = one_above-le (level_within works n) work (suc n) (λ other c needed. let h = within-le n other in omega arith)
+
+  -- a chain that ends before the n-th dependency does not go on later
+  within_settled : (n : ℕ) (work : KeyWork) → level_within works n work < n → level_within works (suc n) work ≤ level_within works n work
+  within_settled zero work h = absurd (omega arith)
+  within_settled (suc n) work h = one_above-le (level_within works (suc n)) work (level_within works (suc n) work) (λ other c needed.
+      let a = le-one_above (level_within works n) work other c needed in
+      let b = within_settled n other (omega arith) in
+      omega arith)
+
+  shallower : (n : ℕ) (work : KeyWork) → suc n ≤ level_within works (suc n) work → n ≤ level_within works n work
+  shallower n work deep = ⊎_elim
+      (λ (less : level_within works n work < n). let settled = within_settled n work less in absurd (omega arith))
+      (λ (more : n ≤ level_within works n work). more)
+      (cases_lt (level_within works n work) n)
+
+  -- among the works with a chain of n dependencies, some work has no longer one
+  last_deep : (n : ℕ) {work : KeyWork} → IsGrounded works work → Contains works work → n ≤ level_within works n work
+    → (last : KeyWork) × Contains works last × (n ≤ level_within works n last) × (level_within works (suc n) last < suc n)
+  last_deep n (grounded work below) c deep = ⊎_elim
+      (λ (ends : level_within works (suc n) work < suc n). (work, c, deep, ends))
+      (λ (goes_on : suc n ≤ level_within works (suc n) work).
+        let next = one_above_reached (level_within works n) work n (omega arith) in
+        last_deep n (below next.0 next.1 ((is_among_decides next.0.key work.deps).0 next.2)) next.1 next.3)
+      (cases_lt (level_within works (suc n) work) (suc n))
+
+  deep : ℕ → KeyWork → Bool
+  deep n work = leb n (level_within works n work)
+
+  deep_tells : (n : ℕ) (work : KeyWork) → ((deep n work ≡ true) × (n ≤ level_within works n work)) ⊎ ((deep n work ≡ false) × (level_within works n work < n))
+  unfolding deep
+  deep_tells n work = leb_tells n (level_within works n work)
+
+  deep_from : (n : ℕ) (work : KeyWork) → n ≤ level_within works n work → deep n work ≡ true
+  deep_from n work h = ⊎_elim (λ (p : (deep n work ≡ true) × (n ≤ level_within works n work)). p.0) (λ (p : (deep n work ≡ false) × (level_within works n work < n)). absurd (omega (arith, p.1))) (deep_tells n work)
+
+  is_deep : (n : ℕ) (work : KeyWork) → deep n work ≡ true → n ≤ level_within works n work
+  is_deep n work h = ⊎_elim (λ (p : (deep n work ≡ true) × (n ≤ level_within works n work)). p.1) (λ (p : (deep n work ≡ false) × (level_within works n work < n)). let e = p.0 in cc) (deep_tells n work)
+
+  not_deep : (n : ℕ) (work : KeyWork) → level_within works n work < n → deep n work ≡ false
+  not_deep n work h = ⊎_elim (λ (p : (deep n work ≡ true) × (n ≤ level_within works n work)). absurd (omega (arith, p.1))) (λ (p : (deep n work ≡ false) × (level_within works n work < n)). p.0) (deep_tells n work)
+
+  is_shallow : (n : ℕ) (work : KeyWork) → deep n work ≡ false → level_within works n work < n
+  is_shallow n work h = ⊎_elim (λ (p : (deep n work ≡ true) × (n ≤ level_within works n work)). let e = p.0 in cc) (λ (p : (deep n work ≡ false) × (level_within works n work < n)). p.1) (deep_tells n work)
+
+  module _ (acyclic : IsAcyclic works) where
+    fewer_deep : (n : ℕ) (work : KeyWork) → Contains works work → deep n work ≡ true → how_many (deep (suc n)) works < how_many (deep n) works
+    fewer_deep n work c h =
+        let last = last_deep n (All-contains (IsGrounded works) works work acyclic c) c (is_deep n work h) in
+        how_many-lt (deep (suc n)) (deep n) (λ each passes. deep_from n each (shallower n each (is_deep (suc n) each passes)))
+            works last.0 last.1 (not_deep (suc n) last.0 last.3) (deep_from n last.0 last.2)
+
+    -- one work at least drops out with each dependency more
+    deep_works : (n : ℕ) → (how_many (deep n) works + n ≤ length works) ⊎ (how_many (deep n) works ≡ 0)
+    deep_works zero = let h = how_many-le-length (deep 0) works in inl (omega arith)
+    deep_works (suc n) = ⊎_elim
+        (λ (none : how_many (deep (suc n)) works < 1). inr (omega arith))
+        (λ (some : 1 ≤ how_many (deep (suc n)) works).
+          let found = how_many_some (deep (suc n)) works (omega arith) in
+          let deep_before = deep_from n found.0 (shallower n found.0 (is_deep (suc n) found.0 found.2)) in
+          let fewer = fewer_deep n found.0 found.1 deep_before in
+          ⊎_elim
+            (λ (room : how_many (deep n) works + n ≤ length works). inl (omega arith))
+            (λ (none : how_many (deep n) works ≡ 0). absurd (omega arith))
+            (deep_works n))
+        (cases_lt (how_many (deep (suc n)) works) 1)
+
+    level-lt-length : (work : KeyWork) → Contains works work → level_within works (length works) work < length works
+    level-lt-length work c =
+        let none : how_many (deep (length works)) works ≡ 0 = ⊎_elim
+          (λ (room : how_many (deep (length works)) works + length works ≤ length works). omega arith)
+          (λ (none : how_many (deep (length works)) works ≡ 0). none)
+          (deep_works (length works)) in
+        is_shallow (length works) work (how_many_none (deep (length works)) works none work c)
+
+    -- a work stands a level above each listed dependency
+    pub level-lt-level : (work other : KeyWork) → Contains works work → Contains works other → needs work other ≡ true → level works other < level works work
+    unfolding level
+    level-lt-level work other in_work in_other needed =
+        let a = le-one_above (level_within works (length works)) work other in_other needed in
+        let b = within_settled (length works) work (level-lt-length work in_work) in
+        omega arith
