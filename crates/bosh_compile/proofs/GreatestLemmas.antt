@@ -37,8 +37,8 @@ module _ {X : Type 0} where
     greatest_reached (x ∷ xs) n h = ⊎_elim
         (λ (less : n < f x). (x, here x xs, less))
         (λ (more : f x ≤ n).
-          let found = greatest_reached xs n (omega arith) in
-          (found.0, there x xs found.0 found.1, found.2))
+        let found = greatest_reached xs n (omega arith) in
+        (found.0, there x xs found.0 found.1, found.2))
         (cases_lt n (f x))
 
   abbrev pub how_many : (X → Bool) → List X → ℕ
@@ -55,10 +55,10 @@ module _ {X : Type 0} where
   how_many_some p (x ∷ xs) h =
       let Found : Type 0 = (y : X) × Contains (x ∷ xs) y × (p y ≡ true) in
       let at : (b : Bool) → p x ≡ b → 0 < cond b (suc (how_many p xs)) (how_many p xs) → Found = λ b.
-        elim b as (λ b. p x ≡ b → 0 < cond b (suc (how_many p xs)) (how_many p xs) → Found) [
-          true ↦ λ e _. (x, here x xs, e)
+      elim b as (λ b. p x ≡ b → 0 < cond b (suc (how_many p xs)) (how_many p xs) → Found) [
+        | true ↦ λ e _. (x, here x xs, e)
         | false ↦ λ _ more. let found = how_many_some p xs more in (found.0, there x xs found.0 found.1, found.2)
-        ] in
+      ] in
       at (p x) refl h
 
   none_here : (p : X → Bool) (x : X) (xs : List X) → (b : Bool) → p x ≡ b → cond b (suc (how_many p xs)) (how_many p xs) ≡ 0 → (p x ≡ false) × (how_many p xs ≡ 0)
@@ -96,8 +96,8 @@ module _ {X : Type 0} where
     how_many-lt [] v c fails passes = absurd (omega (arith, c.1))
     how_many-lt (x ∷ xs) v c fails passes = ⊎_elim
         (λ (first : Contains (x ∷ []) v).
-          let same : v ≡ x = All-contains (λ y. y ≡ x) (x ∷ []) v (All-cons (λ y. y ≡ x) x [] refl (All-nil (λ y. y ≡ x))) first in
-          at (p x) (q x) (subst (λ y. p y ≡ false) same fails) (subst (λ y. q y ≡ true) same passes))
+        let same : v ≡ x = All-contains (λ y. y ≡ x) (x ∷ []) v (All-cons (λ y. y ≡ x) x [] refl (All-nil (λ y. y ≡ x))) first in
+        at (p x) (q x) (subst (λ y. p y ≡ false) same fails) (subst (λ y. q y ≡ true) same passes))
         (λ (later : Contains xs v). step-lt (p x) (q x) _ _ (implies x) (how_many-lt xs v later fails passes))
         (Contains-append_cases (x ∷ []) xs v c)
       where

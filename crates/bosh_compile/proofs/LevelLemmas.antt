@@ -41,7 +41,7 @@ module _ (works : List KeyWork) where
         let at = cond_reached (needs work found.0) (suc (number found.0)) n found.2 in
         (found.0, found.1, at.0, omega (arith, at.1))
 
-  within-le : (n : ℕ) (work : KeyWork) → level_within works n work ≤ n
+  pub within-le : (n : ℕ) (work : KeyWork) → level_within works n work ≤ n
   within-le zero work = omega arith
   within-le (suc n) work = one_above-le (level_within works n) work (suc n) (λ other c needed. let h = within-le n other in omega arith)
 
@@ -61,12 +61,12 @@ module _ (works : List KeyWork) where
 
   -- among the works with a chain of n dependencies, some work has no longer one
   last_deep : (n : ℕ) {work : KeyWork} → IsGrounded works work → Contains works work → n ≤ level_within works n work
-    → (last : KeyWork) × Contains works last × (n ≤ level_within works n last) × (level_within works (suc n) last < suc n)
+      → (last : KeyWork) × Contains works last × (n ≤ level_within works n last) × (level_within works (suc n) last < suc n)
   last_deep n (grounded work below) c deep = ⊎_elim
       (λ (ends : level_within works (suc n) work < suc n). (work, c, deep, ends))
       (λ (goes_on : suc n ≤ level_within works (suc n) work).
-        let next = one_above_reached (level_within works n) work n (omega arith) in
-        last_deep n (below next.0 next.1 ((is_among_decides next.0.key work.deps).0 next.2)) next.1 next.3)
+      let next = one_above_reached (level_within works n) work n (omega arith) in
+      last_deep n (below next.0 next.1 ((is_among_decides next.0.key work.deps).0 next.2)) next.1 next.3)
       (cases_lt (level_within works (suc n) work) (suc n))
 
   deep : ℕ → KeyWork → Bool
@@ -93,7 +93,7 @@ module _ (works : List KeyWork) where
     fewer_deep n work c h =
         let last = last_deep n (All-contains (IsGrounded works) works work acyclic c) c (is_deep n work h) in
         how_many-lt (deep (suc n)) (deep n) (λ each passes. deep_from n each (shallower n each (is_deep (suc n) each passes)))
-            works last.0 last.1 (not_deep (suc n) last.0 last.3) (deep_from n last.0 last.2)
+        works last.0 last.1 (not_deep (suc n) last.0 last.3) (deep_from n last.0 last.2)
 
     -- one work at least drops out with each dependency more
     deep_works : (n : ℕ) → (how_many (deep n) works + n ≤ length works) ⊎ (how_many (deep n) works ≡ 0)
@@ -101,21 +101,21 @@ module _ (works : List KeyWork) where
     deep_works (suc n) = ⊎_elim
         (λ (none : how_many (deep (suc n)) works < 1). inr (omega arith))
         (λ (some : 1 ≤ how_many (deep (suc n)) works).
-          let found = how_many_some (deep (suc n)) works (omega arith) in
-          let deep_before = deep_from n found.0 (shallower n found.0 (is_deep (suc n) found.0 found.2)) in
-          let fewer = fewer_deep n found.0 found.1 deep_before in
-          ⊎_elim
-            (λ (room : how_many (deep n) works + n ≤ length works). inl (omega arith))
-            (λ (none : how_many (deep n) works ≡ 0). absurd (omega arith))
-            (deep_works n))
+        let found = how_many_some (deep (suc n)) works (omega arith) in
+        let deep_before = deep_from n found.0 (shallower n found.0 (is_deep (suc n) found.0 found.2)) in
+        let fewer = fewer_deep n found.0 found.1 deep_before in
+        ⊎_elim
+        (λ (room : how_many (deep n) works + n ≤ length works). inl (omega arith))
+        (λ (none : how_many (deep n) works ≡ 0). absurd (omega arith))
+        (deep_works n))
         (cases_lt (how_many (deep (suc n)) works) 1)
 
     level-lt-length : (work : KeyWork) → Contains works work → level_within works (length works) work < length works
     level-lt-length work c =
         let none : how_many (deep (length works)) works ≡ 0 = ⊎_elim
-          (λ (room : how_many (deep (length works)) works + length works ≤ length works). omega arith)
-          (λ (none : how_many (deep (length works)) works ≡ 0). none)
-          (deep_works (length works)) in
+        (λ (room : how_many (deep (length works)) works + length works ≤ length works). omega arith)
+        (λ (none : how_many (deep (length works)) works ≡ 0). none)
+        (deep_works (length works)) in
         is_shallow (length works) work (how_many_none (deep (length works)) works none work c)
 
     -- a work stands a level above each listed dependency

@@ -2,3 +2,4 @@ pub mod GreatestLemmas
 pub mod KeyLemmas
 pub mod LevelLemmas
 pub mod ListingLemmas
+pub mod PlacesLemmas

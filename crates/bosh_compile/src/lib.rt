@@ -2,6 +2,7 @@
 #![tactic(auto)]
 
 mod fault;
+mod level;
 mod listing;
 mod readiness;
 

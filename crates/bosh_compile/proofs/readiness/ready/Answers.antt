@@ -10,5 +10,5 @@ pub returns : goal.returns
 returns c =
     let deps = c.as_slice.result.now in
     let decides : Decides c.are_among.result (All (λ key. Contains c.args.compiled.now key) deps) =
-        Decides-at _ _ c.are_among.ensures (are_among_decides deps c.args.compiled.now) in
+    Decides-at _ _ c.are_among.ensures (are_among_decides deps c.args.compiled.now) in
     subst (λ (keys : List Key). Decides c.are_among.result (All (λ key. Contains c.args.compiled.now key) keys)) c.as_slice.ensures decides
