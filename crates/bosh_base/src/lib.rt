@@ -5,6 +5,7 @@
 mod addr;
 mod answer;
 mod call;
+mod cloud;
 mod copyable;
 mod count;
 mod digest;
@@ -40,6 +41,7 @@ mod view;
 pub use addr::{Addr, Band, NetAddr};
 pub use answer::Answer;
 pub use call::Call;
+pub use cloud::{answer_examples, disk_examples, machine_examples};
 pub use copyable::{CopyFault, Copyable, copy_both};
 pub use count::Count;
 pub use digest::Digest;
