@@ -1,4 +1,7 @@
-use crate::{CopyFault, Copyable, Digest, DiskWant, KeyWork, Make, Seq, Spec};
+ghost use Rattle.std.specs.Prelude.{◌≡◌};
+ghost use Rattle.bosh_base.specs.Call.{method_of};
+
+use crate::{CopyFault, Copyable, Digest, DiskWant, KeyWork, Make, Method, Seq, Spec};
 use std::alloc::Global;
 
 /// A call to the cloud or to a machine's agent.
@@ -111,6 +114,38 @@ impl Copyable for Call {
                 work: work.copy(alloc)?,
                 deps: deps.copy(alloc)?,
             }),
+        }
+    }
+}
+
+impl Call {
+    /// What is asked.
+    pub fn method(&self) -> Method
+        ensures { result ≡ method_of self.now }
+    {
+        match self {
+            Call::CreateVm { .. } => Method::CreateVm,
+            Call::DeleteVm { .. } => Method::DeleteVm,
+            Call::HasVm { .. } => Method::HasVm,
+            Call::FindVm { .. } => Method::FindVm,
+            Call::CreateDisk { .. } => Method::CreateDisk,
+            Call::DeleteDisk { .. } => Method::DeleteDisk,
+            Call::HasDisk { .. } => Method::HasDisk,
+            Call::FindDisk { .. } => Method::FindDisk,
+            Call::AttachDisk { .. } => Method::AttachDisk,
+            Call::DetachDisk { .. } => Method::DetachDisk,
+            Call::GetDisks { .. } => Method::GetDisks,
+            Call::Ping { .. } => Method::Ping,
+            Call::GetState { .. } => Method::GetState,
+            Call::Apply { .. } => Method::Apply,
+            Call::Start { .. } => Method::Start,
+            Call::Drain { .. } => Method::Drain,
+            Call::Stop { .. } => Method::Stop,
+            Call::MountDisk { .. } => Method::MountDisk,
+            Call::UnmountDisk { .. } => Method::UnmountDisk,
+            Call::ListDisk { .. } => Method::ListDisk,
+            Call::MigrateDisk { .. } => Method::MigrateDisk,
+            Call::CompilePackage { .. } => Method::CompilePackage,
         }
     }
 }

@@ -52,3 +52,15 @@ impl<T: Copyable> Copyable for Option<T> {
         }
     }
 }
+
+/// Copies two values, so that a caller drops neither where memory is short.
+pub fn copy_both<A: Copyable, B: Copyable>(
+    first: &A,
+    second: &B,
+    alloc: Global,
+) -> Result<(A, B), CopyFault>
+    ensures { IfOk result (λ both. (both.0 ≡ first.now) × (both.1 ≡ second.now)) }
+{
+    let copied = first.copy(alloc)?;
+    Ok((copied, second.copy(alloc)?))
+}

@@ -1,4 +1,4 @@
-use crate::{Answer, CopyFault, Copyable, Entry, Inst, Loss, Reply, Seq, Text};
+use crate::{Answer, CopyFault, Copyable, Entry, Inst, Loss, Reply, Seq, Text, copy_both};
 use std::alloc::Global;
 
 /// Why a site halted.
@@ -66,11 +66,9 @@ pub struct Stop {
 
 impl Copyable for Stop {
     fn copy(&self, alloc: Global) -> Result<Self, CopyFault> {
-        Ok(Stop {
-            kept: self.kept.copy(alloc)?,
-            took: self.took.copy(alloc)?,
-            wrote: self.wrote.copy(alloc)?,
-        })
+        let took = self.took.copy(alloc)?;
+        let (kept, wrote) = copy_both(&self.kept, &self.wrote, alloc)?;
+        Ok(Stop { kept, took, wrote })
     }
 }
 
@@ -107,13 +105,13 @@ pub enum Move {
 impl Copyable for Move {
     fn copy(&self, alloc: Global) -> Result<Self, CopyFault> {
         match self {
-            Move::Note(entry) => Ok(Move::Note(entry.copy(alloc)?)),
-            Move::Did(did) => Ok(Move::Did(did.copy(alloc)?)),
-            Move::Wrote(wrote) => Ok(Move::Wrote(wrote.copy(alloc)?)),
+            Move::Note(entry) => entry.copy(alloc).map(Move::Note),
+            Move::Did(did) => did.copy(alloc).map(Move::Did),
+            Move::Wrote(wrote) => wrote.copy(alloc).map(Move::Wrote),
             Move::Halt(cause) => Ok(Move::Halt(*cause)),
-            Move::Stop(stop) => Ok(Move::Stop(stop.copy(alloc)?)),
+            Move::Stop(stop) => stop.copy(alloc).map(Move::Stop),
             Move::Lost(loss) => Ok(Move::Lost(*loss)),
-            Move::Said(said) => Ok(Move::Said(said.copy(alloc)?)),
+            Move::Said(said) => said.copy(alloc).map(Move::Said),
         }
     }
 }

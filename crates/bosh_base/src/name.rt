@@ -1,9 +1,10 @@
 ghost use Rattle.std.specs.Prelude.{◌≡◌, ◌↔◌, false, IfOk, IsErrOf, OnOk};
+ghost use Rattle.std.specs.List.{list_all};
 ghost use Rattle.bosh_base.specs.Name.{IsName, is_name, is_name_byte};
 ghost use Rattle.bosh_base.specs.declared.name.OfFault.TheVariants.{Memory, NotOne};
 
-use crate::{CopyFault, Copyable, Exact, Seq, Text};
-use std::alloc::{AllocError, AllocFailed, Global};
+use crate::{CopyFault, Copyable, Text};
+use std::alloc::{AllocError, Global};
 use std::cmp::Ordering;
 use std::marker::Model;
 
@@ -45,15 +46,19 @@ fn is_name_byte(byte: u8) -> bool
     byte.is_ascii_alphanumeric() || byte == b'_' || byte == b'-' || byte == b'.'
 }
 
+fn are_name_bytes(bytes: &[u8]) -> bool
+    ensures { result ≡ list_all is_name_byte bytes.now }
+{
+    bytes.iter().all(|byte| is_name_byte(*byte))
+}
+
 fn is_name(bytes: &[u8]) -> bool
     ensures { result ≡ is_name bytes.now }
 {
     match bytes {
         [] => false,
         [first, rest @ ..] => {
-            rest.len() < 64
-                && first.is_ascii_alphanumeric()
-                && rest.iter().all(|byte| is_name_byte(*byte))
+            rest.len() < 64 && first.is_ascii_alphanumeric() && are_name_bytes(rest)
         }
     }
 }
@@ -112,8 +117,7 @@ impl Eq for Name {
 }
 
 impl PartialOrd for Name {
-    ghost use Rattle.std.specs.Prelude.{nat_cmp};
-    ghost use Rattle.std.specs.Ordering.{as_partial_cmp};
+    ghost use Rattle.std.specs.Ordering.{nat_cmp, as_partial_cmp};
     ghost use Rattle.std.specs.Cmp.Lexicographic.{slice_cmp};
     ghost use Rattle.std.specs.Cmp.{partial_order_from_own_ties};
     ghost use Rattle.std.specs.Cmp.Rules.{comparing};
@@ -130,7 +134,7 @@ impl PartialOrd for Name {
 
 /// By their bytes.
 impl Ord for Name {
-    ghost use Rattle.std.specs.Prelude.{nat_cmp};
+    ghost use Rattle.std.specs.Ordering.{nat_cmp};
     ghost use Rattle.std.specs.Cmp.Lexicographic.{slice_cmp};
     ghost use Rattle.std.specs.Cmp.Rules.{comparing};
     ghost use Rattle.std.proofs.Common.{rules};
@@ -146,11 +150,4 @@ impl Ord for Name {
     fn cmp(&self, other: &Self) -> Ordering {
         self.text.cmp(&other.text)
     }
-}
-
-impl Exact for Name {
-    ghost use Rattle.std.proofs.lemmas.Bool.Decides.{Decides-eqb};
-    ghost use Rattle.bosh_base.specs.Exact.{Decides-list};
-
-    ghost exact = { Decides-list Decides-eqb };
 }

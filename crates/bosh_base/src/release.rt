@@ -13,7 +13,7 @@ pub enum Setting {
 impl Copyable for Setting {
     fn copy(&self, alloc: Global) -> Result<Self, CopyFault> {
         match self {
-            Setting::Scalar(text) => Ok(Setting::Scalar(text.copy(alloc)?)),
+            Setting::Scalar(text) => text.copy(alloc).map(Setting::Scalar),
             Setting::Compound => Ok(Setting::Compound),
         }
     }

@@ -22,14 +22,14 @@ impl Copyable for TaskKind {
     fn copy(&self, alloc: Global) -> Result<Self, CopyFault> {
         match self {
             TaskKind::Deploy => Ok(TaskKind::Deploy),
-            TaskKind::Recreate(inst) => Ok(TaskKind::Recreate(inst.copy(alloc)?)),
-            TaskKind::Start(inst) => Ok(TaskKind::Start(inst.copy(alloc)?)),
-            TaskKind::Stop(inst) => Ok(TaskKind::Stop(inst.copy(alloc)?)),
+            TaskKind::Recreate(inst) => inst.copy(alloc).map(TaskKind::Recreate),
+            TaskKind::Start(inst) => inst.copy(alloc).map(TaskKind::Start),
+            TaskKind::Stop(inst) => inst.copy(alloc).map(TaskKind::Stop),
             TaskKind::DeleteDeployment => Ok(TaskKind::DeleteDeployment),
             TaskKind::DeleteDisk(disk) => Ok(TaskKind::DeleteDisk(*disk)),
             TaskKind::CleanUp => Ok(TaskKind::CleanUp),
             TaskKind::Fix => Ok(TaskKind::Fix),
-            TaskKind::Resolve(inst) => Ok(TaskKind::Resolve(inst.copy(alloc)?)),
+            TaskKind::Resolve(inst) => inst.copy(alloc).map(TaskKind::Resolve),
         }
     }
 }
