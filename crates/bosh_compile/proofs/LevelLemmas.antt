@@ -1,5 +1,5 @@
 -- The level of a work: without a cycle it is one more than the greatest level of a listed dependency.
-use Rattle.std.proofs.Common.{◌≡◌, ◌⊎◌, refl, sym, subst, inl, inr, ⊎_elim, ℕ, zero, suc, ◌+◌, ◌≤◌, ◌<◌, Bool, true, false, cond, leb, List, length, arith}
+use Rattle.std.proofs.Common.{◌≡◌, ◌⊎◌, ◌∙◌, ap, refl, sym, inl, inr, ⊎_elim, ℕ, zero, suc, ◌+◌, ◌≤◌, ◌<◌, Bool, true, false, cond, leb, List, length, arith}
 use Rattle.std.specs.List.{All, Contains}
 use Rattle.std.specs.List.Sorted.{IsPermutation}
 use Rattle.std.proofs.lemmas.Bool.{cases_lt}
@@ -125,3 +125,34 @@ module _ (works : List KeyWork) where
         let a = le-one_above (level_within works (length works)) work other in_other needed in
         let b = within_settled (length works) work (level-lt-length work in_work) in
         omega arith
+
+  within-mono : (n : ℕ) (work : KeyWork) → level_within works n work ≤ level_within works (suc n) work
+  within-mono zero work = omega arith
+  within-mono (suc n) work = one_above-le (level_within works n) work (level_within works (suc (suc n)) work) (λ other c needed.
+      let a = within-mono n other in
+      let b = le-one_above (level_within works (suc n)) work other c needed in
+      omega arith)
+
+  -- one more than the greatest level of a listed dependency, 0 where there is none
+  pub level-one_above : IsAcyclic works → (work : KeyWork) → Contains works work → level works work ≡ one_above works (level works) work
+  unfolding level
+  level-one_above acyclic work c =
+      let a = within-mono (length works) work in
+      let b = within_settled (length works) work (level-lt-length acyclic work c) in
+      omega arith
+
+-- the level does not depend on the order of the list
+within-permutation : (xs ys : List KeyWork) → IsPermutation xs ys → (n : ℕ) (work : KeyWork) → level_within xs n work ≤ level_within ys n work
+within-permutation xs ys same zero work = omega arith
+within-permutation xs ys same (suc n) work = one_above-le xs (level_within xs n) work (level_within ys (suc n) work) (λ other c needed.
+    let a = within-permutation xs ys same n other in
+    let b = le-one_above ys (level_within ys n) work other (Contains-permutation xs ys other same c) needed in
+    omega arith)
+
+pub level-permutation : (xs ys : List KeyWork) → IsPermutation xs ys → (work : KeyWork) → level xs work ≡ level ys work
+unfolding level
+level-permutation xs ys same work =
+    let a = within-permutation xs ys same (length xs) work in
+    let b = within-permutation ys xs (IsPermutation-sym xs ys same) (length xs) work in
+    let e : level_within xs (length xs) work ≡ level_within ys (length xs) work = omega arith in
+    e ∙ ap (λ (n : ℕ). level_within ys n work) (sym (length_permutation xs ys same))

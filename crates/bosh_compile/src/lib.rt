@@ -4,8 +4,10 @@
 mod fault;
 mod level;
 mod listing;
+mod order;
 mod readiness;
 
 pub use fault::CompileFault;
 pub use listing::built;
+pub use order::levels;
 pub use readiness::ready;
