@@ -4,10 +4,11 @@ use Rattle.std.specs.List.{All, Contains}
 use Rattle.std.specs.List.Sorted.{IsPermutation}
 use Rattle.std.proofs.lemmas.Bool.{cases_lt}
 use Rattle.std.proofs.lemmas.Bool.Decides.{leb_tells}
-use Rattle.std.proofs.lemmas.List.Elements.{All-contains}
-use Rattle.std.proofs.lemmas.List.Sorted.{IsPermutation-sym, Contains-permutation, length_permutation}
+use Rattle.std.proofs.lemmas.List.Elements.{All-contains, All-weaker}
+use Rattle.std.proofs.lemmas.List.Sorted.{IsPermutation-sym, Contains-permutation, All-permutation}
 use Rattle.bosh_base.specs.declared.key.KeyWork.{KeyWork}
-use Rattle.bosh_compile.specs.Level.{needs, greatest, one_above, level_within, level, IsGrounded, grounded, IsAcyclic}
+use Rattle.bosh_compile.specs.Level.{Needs, needs, greatest, one_above, IsLevel, IsGrounded, grounded, IsAcyclic}
+use Rattle.bosh_compile.specs.Rounds.{level_within, last_level}
 use Rattle.bosh_compile.proofs.KeyLemmas.{is_among_decides}
 use Rattle.bosh_compile.proofs.GreatestLemmas.{All-from_Contains, greatest-le, le-greatest, greatest_reached, how_many, how_many-le-length, how_many_some, how_many_none, how_many-lt}
 
@@ -119,9 +120,9 @@ module _ (works : List KeyWork) where
         is_shallow (length works) work (how_many_none (deep (length works)) works none work c)
 
     -- a work stands a level above each listed dependency
-    pub level-lt-level : (work other : KeyWork) → Contains works work → Contains works other → needs work other ≡ true → level works other < level works work
-    unfolding level
-    level-lt-level work other in_work in_other needed =
+    pub last_level-lt-last_level : (work other : KeyWork) → Contains works work → Contains works other → needs work other ≡ true → last_level works other < last_level works work
+    unfolding last_level
+    last_level-lt-last_level work other in_work in_other needed =
         let a = le-one_above (level_within works (length works)) work other in_other needed in
         let b = within_settled (length works) work (level-lt-length work in_work) in
         omega arith
@@ -133,26 +134,61 @@ module _ (works : List KeyWork) where
       let b = le-one_above (level_within works (suc n)) work other c needed in
       omega arith)
 
-  -- one more than the greatest level of a listed dependency, 0 where there is none
-  pub level-one_above : IsAcyclic works → (work : KeyWork) → Contains works work → level works work ≡ one_above works (level works) work
-  unfolding level
-  level-one_above acyclic work c =
+  last_level-one_above : IsAcyclic works → (work : KeyWork) → Contains works work → last_level works work ≡ one_above works (last_level works) work
+  unfolding last_level
+  last_level-one_above acyclic work c =
       let a = within-mono (length works) work in
       let b = within_settled (length works) work (level-lt-length acyclic work c) in
       omega arith
 
--- the level does not depend on the order of the list
-within-permutation : (xs ys : List KeyWork) → IsPermutation xs ys → (n : ℕ) (work : KeyWork) → level_within xs n work ≤ level_within ys n work
-within-permutation xs ys same zero work = omega arith
-within-permutation xs ys same (suc n) work = one_above-le xs (level_within xs n) work (level_within ys (suc n) work) (λ other c needed.
-    let a = within-permutation xs ys same n other in
-    let b = le-one_above ys (level_within ys n) work other (Contains-permutation xs ys other same c) needed in
-    omega arith)
+  pub last_levels_are_levels : IsAcyclic works → IsLevel works (last_level works)
+  last_levels_are_levels acyclic =
+      All-from_Contains (λ work. last_level works work ≡ one_above works (last_level works) work) works (last_level-one_above acyclic)
 
-pub level-permutation : (xs ys : List KeyWork) → IsPermutation xs ys → (work : KeyWork) → level xs work ≡ level ys work
-unfolding level
-level-permutation xs ys same work =
-    let a = within-permutation xs ys same (length xs) work in
-    let b = within-permutation ys xs (IsPermutation-sym xs ys same) (length xs) work in
-    let e : level_within xs (length xs) work ≡ level_within ys (length xs) work = omega arith in
-    e ∙ ap (λ (n : ℕ). level_within ys n work) (sym (length_permutation xs ys same))
+  -- along a chain that ends, the levels are determined
+  module _ (one other : KeyWork → ℕ) (is_one : IsLevel works one) (is_other : IsLevel works other) where
+    same_at : {work : KeyWork} → IsGrounded works work → Contains works work → one work ≡ other work
+    same_at (grounded work below) c =
+        let at_one = All-contains (λ w. one w ≡ one_above works one w) works work is_one c in
+        let at_other = All-contains (λ w. other w ≡ one_above works other w) works work is_other c in
+        let up = one_above-le one work (one_above works other work) (λ dep listed needed.
+          let same = same_at (below dep listed ((is_among_decides dep.key work.deps).0 needed)) listed in
+          let le = le-one_above other work dep listed needed in
+          omega arith) in
+        let down = one_above-le other work (one_above works one work) (λ dep listed needed.
+          let same = same_at (below dep listed ((is_among_decides dep.key work.deps).0 needed)) listed in
+          let le = le-one_above one work dep listed needed in
+          omega arith) in
+        omega arith
+
+  pub levels_agree : IsAcyclic works → (one other : KeyWork → ℕ) → IsLevel works one → IsLevel works other → All (λ work. one work ≡ other work) works
+  levels_agree acyclic one other is_one is_other =
+      All-from_Contains (λ work. one work ≡ other work) works (λ work c. same_at one other is_one is_other (All-contains (IsGrounded works) works work acyclic c) c)
+
+  -- where a rank falls from each work to those that it needs, no chain goes on for ever
+  module _ (rank : KeyWork → ℕ) (falls : (work other : KeyWork) → Contains works work → Contains works other → Needs work other → rank other < rank work) where
+    grounded_below : (n : ℕ) (work : KeyWork) → Contains works work → rank work < n → IsGrounded works work
+    grounded_below zero work c low = absurd (omega arith)
+    grounded_below (suc n) work c low = grounded work (λ other listed needed.
+        let fall = falls work other c listed needed in
+        grounded_below n other listed (omega arith))
+
+    pub acyclic_by_rank : IsAcyclic works
+    acyclic_by_rank = All-from_Contains (IsGrounded works) works (λ work c. grounded_below (suc (rank work)) work c (omega arith))
+
+-- the order of the list does not matter
+one_above-le-one_above : (xs ys : List KeyWork) → IsPermutation xs ys → (level : KeyWork → ℕ) (work : KeyWork) → one_above xs level work ≤ one_above ys level work
+one_above-le-one_above xs ys same level work =
+    one_above-le xs level work (one_above ys level work) (λ other c needed. le-one_above ys level work other (Contains-permutation xs ys other same c) needed)
+
+pub one_above-permutation : (xs ys : List KeyWork) → IsPermutation xs ys → (level : KeyWork → ℕ) (work : KeyWork) → one_above xs level work ≡ one_above ys level work
+one_above-permutation xs ys same level work =
+    let up = one_above-le-one_above xs ys same level work in
+    let down = one_above-le-one_above ys xs (IsPermutation-sym xs ys same) level work in
+    omega arith
+
+pub levels_moved : (xs ys : List KeyWork) → IsPermutation xs ys → (level : KeyWork → ℕ) → IsLevel xs level → IsLevel ys level
+levels_moved xs ys same level is =
+    All-permutation (λ work. level work ≡ one_above ys level work) xs ys same
+        (All-weaker (λ work. level work ≡ one_above xs level work) (λ work. level work ≡ one_above ys level work)
+          (λ work e. e ∙ one_above-permutation xs ys same level work) xs is)

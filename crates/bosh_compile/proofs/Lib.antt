@@ -3,4 +3,4 @@ pub mod KeyLemmas
 pub mod LevelLemmas
 pub mod ListingLemmas
 pub mod OrderLemmas
-pub mod PlacesLemmas
+pub mod RoundLemmas

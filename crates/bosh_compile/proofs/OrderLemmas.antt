@@ -15,19 +15,20 @@ use Rattle.bosh_base.specs.declared.key.Key.{Key}
 use Rattle.bosh_base.specs.declared.key.KeyWork.{KeyWork}
 use Rattle.bosh_compile.specs.declared.order.Leveled.{Leveled}
 use Rattle.bosh_compile.specs.CompileOrder.{key_cmp, compile_cmp, IsInCompileOrder}
-use Rattle.bosh_compile.specs.Level.{level, IsAcyclic}
+use Rattle.bosh_compile.specs.Level.{IsAcyclic}
+use Rattle.bosh_compile.specs.Rounds.{last_level}
 use Rattle.bosh_compile.specs.Leveled.{with_level, work_of}
 use Rattle.bosh_compile.proofs.KeyLemmas.{is_among_decides}
-use Rattle.bosh_compile.proofs.LevelLemmas.{level-lt-level, level-permutation}
+use Rattle.bosh_compile.proofs.LevelLemmas.{last_levels_are_levels, last_level-lt-last_level, levels_moved}
 
 map-work_of : (level_of : KeyWork → ℕ) (works : List KeyWork) → map work_of (map (with_level level_of) works) ≡ works
 map-work_of level_of [] = refl
 map-work_of level_of (work ∷ works) = ap (λ (rest : List KeyWork). work ∷ rest) (map-work_of level_of works)
 
-pub same_works : (works : List KeyWork) (sorted : List Leveled) → IsPermutation (map (with_level (level works)) works) sorted → IsPermutation works (map work_of sorted)
+pub same_works : (works : List KeyWork) (sorted : List Leveled) → IsPermutation (map (with_level (last_level works)) works) sorted → IsPermutation works (map work_of sorted)
 same_works works sorted moved =
-    subst (λ (xs : List KeyWork). IsPermutation xs (map work_of sorted)) (map-work_of (level works) works)
-        (IsPermutation-map work_of (map (with_level (level works)) works) sorted moved)
+    subst (λ (xs : List KeyWork). IsPermutation xs (map work_of sorted)) (map-work_of (last_level works) works)
+        (IsPermutation-map work_of (map (with_level (last_level works)) works) sorted moved)
 
 -- what a last test decides between equals does not matter
 before_ties : (a b c d : Ordering) → is_lt (ordering_then a (ordering_then b (ordering_then c d))) ≡ false → is_lt (ordering_then a (ordering_then b c)) ≡ false
@@ -43,50 +44,47 @@ not_less : (m n : ℕ) (o : Ordering) → is_lt (ordering_then (nat_cmp m n) o) 
 not_less m n o h = grind (arith, nat_tests)
 
 module _ (works : List KeyWork) (sorted : List Leveled) (deps_cmp : List Key → List Key → Ordering)
-    (moved : IsPermutation (map (with_level (level works)) works) sorted)
+    (moved : IsPermutation (map (with_level (last_level works)) works) sorted)
     (in_order : IsSorted (λ a b. ordering_then (nat_cmp a.level b.level) (ordering_then (slice_cmp nat_cmp a.name b.name) (ordering_then (key_cmp a.key b.key) (deps_cmp a.deps b.deps)))) sorted) where
-  levels_stand : All (λ item. item.level ≡ level (map work_of sorted) (work_of item)) sorted
+  levels_stand : All (λ item. item.level ≡ last_level works (work_of item)) sorted
   levels_stand =
-      let same = same_works works sorted moved in
-      All-permutation (λ item. item.level ≡ level (map work_of sorted) (work_of item)) (map (with_level (level works)) works) sorted moved
-        (All-map (λ item. item.level ≡ level (map work_of sorted) (work_of item)) (with_level (level works)) works
-          (λ k d in'. level-permutation works (map work_of sorted) same (get_or works k d)))
+      All-permutation (λ item. item.level ≡ last_level works (work_of item)) (map (with_level (last_level works)) works) sorted moved
+        (All-map (λ item. item.level ≡ last_level works (work_of item)) (with_level (last_level works)) works (λ k d in'. refl))
 
-  by_compile_cmp : IsSorted (compile_cmp (level (map work_of sorted))) (map work_of sorted)
+  by_compile_cmp : IsSorted (compile_cmp (last_level works)) (map work_of sorted)
   by_compile_cmp = λ k d low in'.
       let e : Leveled = with_level (λ _. 0) d in
       let short : k + 1 < length sorted = subst (λ (n : ℕ). k + 1 < n) (length-map sorted work_of) in' in
       let later = get_or sorted (k + 1) e in
       let earlier = get_or sorted k e in
       let here = before_ties (nat_cmp later.level earlier.level) (slice_cmp nat_cmp later.name earlier.name) (key_cmp later.key earlier.key) (deps_cmp later.deps earlier.deps) (in_order k e low short) in
-      let in_levels : is_lt (compile_cmp (level (map work_of sorted)) (work_of later) (work_of earlier)) ≡ false =
-        subst (λ (n : ℕ). is_lt (ordering_then (nat_cmp n (level (map work_of sorted) (work_of earlier))) (ordering_then (slice_cmp nat_cmp later.name earlier.name) (key_cmp later.key earlier.key))) ≡ false)
+      let in_levels : is_lt (compile_cmp (last_level works) (work_of later) (work_of earlier)) ≡ false =
+        subst (λ (n : ℕ). is_lt (ordering_then (nat_cmp n (last_level works (work_of earlier))) (ordering_then (slice_cmp nat_cmp later.name earlier.name) (key_cmp later.key earlier.key))) ≡ false)
           (levels_stand (k + 1) e short)
           (subst (λ (n : ℕ). is_lt (ordering_then (nat_cmp later.level n) (ordering_then (slice_cmp nat_cmp later.name earlier.name) (key_cmp later.key earlier.key))) ≡ false)
             (levels_stand k e (omega arith)) here) in
-      subst (λ (x : KeyWork). is_lt (compile_cmp (level (map work_of sorted)) x (get_or (map work_of sorted) k d)) ≡ false) (sym (get_or-map work_of sorted (k + 1) e))
-        (subst (λ (x : KeyWork). is_lt (compile_cmp (level (map work_of sorted)) (work_of later) x) ≡ false) (sym (get_or-map work_of sorted k e)) in_levels)
+      subst (λ (x : KeyWork). is_lt (compile_cmp (last_level works) x (get_or (map work_of sorted) k d)) ≡ false) (sym (get_or-map work_of sorted (k + 1) e))
+        (subst (λ (x : KeyWork). is_lt (compile_cmp (last_level works) (work_of later) x) ≡ false) (sym (get_or-map work_of sorted k e)) in_levels)
 
-  levels_rise : IsNonDecreasingBy (level (map work_of sorted)) (map work_of sorted)
-  levels_rise = IsNonDecreasingBy-from_all_adjacent (level (map work_of sorted)) (map work_of sorted) (λ k d in'.
+  levels_rise : IsNonDecreasingBy (last_level works) (map work_of sorted)
+  levels_rise = IsNonDecreasingBy-from_all_adjacent (last_level works) (map work_of sorted) (λ k d in'.
       let later = get_or (map work_of sorted) (k + 1) d in
       let earlier = get_or (map work_of sorted) k d in
-      not_less (level (map work_of sorted) later) (level (map work_of sorted) earlier) (ordering_then (slice_cmp nat_cmp later.name earlier.name) (key_cmp later.key earlier.key)) (by_compile_cmp k d (omega arith) in'))
+      not_less (last_level works later) (last_level works earlier) (ordering_then (slice_cmp nat_cmp later.name earlier.name) (key_cmp later.key earlier.key)) (by_compile_cmp k d (omega arith) in'))
 
   pub is_in_compile_order : IsAcyclic works → IsInCompileOrder (map work_of sorted)
   is_in_compile_order acyclic = record {
+    level = last_level works;
+    is_level = levels_moved works (map work_of sorted) (same_works works sorted moved) (last_level works) (last_levels_are_levels works acyclic);
     ordered = by_compile_cmp;
-    after_dependencies = λ earlier later d before in' needed.
+    after_dependencies = λ i j d before in' needed.
         let ordered = map work_of sorted in
-        let same = same_works works sorted moved in
-        let first = get_or ordered earlier d in
-        let second = get_or ordered later d in
-        let back = IsPermutation-sym works ordered same in
-        let first_listed = Contains-permutation ordered works first back (Contains-get_or ordered earlier d (omega arith)) in
-        let second_listed = Contains-permutation ordered works second back (Contains-get_or ordered later d in') in
-        let below = level-lt-level works acyclic first second first_listed second_listed ((is_among_decides second.key first.deps).1 needed) in
-        let rise = levels_rise earlier later d before in' in
-        let at_first = level-permutation works ordered same first in
-        let at_second = level-permutation works ordered same second in
-        omega (arith, below, rise, at_first, at_second);
+        let back = IsPermutation-sym works ordered (same_works works sorted moved) in
+        let work = get_or ordered i d in
+        let other = get_or ordered j d in
+        let work_listed = Contains-permutation ordered works work back (Contains-get_or ordered i d (omega arith)) in
+        let other_listed = Contains-permutation ordered works other back (Contains-get_or ordered j d in') in
+        let below = last_level-lt-last_level works acyclic work other work_listed other_listed ((is_among_decides other.key work.deps).1 needed) in
+        let rise = levels_rise i j d before in' in
+        omega (arith, below, rise);
   }

@@ -1,12 +1,12 @@
--- The order in which packages are compiled (bosh.io, "Packages": dependencies first; the ties are this project's profile).
-use Rattle.std.specs.Prelude.{◌≤◌, ◌<◌, ℕ, List, length, Contains, slice_index_or}
+-- The order in which packages are compiled (bosh.io, "Packages": a package's dependencies come first; the rest is this project's profile).
+use Rattle.std.specs.Prelude.{ℕ, ◌≤◌, ◌<◌, List, length, slice_index_or}
 use Rattle.std.specs.declared.cmp.Ordering.{Ordering}
 use Rattle.std.specs.Ordering.{nat_cmp, ordering_then}
 use Rattle.std.specs.Cmp.Lexicographic.{slice_cmp}
 use Rattle.std.specs.List.Sorted.{IsSorted}
 use Rattle.bosh_base.specs.declared.key.Key.{Key}
 use Rattle.bosh_base.specs.declared.key.KeyWork.{KeyWork}
-use Rattle.bosh_compile.specs.Level.{level}
+use Rattle.bosh_compile.specs.Level.{Needs, IsLevel}
 
 -- by contents, then os, then version
 abbrev pub key_cmp : Key → Key → Ordering
@@ -14,9 +14,11 @@ key_cmp a b = ordering_then (slice_cmp nat_cmp a.fingerprint.0 b.fingerprint.0) 
 
 -- by level, then name, then key
 abbrev pub compile_cmp : (KeyWork → ℕ) → KeyWork → KeyWork → Ordering
-compile_cmp level_of a b = ordering_then (nat_cmp (level_of a) (level_of b)) (ordering_then (slice_cmp nat_cmp a.name b.name) (key_cmp a.key b.key))
+compile_cmp level a b = ordering_then (nat_cmp (level a) (level b)) (ordering_then (slice_cmp nat_cmp a.name b.name) (key_cmp a.key b.key))
 
--- the works stand by level, then name, then key, and each stands after those that it needs
+-- the works stand by level, then name, then key, and none needs itself or a later one
 pub record IsInCompileOrder (works : List KeyWork) : Type 0 where
-  pub ordered : IsSorted (compile_cmp (level works)) works
-  pub after_dependencies : (earlier later : ℕ) (d : KeyWork) → earlier ≤ later → later < length works → ¬ Contains (slice_index_or works earlier d).deps (slice_index_or works later d).key
+  pub level : KeyWork → ℕ
+  pub is_level : IsLevel works level
+  pub ordered : IsSorted (compile_cmp level) works
+  pub after_dependencies : (i j : ℕ) (d : KeyWork) → i ≤ j → j < length works → ¬ Needs (slice_index_or works i d) (slice_index_or works j d)

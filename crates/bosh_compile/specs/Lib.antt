@@ -2,5 +2,5 @@ pub mod CompileOrder
 pub mod Level
 pub mod Leveled
 pub mod Listing
-pub mod Places
 pub mod Readiness
+pub mod Rounds

@@ -1,6 +1,6 @@
 ghost use Rattle.std.specs.Prelude.{◌≡◌, ℕ, ◌<◌, ◌^◌, length, map, All, IfOk};
-ghost use Rattle.bosh_compile.specs.Level.{level, needs};
-ghost use Rattle.bosh_compile.specs.Places.{level_above, places_needed};
+ghost use Rattle.bosh_compile.specs.Level.{needs};
+ghost use Rattle.bosh_compile.specs.Rounds.{last_level, level_above, places_needed};
 
 use crate::CompileFault;
 use crate::readiness::is_among;
@@ -13,7 +13,7 @@ fn needs(work: &KeyWork, other: &KeyWork) -> bool
     is_among(&other.key, work.deps.as_slice())
 }
 
-#[tactic(auto, using(crate::proofs::PlacesLemmas::places_more_needed, crate::proofs::PlacesLemmas::places_more_other))]
+#[tactic(auto, using(crate::proofs::RoundLemmas::places_more_needed, crate::proofs::RoundLemmas::places_more_other))]
 fn places_needed(
     alloc: Global,
     work: &KeyWork,
@@ -70,7 +70,7 @@ fn next_levels(
 
 /// The level of each work: each round follows one dependency more, and no chain has more works than the list.
 pub(crate) fn levels_of(alloc: Global, works: &[KeyWork]) -> Result<Seq<usize>, CompileFault>
-    ensures { IfOk result (λ levels. levels ≡ map (level works.now) works.now) }
+    ensures { IfOk result (λ levels. levels ≡ map (last_level works.now) works.now) }
 {
     let needed = all_places_needed(alloc, works)?;
     let mut levels = Seq::from(vec![in alloc; 0; works.len()]?);

@@ -1,8 +1,9 @@
 ghost use Rattle.std.specs.Prelude.{◌≡◌, map, IfOk};
 ghost use Rattle.std.specs.List.Sorted.{IsPermutation};
 ghost use Rattle.bosh_compile.specs.CompileOrder.{IsInCompileOrder};
-ghost use Rattle.bosh_compile.specs.Level.{IsAcyclic, level};
+ghost use Rattle.bosh_compile.specs.Level.{IsAcyclic};
 ghost use Rattle.bosh_compile.specs.Leveled.{with_level, work_of};
+ghost use Rattle.bosh_compile.specs.Rounds.{last_level};
 
 use crate::CompileFault;
 use crate::level::levels_of;
@@ -19,7 +20,7 @@ struct Leveled {
 }
 
 fn with_levels(alloc: Global, works: &[KeyWork]) -> Result<Vec<Leveled>, CompileFault>
-    ensures { IfOk result (λ all. all.items ≡ map (with_level (level works.now)) works.now) }
+    ensures { IfOk result (λ all. all.items ≡ map (with_level (last_level works.now)) works.now) }
 {
     let levels = levels_of(alloc, works)?;
     let levels = levels.as_slice();

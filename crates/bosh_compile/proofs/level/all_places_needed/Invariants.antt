@@ -1,5 +1,5 @@
 use Rattle.std.proofs.Common.{◌≡◌, map, take}
-use Rattle.bosh_compile.specs.Places.{places_needed}
+use Rattle.bosh_compile.specs.Rounds.{places_needed}
 use Rattle.bosh_compile.proofs.level.all_places_needed.Given as goal
 
 -- the works so far have their places

@@ -1,5 +1,5 @@
 use Rattle.std.proofs.Common.{ℕ, suc, get_or, arith}
-use Rattle.bosh_compile.proofs.PlacesLemmas.{greatest_more}
+use Rattle.bosh_compile.proofs.RoundLemmas.{greatest_more}
 use Rattle.bosh_compile.proofs.level.level_above.Goals as goal
 
 pub loop-place-preserved : goal.loop-place-preserved

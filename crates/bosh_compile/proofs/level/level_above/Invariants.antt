@@ -1,5 +1,5 @@
 use Rattle.std.proofs.Common.{◌≡◌, take}
-use Rattle.bosh_compile.specs.Places.{level_above}
+use Rattle.bosh_compile.specs.Rounds.{level_above}
 use Rattle.bosh_compile.proofs.level.level_above.Given as goal
 
 -- the places so far give it

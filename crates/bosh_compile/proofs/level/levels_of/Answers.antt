@@ -1,6 +1,6 @@
 use Rattle.std.proofs.Common.{◌≡◌, ◌∙◌, ap, map, length, ℕ, arith}
-use Rattle.bosh_compile.specs.Level.{level_within, level}
-use Rattle.bosh_compile.proofs.PlacesLemmas.{no_levels, places_fit, levels_fit, levels_more}
+use Rattle.bosh_compile.specs.Rounds.{level_within, last_level}
+use Rattle.bosh_compile.proofs.RoundLemmas.{no_levels, places_fit, levels_fit, levels_more}
 use Rattle.bosh_compile.proofs.level.levels_of.Goals as goal
 
 pub next_levels-requires-clause-in_range : goal.next_levels-requires-clause-in_range
@@ -14,7 +14,7 @@ next_levels-requires-clause-fits c =
     (c.as_slice-in-loop-round.ensures ∙ c.loop-round.invariant) (c.as_slice.ensures ∙ c.in_ok-needed.ensures) (omega arith)
 
 pub returns : goal.returns
-unfolding level
+unfolding last_level
 returns c =
     let all : c.loop-round._round ≡ length c.args.works.now = omega arith in
     c.loop-round.invariant ∙ ap (λ (n : ℕ). map (level_within c.args.works.now n) c.args.works.now) all

@@ -1,5 +1,5 @@
 use Rattle.std.proofs.Common.{◌≡◌, map}
-use Rattle.bosh_compile.specs.Level.{level_within}
+use Rattle.bosh_compile.specs.Rounds.{level_within}
 use Rattle.bosh_compile.proofs.level.levels_of.Given as goal
 
 -- each level is right as far as dependencies were followed

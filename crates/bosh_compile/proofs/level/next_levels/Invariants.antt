@@ -1,5 +1,5 @@
 use Rattle.std.proofs.Common.{◌≡◌, map, take}
-use Rattle.bosh_compile.specs.Places.{level_above}
+use Rattle.bosh_compile.specs.Rounds.{level_above}
 use Rattle.bosh_compile.proofs.level.next_levels.Given as goal
 
 -- the works so far have their next levels

@@ -1,5 +1,5 @@
 use Rattle.std.proofs.Common.{◌≡◌, take}
-use Rattle.bosh_compile.specs.Places.{places_needed}
+use Rattle.bosh_compile.specs.Rounds.{places_needed}
 use Rattle.bosh_compile.proofs.level.places_needed.Given as goal
 
 -- the places among the works so far

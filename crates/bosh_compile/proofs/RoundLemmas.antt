@@ -5,9 +5,9 @@ use Rattle.std.proofs.Math.Seq.{get_or-append_seam}
 use Rattle.std.proofs.lemmas.List.{take_more, length-map, get_or-map}
 use Rattle.std.proofs.lemmas.List.Elements.{All-nil, All-cons, All-weaker, All-map, All-from_get_or}
 use Rattle.bosh_base.specs.declared.key.KeyWork.{KeyWork}
-use Rattle.bosh_compile.specs.Level.{needs, greatest, one_above, level_within}
+use Rattle.bosh_compile.specs.Level.{needs, greatest, one_above}
 use Rattle.bosh_compile.proofs.LevelLemmas.{within-le}
-use Rattle.bosh_compile.specs.Places.{places_needed, level_above}
+use Rattle.bosh_compile.specs.Rounds.{level_within, places_needed, level_above}
 
 greatest-push : {X : Type 0} (f : X → ℕ) (xs : List X) (x : X) → greatest f (xs ++ x ∷ []) ≡ max (f x) (greatest f xs)
 greatest-push f [] x = refl
