@@ -7,7 +7,7 @@ use Rattle.std.proofs.lemmas.Bool.Decides.{leb_tells}
 use Rattle.std.proofs.lemmas.List.Elements.{All-contains, All-weaker}
 use Rattle.std.proofs.lemmas.List.Sorted.{IsPermutation-sym, Contains-permutation, All-permutation}
 use Rattle.bosh_base.specs.declared.key.KeyWork.{KeyWork}
-use Rattle.bosh_compile.specs.Level.{Needs, needs, greatest, one_above, IsLevel, IsGrounded, grounded, IsAcyclic}
+use Rattle.bosh_compile.specs.Level.{Needs, needs, greatest, one_above, IsLevel, IsGrounded, grounded, IsAcyclic, Falls}
 use Rattle.bosh_compile.specs.Rounds.{level_within, last_level}
 use Rattle.bosh_compile.proofs.KeyLemmas.{is_among_decides}
 use Rattle.bosh_compile.proofs.GreatestLemmas.{All-from_Contains, greatest-le, le-greatest, greatest_reached, how_many, how_many-le-length, how_many_some, how_many_none, how_many-lt}
@@ -152,13 +152,13 @@ module _ (works : List KeyWork) where
         let at_one = All-contains (λ w. one w ≡ one_above works one w) works work is_one c in
         let at_other = All-contains (λ w. other w ≡ one_above works other w) works work is_other c in
         let up = one_above-le one work (one_above works other work) (λ dep listed needed.
-          let same = same_at (below dep listed ((is_among_decides dep.key work.deps).0 needed)) listed in
-          let le = le-one_above other work dep listed needed in
-          omega arith) in
+        let same = same_at (below dep listed ((is_among_decides dep.key work.deps).0 needed)) listed in
+        let le = le-one_above other work dep listed needed in
+        omega arith) in
         let down = one_above-le other work (one_above works one work) (λ dep listed needed.
-          let same = same_at (below dep listed ((is_among_decides dep.key work.deps).0 needed)) listed in
-          let le = le-one_above one work dep listed needed in
-          omega arith) in
+        let same = same_at (below dep listed ((is_among_decides dep.key work.deps).0 needed)) listed in
+        let le = le-one_above one work dep listed needed in
+        omega arith) in
         omega arith
 
   pub levels_agree : IsAcyclic works → (one other : KeyWork → ℕ) → IsLevel works one → IsLevel works other → All (λ work. one work ≡ other work) works
@@ -166,7 +166,7 @@ module _ (works : List KeyWork) where
       All-from_Contains (λ work. one work ≡ other work) works (λ work c. same_at one other is_one is_other (All-contains (IsGrounded works) works work acyclic c) c)
 
   -- where a rank falls from each work to those that it needs, no chain goes on for ever
-  module _ (rank : KeyWork → ℕ) (falls : (work other : KeyWork) → Contains works work → Contains works other → Needs work other → rank other < rank work) where
+  module _ (rank : KeyWork → ℕ) (falls : Falls rank works) where
     grounded_below : (n : ℕ) (work : KeyWork) → Contains works work → rank work < n → IsGrounded works work
     grounded_below zero work c low = absurd (omega arith)
     grounded_below (suc n) work c low = grounded work (λ other listed needed.
@@ -190,5 +190,5 @@ one_above-permutation xs ys same level work =
 pub levels_moved : (xs ys : List KeyWork) → IsPermutation xs ys → (level : KeyWork → ℕ) → IsLevel xs level → IsLevel ys level
 levels_moved xs ys same level is =
     All-permutation (λ work. level work ≡ one_above ys level work) xs ys same
-        (All-weaker (λ work. level work ≡ one_above xs level work) (λ work. level work ≡ one_above ys level work)
-          (λ work e. e ∙ one_above-permutation xs ys same level work) xs is)
+    (All-weaker (λ work. level work ≡ one_above xs level work) (λ work. level work ≡ one_above ys level work)
+    (λ work e. e ∙ one_above-permutation xs ys same level work) xs is)

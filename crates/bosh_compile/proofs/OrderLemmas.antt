@@ -28,7 +28,7 @@ map-work_of level_of (work ∷ works) = ap (λ (rest : List KeyWork). work ∷ r
 pub same_works : (works : List KeyWork) (sorted : List Leveled) → IsPermutation (map (with_level (last_level works)) works) sorted → IsPermutation works (map work_of sorted)
 same_works works sorted moved =
     subst (λ (xs : List KeyWork). IsPermutation xs (map work_of sorted)) (map-work_of (last_level works) works)
-        (IsPermutation-map work_of (map (with_level (last_level works)) works) sorted moved)
+    (IsPermutation-map work_of (map (with_level (last_level works)) works) sorted moved)
 
 -- what a last test decides between equals does not matter
 before_ties : (a b c d : Ordering) → is_lt (ordering_then a (ordering_then b (ordering_then c d))) ≡ false → is_lt (ordering_then a (ordering_then b c)) ≡ false
@@ -49,7 +49,7 @@ module _ (works : List KeyWork) (sorted : List Leveled) (deps_cmp : List Key →
   levels_stand : All (λ item. item.level ≡ last_level works (work_of item)) sorted
   levels_stand =
       All-permutation (λ item. item.level ≡ last_level works (work_of item)) (map (with_level (last_level works)) works) sorted moved
-        (All-map (λ item. item.level ≡ last_level works (work_of item)) (with_level (last_level works)) works (λ k d in'. refl))
+      (All-map (λ item. item.level ≡ last_level works (work_of item)) (with_level (last_level works)) works (λ k d in'. refl))
 
   by_compile_cmp : IsSorted (compile_cmp (last_level works)) (map work_of sorted)
   by_compile_cmp = λ k d low in'.
@@ -59,12 +59,12 @@ module _ (works : List KeyWork) (sorted : List Leveled) (deps_cmp : List Key →
       let earlier = get_or sorted k e in
       let here = before_ties (nat_cmp later.level earlier.level) (slice_cmp nat_cmp later.name earlier.name) (key_cmp later.key earlier.key) (deps_cmp later.deps earlier.deps) (in_order k e low short) in
       let in_levels : is_lt (compile_cmp (last_level works) (work_of later) (work_of earlier)) ≡ false =
-        subst (λ (n : ℕ). is_lt (ordering_then (nat_cmp n (last_level works (work_of earlier))) (ordering_then (slice_cmp nat_cmp later.name earlier.name) (key_cmp later.key earlier.key))) ≡ false)
-          (levels_stand (k + 1) e short)
-          (subst (λ (n : ℕ). is_lt (ordering_then (nat_cmp later.level n) (ordering_then (slice_cmp nat_cmp later.name earlier.name) (key_cmp later.key earlier.key))) ≡ false)
-            (levels_stand k e (omega arith)) here) in
+      subst (λ (n : ℕ). is_lt (ordering_then (nat_cmp n (last_level works (work_of earlier))) (ordering_then (slice_cmp nat_cmp later.name earlier.name) (key_cmp later.key earlier.key))) ≡ false)
+      (levels_stand (k + 1) e short)
+      (subst (λ (n : ℕ). is_lt (ordering_then (nat_cmp later.level n) (ordering_then (slice_cmp nat_cmp later.name earlier.name) (key_cmp later.key earlier.key))) ≡ false)
+      (levels_stand k e (omega arith)) here) in
       subst (λ (x : KeyWork). is_lt (compile_cmp (last_level works) x (get_or (map work_of sorted) k d)) ≡ false) (sym (get_or-map work_of sorted (k + 1) e))
-        (subst (λ (x : KeyWork). is_lt (compile_cmp (last_level works) (work_of later) x) ≡ false) (sym (get_or-map work_of sorted k e)) in_levels)
+      (subst (λ (x : KeyWork). is_lt (compile_cmp (last_level works) (work_of later) x) ≡ false) (sym (get_or-map work_of sorted k e)) in_levels)
 
   levels_rise : IsNonDecreasingBy (last_level works) (map work_of sorted)
   levels_rise = IsNonDecreasingBy-from_all_adjacent (last_level works) (map work_of sorted) (λ k d in'.

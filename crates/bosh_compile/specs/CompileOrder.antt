@@ -16,9 +16,13 @@ key_cmp a b = ordering_then (slice_cmp nat_cmp a.fingerprint.0 b.fingerprint.0) 
 abbrev pub compile_cmp : (KeyWork → ℕ) → KeyWork → KeyWork → Ordering
 compile_cmp level a b = ordering_then (nat_cmp (level a) (level b)) (ordering_then (slice_cmp nat_cmp a.name b.name) (key_cmp a.key b.key))
 
--- the works stand by level, then name, then key, and none needs itself or a later one
+-- each work stands after those that it needs: none needs itself or a later one
+abbrev pub AfterDependencies : List KeyWork → Type 0
+AfterDependencies works = (i j : ℕ) (d : KeyWork) → i ≤ j → j < length works → ¬ Needs (slice_index_or works i d) (slice_index_or works j d)
+
+-- the works stand by level, then name, then key, and each after those that it needs
 pub record IsInCompileOrder (works : List KeyWork) : Type 0 where
   pub level : KeyWork → ℕ
   pub is_level : IsLevel works level
   pub ordered : IsSorted (compile_cmp level) works
-  pub after_dependencies : (i j : ℕ) (d : KeyWork) → i ≤ j → j < length works → ¬ Needs (slice_index_or works i d) (slice_index_or works j d)
+  pub after_dependencies : AfterDependencies works

@@ -1,5 +1,5 @@
 -- How deep the dependencies of a work go among the works of a list (this project's profile of the order of compilation).
-use Rattle.std.specs.Prelude.{◌≡◌, ℕ, suc, max, Bool, if◌then◌else◌, List, [], ◌∷◌, All, Contains}
+use Rattle.std.specs.Prelude.{◌≡◌, ℕ, suc, ◌<◌, max, Bool, if◌then◌else◌, List, [], ◌∷◌, All, Contains}
 use Rattle.bosh_base.specs.declared.key.KeyWork.{KeyWork}
 use Rattle.bosh_compile.specs.Readiness.{is_among}
 
@@ -31,3 +31,7 @@ pub data IsGrounded (works : List KeyWork) : KeyWork → Type 0 where
 -- the dependencies have no cycle
 abbrev pub IsAcyclic : List KeyWork → Type 0
 IsAcyclic works = All (IsGrounded works) works
+
+-- the rank falls from each work to each listed one that it needs
+abbrev pub Falls : (KeyWork → ℕ) → List KeyWork → Type 0
+Falls rank works = (work other : KeyWork) → Contains works work → Contains works other → Needs work other → rank other < rank work

@@ -2,12 +2,14 @@
 #![tactic(auto)]
 
 mod fault;
+mod laws;
 mod level;
 mod listing;
 mod order;
 mod readiness;
 
 pub use fault::CompileFault;
+pub use laws::{levels_are_determined, rank_shows_no_cycle};
 pub use listing::built;
 pub use order::levels;
 pub use readiness::ready;

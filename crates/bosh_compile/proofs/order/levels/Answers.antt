@@ -22,4 +22,4 @@ returns-clause-ordered c =
     let sorted = c.sort.new.self.items in
     let moved = subst (λ (all : List Leveled). IsPermutation all sorted) c.in_ok-all.ensures c.in_ok-sort.ensures.permutation in
     IfOk-weaker c.works_of.result (λ ordered. ordered ≡ map work_of sorted) IsInCompileOrder
-        (λ ordered is. subst IsInCompileOrder (sym is) (is_in_compile_order works sorted (slice_cmp key_cmp) moved c.in_ok-sort.ensures.sorted c.requires)) c.works_of.ensures
+    (λ ordered is. subst IsInCompileOrder (sym is) (is_in_compile_order works sorted (slice_cmp key_cmp) moved c.in_ok-sort.ensures.sorted c.requires)) c.works_of.ensures
