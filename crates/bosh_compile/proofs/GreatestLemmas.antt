@@ -12,6 +12,12 @@ module _ {X : Type 0} where
   pub there : (x : X) (xs : List X) (y : X) → Contains xs y → Contains (x ∷ xs) y
   there x xs y c = Contains-append_right (x ∷ []) xs y c
 
+  pub contains_cases : (x : X) (xs : List X) (y : X) → Contains (x ∷ xs) y → (y ≡ x) ⊎ Contains xs y
+  contains_cases x xs y c = ⊎_elim
+      (λ (first : Contains (x ∷ []) y). inl (All-contains (λ z. z ≡ x) (x ∷ []) y (All-cons (λ z. z ≡ x) x [] refl (All-nil (λ z. z ≡ x))) first))
+      (λ (later : Contains xs y). inr later)
+      (Contains-append_cases (x ∷ []) xs y c)
+
   pub All-from_Contains : (P : X → Type 0) (xs : List X) → ((x : X) → Contains xs x → P x) → All P xs
   All-from_Contains P xs h = λ k d in'. h (get_or xs k d) (Contains-get_or xs k d in')
 
@@ -95,11 +101,9 @@ module _ {X : Type 0} where
     pub how_many-lt : (xs : List X) (v : X) → Contains xs v → p v ≡ false → q v ≡ true → how_many p xs < how_many q xs
     how_many-lt [] v c fails passes = absurd (omega (arith, c.1))
     how_many-lt (x ∷ xs) v c fails passes = ⊎_elim
-        (λ (first : Contains (x ∷ []) v).
-        let same : v ≡ x = All-contains (λ y. y ≡ x) (x ∷ []) v (All-cons (λ y. y ≡ x) x [] refl (All-nil (λ y. y ≡ x))) first in
-        at (p x) (q x) (subst (λ y. p y ≡ false) same fails) (subst (λ y. q y ≡ true) same passes))
+        (λ (same : v ≡ x). at (p x) (q x) (subst (λ y. p y ≡ false) same fails) (subst (λ y. q y ≡ true) same passes))
         (λ (later : Contains xs v). step-lt (p x) (q x) _ _ (implies x) (how_many-lt xs v later fails passes))
-        (Contains-append_cases (x ∷ []) xs v c)
+        (contains_cases x xs v c)
       where
         at : (a b : Bool) → a ≡ false → b ≡ true → cond a (suc (how_many p xs)) (how_many p xs) < cond b (suc (how_many q xs)) (how_many q xs)
         at true b e f = cc

@@ -1,13 +1,11 @@
-ghost use Rattle.std.specs.Prelude.{◌≡◌, ◌↔◌, IsTrue, Contains};
+ghost use Rattle.std.specs.Prelude.{◌≡◌, ◌↔◌, IsTrue};
 ghost use Rattle.std.specs.List.{list_all};
 ghost use Rattle.bosh_compile.specs.Readiness.{IsReady, is_among};
 
 use bosh_base::{Key, KeyWork};
 
-#[tactic(auto, using(crate::proofs::KeyLemmas::is_among_decides))]
 pub(crate) fn is_among(key: &Key, keys: &[Key]) -> bool
-    ensures test { result ≡ is_among key.now keys.now }
-    ensures member { IsTrue result ↔ Contains keys.now key.now }
+    ensures { result ≡ is_among key.now keys.now }
 {
     keys.contains(key)
 }
