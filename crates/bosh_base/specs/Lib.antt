@@ -6,3 +6,5 @@ pub mod Exact
 pub mod History
 pub mod Method
 pub mod Name
+pub mod Plan
+pub mod Version
