@@ -188,8 +188,8 @@ IsReadTo-last text rest part k n numbers r room first number h =
     let count : length ps ≡ k + 1 = length-append r.done (first_part rest ∷ []) ∙ ap (λ m. m + 1) r.count in
     let size : k + 1 ≡ length (map (digits_value 10) ps) = sym (length-map ps (digits_value 10) ∙ count) in
     numbers_in_yes ps (set numbers k n) (omega arith) (all_with_one r.done (first_part rest) r.are_numbers one)
-        (put_number r.done k n numbers r.count room r.read ∙ with_one r.done (first_part rest) n (replicate (8 - (k + 1)) 0) value
-        ∙ ap (λ m. map (digits_value 10) ps ++ replicate (8 - m) 0) size)
+    (put_number r.done k n numbers r.count room r.read ∙ with_one r.done (first_part rest) n (replicate (8 - (k + 1)) 0) value
+    ∙ ap (λ m. map (digits_value 10) ps ++ replicate (8 - m) 0) size)
     ∙ ap numbers_in (sym whole)
 
 pub IsReadTo-bad : (text rest part : List ℕ) (k : ℕ) (numbers : List ℕ) (others : Option (List ℕ)) → IsReadTo text rest k numbers → part ≡ first_part rest → number_in part ≡ None → after 46 rest ≡ others → None ≡ numbers_in (parts text)

@@ -129,12 +129,9 @@ pub fn version_order_is_total()
     ensures exchanged { (a b : List ℕ) → version_order b a ≡ option_map ordering_reverse (version_order a b) }
     ensures chain { (a b c : List ℕ) → version_order a b ≡ Some Less → version_order b c ≡ Some Less → version_order a c ≡ Some Less }
     ensures alike { (a b c : List ℕ) → version_order a b ≡ Some Equal → version_order a c ≡ version_order b c }
-{
-}
+{}
 
 /// What compares equal is one version: the same eight numbers, counting missing ones as 0, and the same N.
 pub fn equal_versions_are_one()
-    ensures { (a b : List ℕ) → IsVersion a → IsVersion b
-        → (version_order a b ≡ Some Equal) ↔ ((numbers_of a ≡ numbers_of b) × (dev_of a ≡ dev_of b)) }
-{
-}
+    ensures { (a b : List ℕ) → (version_order a b ≡ Some Equal) ↔ (IsVersion a × IsVersion b × (numbers_of a ≡ numbers_of b) × (dev_of a ≡ dev_of b)) }
+{}
