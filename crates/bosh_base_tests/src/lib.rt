@@ -1,0 +1,7 @@
+//! Tests of the plain types. They stand apart, since a crate with tests is proved twice.
+#![tactic(auto)]
+
+#[cfg(test)]
+mod names;
+#[cfg(test)]
+mod copies;
