@@ -1,6 +1,9 @@
-pub mod Faults
+pub mod Contents
 pub mod Failing
-pub mod Source
-pub mod MemSource
-pub mod Sink
+pub mod Faults
+pub mod Keeper
 pub mod MemSink
+pub mod MemSource
+pub mod Rigged
+pub mod Sink
+pub mod Source

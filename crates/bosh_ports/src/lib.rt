@@ -2,16 +2,31 @@
 //! and a gate. Each has a stand-in in memory, and those that a program starts on have a thin adapter.
 #![tactic(auto)]
 
+mod bodies;
+mod contents;
+mod copy;
 mod failing;
 mod gate;
+mod keeper;
+mod mem_keeper;
 mod mem_sink;
 mod mem_source;
+mod paths;
 mod piece;
+mod rig;
+mod rigged;
 mod sink;
 mod source;
 
+pub use bodies::Bodies;
+pub use copy::CopyFault;
 pub use gate::{Gate, OpenGate};
+pub use keeper::{KeepFault, Keeper};
+pub use mem_keeper::MemKeeper;
 pub use mem_sink::MemSink;
 pub use mem_source::MemSource;
+pub use paths::Paths;
+pub use rig::{Armed, Rig};
+pub use rigged::Rigged;
 pub use sink::{Put, Sink};
 pub use source::{Source, Taken};
