@@ -5,7 +5,7 @@ ghost use Rattle.bosh_ports.specs.Contents.{contents};
 
 use crate::CopyFault;
 use crate::contents::copy_of;
-use std::alloc::Global;
+use std::alloc::{AllocError, Global};
 use std::marker::Model;
 use std::slice::Iter;
 
@@ -61,6 +61,14 @@ impl Paths {
             Ok(()) => Ok(()),
             Err(refused) => Err(refused.value),
         }
+    }
+
+    /// Puts a path at the end.
+    pub(crate) fn add(&mut self, path: Vec<u8>) -> Result<(), AllocError>
+        ensures { OnOk result (self.new ≡ self.old ++ path.items ∷ []) }
+    {
+        self.items.push(path)?;
+        Ok(())
     }
 
     pub fn as_slice(&self) -> &[Vec<u8>]
