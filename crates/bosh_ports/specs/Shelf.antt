@@ -37,6 +37,10 @@ is_below folder path = starts_with nat_eq path (folder ++ 47 ∷ [])
 abbrev pub has_line_feed : List ℕ → Bool
 has_line_feed path = list_any (λ byte. byte == 10) path
 
+-- no line feed stands in any of these paths
+abbrev pub AllOneLine : List (Vec ℕ Global) → Type 0
+AllOneLine paths = All (λ path. has_line_feed path.items ≡ false) paths
+
 -- the paths below a folder, in byte order
 abbrev pub paths_below : List ℕ → List (List ℕ × List ℕ) → List (List ℕ)
 paths_below folder files = filter (is_below folder) (map (λ file. file.0) files)

@@ -1,7 +1,7 @@
 // Files and folders of the system.
-ghost use Rattle.std.specs.Prelude.{◌≡◌, ◌≤◌, false, All, IfOk, OnOk, length};
+ghost use Rattle.std.specs.Prelude.{◌≤◌, IfOk, IsFalse, length};
 ghost use Rattle.std.specs.BTreeMap.{keys};
-ghost use Rattle.bosh_ports.specs.Shelf.{has_line_feed};
+ghost use Rattle.bosh_ports.specs.Shelf.{AllOneLine, has_line_feed};
 
 use crate::ShelfFault;
 use crate::shelf::{MOST_BYTES, MOST_PATHS, has_line_feed};
@@ -75,7 +75,7 @@ pub(crate) fn files_below<R: Files + AllocGlobal + Clone + Drop>(
     rt: &R,
     folder: &str,
 ) -> Result<Found, ShelfFault>
-    ensures { IfOk result (λ found. All (λ path. has_line_feed path.items ≡ false) (keys found)) }
+    ensures { IfOk result (λ found. AllOneLine (keys found)) }
 {
     let mut found = BTreeMap::new(alloc);
     let mut folders = Vec::new(alloc);
@@ -97,8 +97,8 @@ fn read_folder<R: Files + AllocGlobal + Clone + Drop>(
     found: &mut Found,
     folders: &mut Vec<String>,
 ) -> Result<(), ShelfFault>
-    requires { All (λ path. has_line_feed path.items ≡ false) (keys found.old) }
-    ensures { All (λ path. has_line_feed path.items ≡ false) (keys found.new) }
+    requires { AllOneLine (keys found.old) }
+    ensures { AllOneLine (keys found.new) }
 {
     for entry in fs::read_dir(rt, folder)? {
         match entry {
@@ -116,8 +116,8 @@ fn take_entry<R: Files>(
     found: &mut Found,
     folders: &mut Vec<String>,
 ) -> Result<(), ShelfFault>
-    requires { All (λ path. has_line_feed path.items ≡ false) (keys found.old) }
-    ensures { All (λ path. has_line_feed path.items ≡ false) (keys found.new) }
+    requires { AllOneLine (keys found.old) }
+    ensures { AllOneLine (keys found.new) }
 {
     let path = entry.path().as_str();
     if has_line_feed(path.as_bytes()) {
@@ -134,9 +134,9 @@ fn take_entry<R: Files>(
 }
 
 fn add(found: &mut Found, path: Vec<u8>) -> Result<(), ShelfFault>
-    requires path { has_line_feed path.items ≡ false }
-    requires found { All (λ path. has_line_feed path.items ≡ false) (keys found.old) }
-    ensures { All (λ path. has_line_feed path.items ≡ false) (keys found.new) }
+    requires path { IsFalse (has_line_feed path.items) }
+    requires found { AllOneLine (keys found.old) }
+    ensures { AllOneLine (keys found.new) }
 {
     found.insert(path, ())?;
     if found.len() > MOST_PATHS {

@@ -42,3 +42,6 @@ pub use sink::{Put, Sink};
 pub use stdin_source::StdinSource;
 pub use stdout_sink::StdoutSink;
 pub use source::{Source, Taken};
+
+#[cfg(test)]
+mod tests;

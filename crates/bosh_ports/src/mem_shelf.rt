@@ -23,16 +23,15 @@ pub struct MemShelf {
 }
 
 impl Model for MemShelf {
-    ghost use Rattle.std.specs.Prelude.{◌≡◌, All, false};
     ghost use Rattle.std.specs.BTreeMap.{keys};
     ghost use Rattle.bosh_ports.specs.MemShelf.{ShelfState, files_of};
-    ghost use Rattle.bosh_ports.specs.Shelf.{has_line_feed};
+    ghost use Rattle.bosh_ports.specs.Shelf.{AllOneLine};
 
     ghost Value = { ShelfState };
 
     ghost view = { λ s. record { files = files_of s.files.entries; calls = s.calls; failing = s.failing; faults = s.faults } };
 
-    ghost invariant = { λ s. All (λ path. has_line_feed path.items ≡ false) (keys s.files) };
+    ghost invariant = { λ s. AllOneLine (keys s.files) };
 }
 
 impl MemShelf {
