@@ -1,8 +1,8 @@
 -- The rigs of a keeper after an append that no rig decides.
-use Rattle.std.proofs.Common.{◌≡◌, Bool, true, false, Result, Ok, Err, None, Some, sym, ◌∙◌, ap, refl}
+use Rattle.std.proofs.Common.{◌≡◌, Bool, false, Result, Ok, Err, None, sym, ◌∙◌, refl}
 use Rattle.std.proofs.lemmas.Bool.{false≢true}
 use Rattle.bosh_ports.specs.Keeper.{TellsBroken}
-use Rattle.bosh_ports.specs.Rigged.{RigState, RigsAfter, Springs, SameRigs, due, armed_after, fired_after}
+use Rattle.bosh_ports.specs.Rigged.{RigState, RigsAfter, Springs, due}
 use Rattle.bosh_ports.specs.declared.keeper.KeepFault.{KeepFault}
 use Rattle.bosh_ports.specs.declared.keeper.KeepFault.TheVariants.{Failed, Broken, Memory}
 

@@ -1,5 +1,5 @@
 -- Paths below a folder, and files by their paths.
-use Rattle.std.proofs.Common.{◌≡◌, ℕ, ◌+◌, ◌<◌, ◌≤◌, ◌==◌, ◌&&◌, Bool, true, false, cond, List, [], ◌∷◌, ◌++◌, length, map, get_or, nat_eq, Vec, Option, Some, None, option_map, refl, ap, sym, ◌∙◌, arith, All, filter, subst, Result, Ok, Err, IfOk}
+use Rattle.std.proofs.Common.{◌≡◌, ℕ, ◌<◌, ◌≤◌, ◌&&◌, Bool, true, false, cond, List, [], ◌∷◌, length, map, get_or, nat_eq, Vec, Some, option_map, refl, ap, sym, ◌∙◌, arith, All, filter, subst, Result, Ok, Err, IfOk}
 use Rattle.std.specs.List.{AllByRecursion}
 use Rattle.std.proofs.lemmas.List.Elements.{All-nil, All-cons, All-map, All-filter}
 use Rattle.std.proofs.lemmas.Cmp.{nat_eq_equiv}
@@ -11,11 +11,10 @@ use Rattle.std.specs.Ordering.{is_eq, match_ordering}
 use Rattle.std.specs.Map.{lookup, keys_of}
 use Rattle.std.specs.BTreeMap.{insert_entry}
 use Rattle.std.specs.declared.alloc.Global.{Global}
-use Rattle.std.specs.declared.cmp.Ordering.{Ordering}
 use Rattle.std.specs.declared.cmp.Ordering.TheVariants.{Less, Equal, Greater}
 use Rattle.bosh_ports.specs.Contents.{contents}
 use Rattle.bosh_ports.specs.MemShelf.{files_of}
-use Rattle.bosh_ports.specs.Shelf.{byte_order, key_order, file_at, placed, is_below, has_line_feed, paths_below, IsListing, AnswersPaths}
+use Rattle.bosh_ports.specs.Shelf.{byte_order, key_order, file_at, placed, is_below, has_line_feed, IsListing, AnswersPaths}
 
 and_false : (a : Bool) → (a && false) ≡ false
 and_false true = refl
@@ -52,8 +51,8 @@ pub files_of-insert_entry : (entries : List (Vec ℕ Global × Vec ℕ Global)) 
 files_of-insert_entry [] path bytes = refl
 files_of-insert_entry (e ∷ entries) path bytes =
     elim (byte_order path.items e.0.items) as (λ o.
-        files_of (match_ordering o ((path, bytes) ∷ e ∷ entries) ((e.0, bytes) ∷ entries) (e ∷ insert_entry key_order entries path bytes))
-        ≡ match_ordering o ((path.items, bytes.items) ∷ files_of (e ∷ entries)) ((e.0.items, bytes.items) ∷ files_of entries) ((e.0.items, e.1.items) ∷ placed (files_of entries) path.items bytes.items)) [
+    files_of (match_ordering o ((path, bytes) ∷ e ∷ entries) ((e.0, bytes) ∷ entries) (e ∷ insert_entry key_order entries path bytes))
+    ≡ match_ordering o ((path.items, bytes.items) ∷ files_of (e ∷ entries)) ((e.0.items, bytes.items) ∷ files_of entries) ((e.0.items, e.1.items) ∷ placed (files_of entries) path.items bytes.items)) [
       | Less ↦ refl
       | Equal ↦ refl
       | Greater ↦ ap (λ rest. (e.0.items, e.1.items) ∷ rest) (files_of-insert_entry entries path bytes)
@@ -65,8 +64,8 @@ pub file_at-files_of : (entries : List (Vec ℕ Global × Vec ℕ Global)) (path
 file_at-files_of [] path = refl
 file_at-files_of (e ∷ entries) path =
     elim (is_eq (byte_order path e.0.items)) as (λ b.
-        cond b (Some e.1.items) (file_at (files_of entries) path)
-        ≡ option_map (λ bytes. bytes.items) (cond b (Some e.1) (lookup (λ key. is_eq (byte_order path key.items)) entries))) [
+    cond b (Some e.1.items) (file_at (files_of entries) path)
+    ≡ option_map (λ bytes. bytes.items) (cond b (Some e.1) (lookup (λ key. is_eq (byte_order path key.items)) entries))) [
       | true ↦ refl
       | false ↦ file_at-files_of entries path
     ]
@@ -107,5 +106,5 @@ listing-below folder keys (Ok paths) ordered one_line answers =
       few = answers.2;
       below = All-passes (is_below folder) (contents keys);
       one_line = All-filter (is_below folder) (λ path. has_line_feed path ≡ false) (contents keys) (All-map (λ path. has_line_feed path ≡ false) (λ key. key.items) keys one_line);
-      ordered = IsStrictlySortedBy-filter byte_order (is_below folder) (contents keys) (ordered-contents keys ordered)
+      ordered = IsStrictlySortedBy-filter byte_order (is_below folder) (contents keys) (ordered-contents keys ordered);
     })

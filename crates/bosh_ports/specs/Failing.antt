@@ -1,5 +1,5 @@
 -- The one call that a device in memory fails: the number of calls up to it and with it, or none.
-use Rattle.std.specs.Prelude.{◌≡◌, ℕ, ◌-◌, Bool, false, Option, Some, None, ◌==◌, nat_le, if◌then◌else◌}
+use Rattle.std.specs.Prelude.{◌≡◌, ℕ, ◌-◌, Option, Some, None, nat_le, if◌then◌else◌}
 
 -- the next call is the one that fails
 abbrev pub IsNext : Option ℕ → Type 0

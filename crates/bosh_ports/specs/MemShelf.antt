@@ -1,7 +1,6 @@
 -- A shelf in memory: its files, how many calls it had, and which call it fails.
 use Rattle.std.specs.Prelude.{◌≡◌, ℕ, ◌+◌, List, map, Option, Some, Vec}
 use Rattle.std.specs.declared.alloc.Global.{Global}
-use Rattle.bosh_ports.specs.Faults.{count_with}
 
 -- the files in the byte order of their paths, the calls so far, the number of the call that fails, and the faults so far
 pub record ShelfState : Type 0 where

@@ -1,5 +1,5 @@
 -- A source in memory: what it will give, and which call it fails.
-use Rattle.std.specs.Prelude.{◌≡◌, ℕ, List, [], ◌∷◌, length, drop, min, Option, Some, ◌⊎◌}
+use Rattle.std.specs.Prelude.{◌≡◌, ℕ, List, [], length, drop, min, Option}
 use Rattle.bosh_ports.specs.Failing.{IsNext, calls_after}
 use Rattle.bosh_ports.specs.Faults.{count_with}
 use Rattle.bosh_ports.specs.declared.source.Taken.{Taken}

@@ -1,6 +1,6 @@
 -- A shelf is a map from paths to bytes. Where it is told, it is the list of its files, each a path and its bytes, in the
 -- byte order of the paths and each path once.
-use Rattle.std.specs.Prelude.{◌≡◌, ℕ, ◌<◌, ◌≤◌, ◌==◌, Bool, true, false, cond, List, [], ◌∷◌, ◌++◌, length, map, filter, All, nat_eq, Option, Some, None, IsSomeAnd, Result, Ok, Err, Vec, if◌then◌else◌}
+use Rattle.std.specs.Prelude.{◌≡◌, ℕ, ◌<◌, ◌≤◌, ◌==◌, Bool, true, false, cond, List, [], ◌∷◌, ◌++◌, length, map, filter, All, nat_eq, Option, Some, None, IsSomeAnd, Result, Ok, Err, Vec}
 use Rattle.std.specs.List.{starts_with, list_any}
 use Rattle.std.specs.List.Sorted.{IsStrictlySortedBy}
 use Rattle.std.specs.Ordering.{nat_cmp, is_eq}

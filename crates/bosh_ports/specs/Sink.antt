@@ -1,5 +1,5 @@
 -- What a call of `put` says of the bytes that were written to a sink.
-use Rattle.std.specs.Prelude.{◌≡◌, ℕ, ◌≤◌, List, ◌++◌, length, take, Option, Some}
+use Rattle.std.specs.Prelude.{ℕ, ◌≤◌, List, ◌++◌, length, take}
 use Rattle.bosh_ports.specs.Faults.{Rose}
 use Rattle.bosh_ports.specs.declared.sink.Put.{Put}
 use Rattle.bosh_ports.specs.declared.sink.Put.TheVariants.{Took, Failed}

@@ -7,10 +7,9 @@ use crate::ShelfFault;
 use crate::shelf::{MOST_BYTES, MOST_PATHS, has_line_feed};
 use std::alloc::Global;
 use std::collections::BTreeMap;
-use std::fs;
 use std::fs::{DirEntry, FileType, Files};
-use std::io;
 use std::io::{ErrorKind, Read};
+use std::{fs, io};
 
 /// The paths that were found.
 pub(crate) type Found = BTreeMap<Vec<u8>, ()>;
@@ -21,7 +20,8 @@ const BLOCK: usize = 4_096;
 impl From<io::Error> for ShelfFault {
     fn from(error: io::Error) -> Self {
         match error.kind() {
-            ErrorKind::NotFound | ErrorKind::NotADirectory | ErrorKind::InvalidFilename => ShelfFault::Absent,
+            ErrorKind::NotFound | ErrorKind::NotADirectory | ErrorKind::InvalidFilename =>
+                ShelfFault::Absent,
             ErrorKind::OutOfMemory => ShelfFault::Memory,
             _ => ShelfFault::Failed,
         }

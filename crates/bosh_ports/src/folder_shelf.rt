@@ -7,9 +7,8 @@ use crate::listing::paths_below;
 use crate::shelf::MOST_BYTES;
 use crate::{Paths, Shelf, ShelfFault};
 use std::alloc::Global;
-use std::fs;
 use std::fs::Files;
-use std::str;
+use std::{fs, str};
 
 /// The files below the current folder of a runtime. It reads nothing outside that folder, follows no symbolic link, and
 /// passes over names that are no text or have a line feed. It does not tell its files.
@@ -64,7 +63,11 @@ fn read_file<R: Files>(alloc: Global, rt: &R, path: &[u8]) -> Result<Vec<u8>, Sh
     read_whole(alloc, &mut file)
 }
 
-fn list_folder<R: Files + AllocGlobal + Clone + Drop>(alloc: Global, rt: &R, folder: &[u8]) -> Result<Paths, ShelfFault>
+fn list_folder<R: Files + AllocGlobal + Clone + Drop>(
+    alloc: Global,
+    rt: &R,
+    folder: &[u8],
+) -> Result<Paths, ShelfFault>
     ensures { IfOk result (λ paths. IsListing folder.now paths) }
 {
     let Some(place) = inside(folder) else {
@@ -82,7 +85,9 @@ fn inside(path: &[u8]) -> Option<&str> {
     let Ok(text) = str::from_utf8(path) else {
         return None;
     };
-    let leaves = text.is_empty() || text.starts_with('/') || text.split('/').any(|name| name == "..");
+    let leaves = text.is_empty()
+        || text.starts_with('/')
+        || text.split('/').any(|name| name == "..");
     if leaves || text.contains('\n') || text.contains('\0') {
         return None;
     }

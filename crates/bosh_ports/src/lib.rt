@@ -10,8 +10,8 @@ mod folder;
 mod folder_shelf;
 mod gate;
 mod keeper;
-mod mem_keeper;
 mod listing;
+mod mem_keeper;
 mod mem_shelf;
 mod mem_sink;
 mod mem_source;
@@ -21,9 +21,9 @@ mod rig;
 mod rigged;
 mod shelf;
 mod sink;
+mod source;
 mod stdin_source;
 mod stdout_sink;
-mod source;
 
 pub use bodies::Bodies;
 pub use copy::CopyFault;
@@ -39,9 +39,9 @@ pub use rig::{Armed, Rig};
 pub use rigged::Rigged;
 pub use shelf::{MOST_BYTES, MOST_PATHS, Shelf, ShelfFault, has_line_feed, is_below};
 pub use sink::{Put, Sink};
+pub use source::{Source, Taken};
 pub use stdin_source::StdinSource;
 pub use stdout_sink::StdoutSink;
-pub use source::{Source, Taken};
 
 #[cfg(test)]
 mod tests;

@@ -12,7 +12,11 @@ use std::alloc::Global;
 use std::collections::BTreeMap;
 
 /// The paths below a folder, of the keys of a map.
-pub(crate) fn paths_below<V>(alloc: Global, files: &BTreeMap<Vec<u8>, V>, folder: &[u8]) -> Result<Paths, ShelfFault>
+pub(crate) fn paths_below<V>(
+    alloc: Global,
+    files: &BTreeMap<Vec<u8>, V>,
+    folder: &[u8],
+) -> Result<Paths, ShelfFault>
     ensures answer { AnswersPaths result (filter (is_below folder.now) (contents (keys files.now))) }
     ensures ordered { IsStrictlySortedBy key_order (keys files.now) }
     ensures never_fails { IsErrOf result ShelfFault.Failed → ⊥ }

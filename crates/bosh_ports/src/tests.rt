@@ -1,7 +1,7 @@
 // What no clause says: that the calls which take memory succeed where there is enough of it, and what the adapters do.
 use crate::{
-    Bodies, FolderShelf, KeepFault, Keeper, MemKeeper, MemShelf, MemSink, MemSource, Put, Rig, Rigged, Shelf, ShelfFault,
-    Sink, Source, StdinSource, StdoutSink, Taken,
+    Bodies, FolderShelf, KeepFault, Keeper, MemKeeper, MemShelf, MemSink, MemSource, Put, Rig,
+    Rigged, Shelf, ShelfFault, Sink, Source, StdinSource, StdoutSink, Taken,
 };
 use std::fs;
 use std::test::Fail;
@@ -79,11 +79,19 @@ fn the_adapters_reach_the_system(rt: HostRuntime) -> Result<(), Fail> {
     fs::write(&rt, "shelf/d/b", "2")?;
     fs::write(&rt, "shelf/a", "1")?;
     let mut shelf = FolderShelf::new(&rt);
-    assert_eq!(rt; shelf.read(alloc, b"shelf/d/b")?.as_slice(), b"2".as_slice());
+    assert_eq!(rt;
+        shelf.read(alloc, b"shelf/d/b")?.as_slice(),
+        b"2".as_slice()
+    );
     let paths = shelf.list(alloc, b"shelf")?;
     assert_eq!(rt; paths.len(), 2);
     assert_eq!(rt; paths.as_slice()[0].as_slice(), b"shelf/a".as_slice());
-    for outside in [b"shelf/../shelf/a".as_slice(), b"/etc/passwd", b"shelf", b"shelf/c"] {
+    for outside in [
+        b"shelf/../shelf/a".as_slice(),
+        b"/etc/passwd",
+        b"shelf",
+        b"shelf/c",
+    ] {
         assert!(rt; matches!(shelf.read(alloc, outside), Err(ShelfFault::Absent)));
     }
     assert_eq!(rt; StdoutSink::new(&rt).put(b"x"), Put::Took(1));

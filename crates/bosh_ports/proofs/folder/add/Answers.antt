@@ -6,9 +6,9 @@ use Rattle.bosh_ports.proofs.folder.add.Goals as goal
 pub returns-then-len-gt-MOST_PATHS : goal.returns-then-len-gt-MOST_PATHS
 returns-then-len-gt-MOST_PATHS c =
     rw c.in_ok-insert.ensures.entries
-        (All-keys-insert_entry _ c.args.path _ (λ path. has_line_feed path.items ≡ false) c.args.found.now.entries c.requires.found c.requires.path)
+    (All-keys-insert_entry _ c.args.path _ (λ path. has_line_feed path.items ≡ false) c.args.found.now.entries c.requires.found c.requires.path)
 
 pub returns : goal.returns
 returns c =
     rw c.in_ok-insert.ensures.entries
-        (All-keys-insert_entry _ c.args.path _ (λ path. has_line_feed path.items ≡ false) c.args.found.now.entries c.requires.found c.requires.path)
+    (All-keys-insert_entry _ c.args.path _ (λ path. has_line_feed path.items ≡ false) c.args.found.now.entries c.requires.found c.requires.path)

@@ -1,4 +1,4 @@
-use Rattle.std.proofs.Common.{◌≡◌, ◌&&◌, nat_eq, get_or, length, sym, ◌∙◌, refl}
+use Rattle.std.proofs.Common.{sym, ◌∙◌, refl}
 use Rattle.bosh_ports.proofs.ShelfLemmas.{is_below-long}
 use Rattle.bosh_ports.proofs.shelf.is_below.Goals as goal
 

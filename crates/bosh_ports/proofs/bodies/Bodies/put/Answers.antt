@@ -1,4 +1,3 @@
-use Rattle.std.proofs.Common.{sym, ◌∙◌, ap, set}
 use Rattle.std.proofs.lemmas.List.{map-set}
 use Rattle.bosh_ports.proofs.bodies.Bodies.put.Goals as goal
 

@@ -1,15 +1,14 @@
-use Rattle.std.proofs.Common.{◌≡◌, false, sym, ◌∙◌, ap, refl}
+use Rattle.std.proofs.Common.{◌≡◌, false, ◌∙◌, ap, refl}
 use Rattle.std.proofs.lemmas.Map.Views.{All-keys-insert_entry}
-use Rattle.bosh_ports.specs.MemShelf.{files_of}
-use Rattle.bosh_ports.specs.Shelf.{has_line_feed, placed, byte_order}
+use Rattle.bosh_ports.specs.Shelf.{has_line_feed}
 use Rattle.bosh_ports.proofs.ShelfLemmas.{files_of-insert_entry}
 use Rattle.bosh_ports.proofs.mem_shelf.MemShelf.add.Goals as goal
 
 pub invariant_of-self-2 : goal.invariant_of-self-2
 invariant_of-self-2 c =
     rw c.in_ok-insert.ensures.entries
-        (All-keys-insert_entry _ c.in_ok-path.path c.in_ok-bytes.bytes (λ key. has_line_feed key.items ≡ false) c.self.inside.files.entries c.self.invariant
-            (ap has_line_feed (c.in_ok-path.ensures.items_if_clones_equal (λ _ _ e. e)) ∙ c.requires))
+    (All-keys-insert_entry _ c.in_ok-path.path c.in_ok-bytes.bytes (λ key. has_line_feed key.items ≡ false) c.self.inside.files.entries c.self.invariant
+    (ap has_line_feed (c.in_ok-path.ensures.items_if_clones_equal (λ _ _ e. e)) ∙ c.requires))
 
 pub returns-clause-ok : goal.returns-clause-ok
 returns-clause-ok c =

@@ -1,5 +1,3 @@
-use Rattle.std.proofs.Common.{◌≡◌, filter, sym, ◌∙◌, ap, subst}
-use Rattle.bosh_ports.specs.Shelf.{AnswersPaths, is_below}
 use Rattle.bosh_ports.proofs.ShelfLemmas.{paths-files_of, listing-below}
 use Rattle.bosh_ports.proofs.mem_shelf.MemShelfShelf.list.Goals as goal
 
