@@ -2,12 +2,13 @@
 use Rattle.std.proofs.Common.{◌≡◌, ℕ, ◌<◌, ◌≤◌, ◌&&◌, Bool, true, false, cond, List, [], ◌∷◌, length, map, get_or, nat_eq, Vec, Some, option_map, refl, ap, sym, ◌∙◌, arith, All, filter, subst, Result, Ok, Err, IfOk}
 use Rattle.std.specs.List.{AllByRecursion}
 use Rattle.std.proofs.lemmas.List.Elements.{All-nil, All-cons, All-map, All-filter}
-use Rattle.std.proofs.lemmas.Cmp.{nat_eq_equiv}
+use Rattle.std.proofs.lemmas.Bool.{false≢true}
+use Rattle.std.proofs.lemmas.Cmp.{nat_eq_equiv, nat_list_cmp_total}
 use Rattle.std.proofs.lemmas.List.Kept.{IsStrictlySortedBy-filter}
 use Rattle.bosh_ports.specs.declared.shelf.ShelfFault.{ShelfFault}
 use Rattle.std.specs.List.{starts_with}
 use Rattle.std.specs.List.Sorted.{IsStrictlySortedBy}
-use Rattle.std.specs.Ordering.{is_eq, match_ordering}
+use Rattle.std.specs.Ordering.{is_eq, match_ordering, ordering_reverse}
 use Rattle.std.specs.Map.{lookup, keys_of}
 use Rattle.std.specs.BTreeMap.{insert_entry}
 use Rattle.std.specs.declared.alloc.Global.{Global}
@@ -108,3 +109,43 @@ listing-below folder keys (Ok paths) ordered one_line answers =
       one_line = All-filter (is_below folder) (λ path. has_line_feed path ≡ false) (contents keys) (All-map (λ path. has_line_feed path ≡ false) (λ key. key.items) keys one_line);
       ordered = IsStrictlySortedBy-filter byte_order (is_below folder) (contents keys) (ordered-contents keys ordered);
     })
+
+again : {A : Type 0} (b : Bool) (x y z : A) → cond b x z ≡ cond b x (cond b y z)
+again true x y z = refl
+again false x y z = refl
+
+swapped : {A : Type 0} (a b : Bool) (x y z : A) → (a ≡ true → b ≡ false) → cond a x (cond b y z) ≡ cond b y (cond a x z)
+swapped true true x y z apart = absurd (false≢true (sym (apart refl)))
+swapped true false x y z apart = refl
+swapped false b x y z apart = refl
+
+-- a path that ties with one of two paths that are apart does not tie with the other
+apart : (path other q : List ℕ) → byte_order path other ≡ Greater → is_eq (byte_order q other) ≡ true → is_eq (byte_order q path) ≡ false
+apart path other q greater ties =
+    elim (byte_order q path) as (λ o. byte_order q path ≡ o → is_eq o ≡ false) [
+      | Less ↦ λ e. refl
+      | Equal ↦ λ e. absurd (false≢true (sym (ap is_eq (nat_list_cmp_total.congr q path other e ∙ greater)) ∙ ties))
+      | Greater ↦ λ e. refl
+    ] refl
+
+-- a path ties with both of two paths that tie
+alike : (path other q : List ℕ) → byte_order path other ≡ Equal → byte_order q path ≡ byte_order q other
+alike path other q ties =
+    nat_list_cmp_total.antisymm q path ∙ ap ordering_reverse (nat_list_cmp_total.congr path other q ties) ∙ sym (nat_list_cmp_total.antisymm q other)
+
+-- after a file was placed its path has its bytes, and every other path what it had
+pub file_at-placed : (files : List (List ℕ × List ℕ)) (path bytes q : List ℕ) →
+    file_at (placed files path bytes) q ≡ cond (is_eq (byte_order q path)) (Some bytes) (file_at files q)
+file_at-placed [] path bytes q = refl
+file_at-placed (e ∷ files) path bytes q =
+    elim (byte_order path e.0) as (λ o. byte_order path e.0 ≡ o →
+    file_at (match_ordering o ((path, bytes) ∷ e ∷ files) ((e.0, bytes) ∷ files) (e ∷ placed files path bytes)) q
+    ≡ cond (is_eq (byte_order q path)) (Some bytes) (file_at (e ∷ files) q)) [
+      | Less ↦ λ p. refl
+      | Equal ↦ λ p.
+          again (is_eq (byte_order q e.0)) (Some bytes) (Some e.1) (file_at files q)
+          ∙ ap (λ o. cond (is_eq o) (Some bytes) (file_at (e ∷ files) q)) (sym (alike path e.0 q p))
+      | Greater ↦ λ p.
+          ap (λ rest. cond (is_eq (byte_order q e.0)) (Some e.1) rest) (file_at-placed files path bytes q)
+          ∙ swapped (is_eq (byte_order q e.0)) (is_eq (byte_order q path)) (Some e.1) (Some bytes) (file_at files q) (apart path e.0 q p)
+    ] refl

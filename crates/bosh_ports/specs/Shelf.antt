@@ -1,6 +1,6 @@
 -- A shelf is a map from paths to bytes. Where it is told, it is the list of its files, each a path and its bytes, in the
 -- byte order of the paths and each path once.
-use Rattle.std.specs.Prelude.{◌≡◌, ℕ, ◌<◌, ◌≤◌, ◌==◌, Bool, true, false, cond, List, [], ◌∷◌, ◌++◌, length, map, filter, All, nat_eq, Option, Some, None, IsSomeAnd, Result, Ok, Err, Vec}
+use Rattle.std.specs.Prelude.{◌≡◌, ℕ, ◌<◌, ◌≤◌, ◌==◌, Bool, true, false, cond, List, [], ◌∷◌, ◌++◌, length, map, filter, All, nat_eq, Option, Some, None, IsSomeAnd, Result, Ok, Err, Vec, if◌then◌else◌}
 use Rattle.std.specs.List.{starts_with, list_any}
 use Rattle.std.specs.List.Sorted.{IsStrictlySortedBy}
 use Rattle.std.specs.Ordering.{nat_cmp, is_eq}
@@ -28,6 +28,11 @@ file_at (file ∷ files) path = cond (is_eq (byte_order path file.0)) (Some file
 -- the files with these bytes at this path, in place of what was there
 abbrev pub placed : List (List ℕ × List ℕ) → List ℕ → List ℕ → List (List ℕ × List ℕ)
 placed files path bytes = insert_entry byte_order files path bytes
+
+-- the path has these bytes after a file was put there, and every other path what it had
+abbrev pub Places : List (List ℕ × List ℕ) → List ℕ → List ℕ → List (List ℕ × List ℕ) → Type 0
+Places before path bytes after =
+    (q : List ℕ) → file_at after q ≡ (if is_eq (byte_order q path) then Some bytes else file_at before q)
 
 -- the path lies below the folder: it begins with the folder and a slash
 abbrev pub is_below : List ℕ → List ℕ → Bool

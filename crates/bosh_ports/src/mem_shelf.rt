@@ -1,7 +1,7 @@
 // A shelf in memory, for tests.
 ghost use Rattle.std.specs.Prelude.{◌≡◌, ◌≤◌, ◌+◌, ◌↔◌, [], None, Some, IfErr, IfOk, OnOk, IsErrOf, IsTrue, IsFalse, length, if◌then◌else◌};
 ghost use Rattle.bosh_ports.specs.Faults.{NeverFalls, count_with};
-ghost use Rattle.bosh_ports.specs.Shelf.{AnswersFile, AnswersPaths, FailsByCount, IsListing, file_at, has_line_feed, paths_below, placed};
+ghost use Rattle.bosh_ports.specs.Shelf.{AnswersFile, AnswersPaths, FailsByCount, IsListing, file_at, Places, has_line_feed, paths_below, placed};
 ghost use Rattle.bosh_ports.specs.MemShelf.{IsFailing, ShelfState};
 ghost use Rattle.bosh_ports.specs.declared.shelf.ShelfFault.TheVariants.{Memory};
 
@@ -51,6 +51,7 @@ impl MemShelf {
     pub fn add(&mut self, path: &[u8], bytes: &[u8]) -> Result<(), ShelfFault>
         requires { IsFalse (has_line_feed path.now) }
         ensures ok { OnOk result (self.new ≡ record self.old { files = placed self.old.files path.now bytes.now }) }
+        ensures places { OnOk result (Places self.old.files path.now bytes.now self.new.files) }
         ensures memory { IfErr result (λ fault. (fault ≡ ShelfFault.Memory) × (self.new ≡ self.old)) }
     {
         let path = path.to_vec(self.alloc)?;

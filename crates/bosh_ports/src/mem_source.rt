@@ -31,7 +31,8 @@ impl Model for MemSource {
 }
 
 impl MemSource {
-    /// A source of these bytes that gives at most `piece` of them a call and fails call number `fail`, counted from 1.
+    /// A source of these bytes that gives at most `piece` of them a call and fails call number `fail`, counted from 1,
+    /// where 0 is no call.
     pub fn new(bytes: Vec<u8>, piece: usize, fail: Option<u64>) -> MemSource
         requires { 1 ≤ piece }
         ensures { result ≡ record { left = bytes.items; piece = piece; failing = fail; faults = 0 } }

@@ -42,6 +42,7 @@ impl<K: Keeper> Rigged<K> {
 
     /// Makes the k-th append from now on fail, of those that find the keeper not broken. Several rigs may wait at once.
     /// Of those that are due at one append the first that was set decides, and all are spent.
+    /// An append that ends for want of memory leaves the rigs as they were.
     pub fn rig(&mut self, k: u64, how: Rig) -> Result<(), KeepFault>
         requires { 1 ≤ k }
         ensures ok { OnOk result (self.new ≡ record self.old { armed = self.old.armed ++ record { appends = k; how = how } ∷ [] }) }
