@@ -36,6 +36,7 @@ mod spec;
 mod state;
 mod stemcell;
 mod task;
+mod version;
 mod view;
 
 pub use addr::{Addr, Band, NetAddr};
@@ -72,4 +73,5 @@ pub use spec::{Mark, Placed, Spec};
 pub use state::State;
 pub use stemcell::Stemcell;
 pub use task::{TaskEnd, TaskKind, TaskRow};
+pub use version::{equal_versions_are_one, is_version, version_order, version_order_is_total};
 pub use view::{Held, View};
