@@ -1,4 +1,4 @@
--- What is cut off a text at a byte, and the numbers that its parts are.
+-- What is cut off a text at a byte, the numbers that its parts are, and the order of versions.
 use Rattle.std.proofs.Common.{◌≡◌, ◌∙◌, sym, ap, refl, ℕ, suc, ◌+◌, ◌-◌, ◌*◌, ◌^◌, ◌<◌, ◌≤◌, ◌==◌, ◌&&◌, Bool, true, false, cond, nat_le, add-one, List, [], ◌∷◌, ◌++◌, length, get_or, take, drop, set, replicate, map, position, Option, Some, None, option_map, IsTrue, inl, inr, arith, rules, append_assoc}
 use Rattle.std.specs.Char.{is_ascii_digit, digit_value}
 use Rattle.std.specs.Int.{IsInRange}

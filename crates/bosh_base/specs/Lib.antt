@@ -2,6 +2,7 @@ pub mod Answer
 pub mod Call
 pub mod CallStep
 pub mod Cloud
+pub mod CloudExamples
 pub mod Exact
 pub mod History
 pub mod Method
