@@ -1,5 +1,5 @@
 -- The test on keys tells them apart.
-use Rattle.std.proofs.Common.{◌≡◌, Bool, true, false, ◌&&◌, List, [], ◌∷◌, ℕ, refl, ap}
+use Rattle.std.proofs.Common.{◌≡◌, List, refl, ap}
 use Rattle.std.specs.Bool.{Decides}
 use Rattle.std.specs.List.{All, Contains, list_all}
 use Rattle.std.specs.Cmp.Lexicographic.{bytes_decides}

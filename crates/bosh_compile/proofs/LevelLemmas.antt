@@ -1,13 +1,13 @@
 -- The level of a work: without a cycle it is one more than the greatest level of a listed dependency.
-use Rattle.std.proofs.Common.{◌≡◌, ◌⊎◌, ◌∙◌, ap, refl, sym, inl, inr, ⊎_elim, ℕ, zero, suc, ◌+◌, ◌≤◌, ◌<◌, Bool, true, false, cond, leb, List, length, arith}
+use Rattle.std.proofs.Common.{◌≡◌, ◌⊎◌, ◌∙◌, refl, inl, inr, ⊎_elim, ℕ, zero, suc, ◌+◌, ◌≤◌, ◌<◌, Bool, true, false, cond, leb, List, length, arith}
 use Rattle.std.specs.List.{All, Contains}
 use Rattle.std.specs.List.Sorted.{IsPermutation}
 use Rattle.std.proofs.lemmas.Bool.{cases_lt}
-use Rattle.std.proofs.lemmas.Bool.Decides.{leb_tells}
+use Rattle.std.proofs.lemmas.Bool.Decides.{nat_tests}
 use Rattle.std.proofs.lemmas.List.Elements.{All-contains, All-weaker}
 use Rattle.std.proofs.lemmas.List.Sorted.{IsPermutation-sym, Contains-permutation, All-permutation}
 use Rattle.bosh_base.specs.declared.key.KeyWork.{KeyWork}
-use Rattle.bosh_compile.specs.Level.{Needs, needs, greatest, one_above, IsLevel, IsGrounded, grounded, IsAcyclic, Falls}
+use Rattle.bosh_compile.specs.Level.{needs, one_above, IsLevel, IsGrounded, grounded, IsAcyclic, Falls}
 use Rattle.bosh_compile.specs.Rounds.{level_within, last_level}
 use Rattle.bosh_compile.proofs.KeyLemmas.{is_among_decides}
 use Rattle.bosh_compile.proofs.GreatestLemmas.{All-from_Contains, greatest-le, le-greatest, greatest_reached, how_many, how_many-le-length, how_many_some, how_many_none, how_many-lt}
@@ -70,24 +70,21 @@ module _ (works : List KeyWork) where
       last_deep n (below next.0 next.1 ((is_among_decides next.0.key work.deps).0 next.2)) next.1 next.3)
       (cases_lt (level_within works (suc n) work) (suc n))
 
-  deep : ℕ → KeyWork → Bool
+  -- whether a chain of n dependencies begins with the work
+  abbrev deep : ℕ → KeyWork → Bool
   deep n work = leb n (level_within works n work)
 
-  deep_tells : (n : ℕ) (work : KeyWork) → ((deep n work ≡ true) × (n ≤ level_within works n work)) ⊎ ((deep n work ≡ false) × (level_within works n work < n))
-  unfolding deep
-  deep_tells n work = leb_tells n (level_within works n work)
-
   deep_from : (n : ℕ) (work : KeyWork) → n ≤ level_within works n work → deep n work ≡ true
-  deep_from n work h = ⊎_elim (λ (p : (deep n work ≡ true) × (n ≤ level_within works n work)). p.0) (λ (p : (deep n work ≡ false) × (level_within works n work < n)). absurd (omega (arith, p.1))) (deep_tells n work)
+  deep_from n work h = grind (arith, nat_tests)
 
   is_deep : (n : ℕ) (work : KeyWork) → deep n work ≡ true → n ≤ level_within works n work
-  is_deep n work h = ⊎_elim (λ (p : (deep n work ≡ true) × (n ≤ level_within works n work)). p.1) (λ (p : (deep n work ≡ false) × (level_within works n work < n)). let e = p.0 in cc) (deep_tells n work)
+  is_deep n work h = grind (arith, nat_tests)
 
   not_deep : (n : ℕ) (work : KeyWork) → level_within works n work < n → deep n work ≡ false
-  not_deep n work h = ⊎_elim (λ (p : (deep n work ≡ true) × (n ≤ level_within works n work)). absurd (omega (arith, p.1))) (λ (p : (deep n work ≡ false) × (level_within works n work < n)). p.0) (deep_tells n work)
+  not_deep n work h = grind (arith, nat_tests)
 
   is_shallow : (n : ℕ) (work : KeyWork) → deep n work ≡ false → level_within works n work < n
-  is_shallow n work h = ⊎_elim (λ (p : (deep n work ≡ true) × (n ≤ level_within works n work)). let e = p.0 in cc) (λ (p : (deep n work ≡ false) × (level_within works n work < n)). p.1) (deep_tells n work)
+  is_shallow n work h = grind (arith, nat_tests)
 
   module _ (acyclic : IsAcyclic works) where
     fewer_deep : (n : ℕ) (work : KeyWork) → Contains works work → deep n work ≡ true → how_many (deep (suc n)) works < how_many (deep n) works

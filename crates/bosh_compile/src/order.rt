@@ -51,7 +51,7 @@ fn works_of(alloc: Global, all: Vec<Leveled>) -> Result<Seq<KeyWork>, CompileFau
     Ok(Seq::from(works))
 }
 
-/// The works in the order in which they may be compiled.
+/// The works in the order in which they may be compiled. A dependency that is not among them does not count.
 pub fn levels(alloc: Global, works: &[KeyWork]) -> Result<Seq<KeyWork>, CompileFault>
     requires { IsAcyclic works.now }
     ensures same_works { IfOk result (IsPermutation works.now) }
