@@ -1,5 +1,5 @@
 -- How the ties of the consumers add up.
-use Rattle.std.proofs.Common.{◌≡◌, ℕ, ◌+◌, ◌<◌, List, [], ◌∷◌, ◌++◌, Option, Result, Ok, Err, length, get_or, drop, refl, sym, ap, ◌∙◌, append_assoc, add-one, drop-cons}
+use Rattle.std.proofs.Common.{◌≡◌, ℕ, ◌+◌, ◌<◌, List, [], ◌∷◌, ◌++◌, Option, Result, Ok, Err, length, get_or, drop, refl, sym, ap, append_assoc, add-one, drop-cons}
 use Rattle.std.specs.Option.{option_to_list}
 use Rattle.bosh_base.specs.declared.link.Tie.{Tie}
 use Rattle.bosh_links.specs.declared.consumer.Consumer.{Consumer}

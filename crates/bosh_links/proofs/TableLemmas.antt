@@ -1,5 +1,5 @@
 -- How a table of providers grows.
-use Rattle.std.proofs.Common.{◌≡◌, ℕ, Bool, true, false, List, [], ◌∷◌, ◌++◌, Option, Some, None, take, refl, sym, ap, ◌∙◌, subst, cond, append-nil}
+use Rattle.std.proofs.Common.{◌≡◌, ℕ, Bool, true, false, List, [], ◌∷◌, ◌++◌, Option, Some, take, refl, sym, ap, ◌∙◌, subst, cond, append-nil}
 use Rattle.std.specs.BTreeMap.{BTreeMap, UpdatesBy}
 use Rattle.std.specs.Cmp.Lexicographic.{slice_cmp}
 use Rattle.std.specs.List.{filter}
@@ -35,5 +35,5 @@ IsTable-put by ps p m n found text table same with updates = λ key.
     let now : found_at n key ≡ cond (bytes_eq text key) (Some found) (found_at m key) = btree_map_updates_str text m n (Some found) updates key in
     let now' : found_at n key ≡ cond (test p) (Some found) (found_at m key) = subst (λ t. found_at n key ≡ cond (bytes_eq t key) (Some found) (found_at m key)) same now in
     let here : test p ≡ true → listed (Some found) ≡ take 2 (listed (found_at m key) ++ p ∷ []) =
-        λ h. subst (λ t. listed (Some found) ≡ take 2 (listed (found_at m t) ++ p ∷ [])) (same ∙ (bytes_eq-Decides (key_of by p) key).0 h) with in
+    λ h. subst (λ t. listed (Some found) ≡ take 2 (listed (found_at m t) ++ p ∷ [])) (same ∙ (bytes_eq-Decides (key_of by p) key).0 h) with in
     ap listed now' ∙ (listed-put (test p) (found_at m key) found (filter test ps) p (table key) here ∙ ap (take 2) (sym (filter-append test ps (p ∷ []))))
