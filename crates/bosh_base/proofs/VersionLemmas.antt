@@ -1,8 +1,8 @@
 -- What is cut off a text at a byte, the numbers that its parts are, and the order of versions.
-use Rattle.std.proofs.Common.{◌≡◌, ◌∙◌, sym, ap, subst, refl, ℕ, zero, suc, ◌+◌, ◌-◌, ◌*◌, ◌^◌, ◌<◌, ◌≤◌, ◌==◌, ◌&&◌, Bool, true, false, cond, nat_le, add-one, List, [], ◌∷◌, ◌++◌, length, get_or, take, drop, set, replicate, map, position, Option, Some, None, option_map, IsTrue, inl, inr, arith, rules, lt-ltb, append_assoc, append-nil}
+use Rattle.std.proofs.Common.{◌≡◌, ◌∙◌, sym, ap, refl, ℕ, suc, ◌+◌, ◌-◌, ◌*◌, ◌^◌, ◌<◌, ◌≤◌, ◌==◌, ◌&&◌, Bool, true, false, cond, nat_le, add-one, List, [], ◌∷◌, ◌++◌, length, get_or, take, drop, set, replicate, map, position, Option, Some, None, option_map, IsTrue, inl, inr, arith, rules, append_assoc}
 use Rattle.std.specs.Char.{is_ascii_digit, digit_value}
 use Rattle.std.specs.Int.{IsInRange}
-use Rattle.std.specs.List.{list_all, slice_split, position_or_len, before_first, after_first, count_by}
+use Rattle.std.specs.List.{list_all, position_or_len, before_first, after_first, count_by}
 use Rattle.std.specs.Str.Parse.{digits_value, AllDigits}
 use Rattle.std.proofs.lemmas.Bool.{cases_lt}
 use Rattle.std.proofs.lemmas.Bool.Decides.{nat_tests}
@@ -18,7 +18,7 @@ use Rattle.std.proofs.lemmas.Str.{digit_value_digit}
 use Rattle.std.proofs.lemmas.Int.Digits.{digits_value_more}
 use Rattle.std.proofs.Math.Nat.{pow-le-pow_right}
 use native.Mathlib.Numerals.{unary_clauses}
-use Rattle.bosh_base.specs.Version.{is_number, parts, is_dotted, after, padded}
+use Rattle.bosh_base.specs.Version.{is_number, parts, after, padded}
 
 -- where the first byte that passes stands
 pub position_found : (p : ℕ → Bool) (xs : List ℕ) (k : ℕ) → position p xs ≡ Some k → (position_or_len p xs ≡ k) × (k < length xs)
@@ -33,11 +33,11 @@ before_found p xs k h = ap (λ n. take n xs) (sym (position_found p xs k h).0)
 pub before_none : (p : ℕ → Bool) (xs : List ℕ) → position p xs ≡ None → xs ≡ before_first p xs
 before_none p xs h = let far : length xs ≤ position_or_len p xs = position_none p xs h in grind (arith, common_steps)
 
--- the texts of a digit each
+-- texts of digits alone
 own : IsNumeralModel (λ ds. list_all is_ascii_digit ds ≡ true) (digits_value 10)
 own = numerals_by_value _ (search rules)
 
--- what the digits of a number are known by
+-- a number is short, and of digits alone
 pub record Digits (text : List ℕ) : Type 0 where
   pub short : length text ≤ 18
   pub all : AllDigits 10 text

@@ -1,5 +1,5 @@
 -- The order of versions is total, and tells them apart by their numbers.
-use Rattle.std.proofs.Common.{◌≡◌, ◌∙◌, sym, ap, subst, refl, ℕ, ◌<◌, ◌&&◌, Bool, true, false, cond, List, Option, Some, None, option_map, IsTrue, Ordering}
+use Rattle.std.proofs.Common.{◌≡◌, ◌∙◌, sym, ap, refl, ℕ, ◌<◌, ◌&&◌, Bool, true, false, cond, List, Some, None, option_map, IsTrue, Ordering}
 use Rattle.std.specs.declared.cmp.Ordering.TheVariants.{Less, Equal, Greater}
 use Rattle.std.specs.Ordering.{nat_cmp, ordering_then, ordering_reverse, MatchOrdering}
 use Rattle.std.specs.Cmp.{IsTotalOrder}

@@ -1,5 +1,5 @@
--- Which addresses of a network an instance may have (bosh.io, "Cloud Config", the networks' `range`, `gateway`,
--- `reserved`, `static` and `azs`).
+-- Which addresses of a network are given, and how (bosh.io, "Networks": a manual network's `range`, `gateway`,
+-- `reserved`, `static` and `azs`; that nobody has the two ends of a range is this project's profile).
 use Rattle.std.specs.Prelude.{ℕ, Bool, false, ◌&&◌, ◌||◌, ◌==◌, not, nat_le, nat_eq, List, Option, Some, None, IsTrue}
 use Rattle.std.specs.List.{list_any}
 use Rattle.std.specs.Cmp.Lexicographic.{pointwise}

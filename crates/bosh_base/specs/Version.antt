@@ -1,5 +1,4 @@
--- Versions of releases and stemcells, and their order (bosh.io, "Release versioning" and "Stemcells"; the bounds
--- on the digits and on the numbers are this project's profile).
+-- Versions of releases and stemcells, and their order (this project's profile).
 use Rattle.std.specs.Prelude.{ℕ, Bool, true, ◌&&◌, ◌==◌, ◌+◌, ◌-◌, nat_le, nat_eq, cond, List, ◌++◌, map, length, take, drop, replicate, codes, position, Option, Some, None, option_map, IsTrue}
 use Rattle.std.specs.declared.cmp.Ordering.{Ordering}
 use Rattle.std.specs.Ordering.{nat_cmp, on, then_cmp}

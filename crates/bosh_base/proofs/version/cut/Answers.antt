@@ -1,4 +1,4 @@
-use Rattle.std.proofs.Common.{◌≡◌, ◌∙◌, sym}
+use Rattle.std.proofs.Common.{◌∙◌, sym}
 use Rattle.bosh_base.proofs.VersionLemmas.{before_found, before_none, after_found, after_none}
 use Rattle.bosh_base.proofs.version.cut.Goals as goal
 
