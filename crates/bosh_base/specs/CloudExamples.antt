@@ -1,5 +1,5 @@
 -- Small clouds, for the examples of `src/cloud.rt`.
-use Rattle.std.specs.Prelude.{ℕ, codes, None, List, [], ◌∷◌, false, true}
+use Rattle.std.specs.Prelude.{ℕ, codes, List, [], ◌∷◌, false, true}
 use Rattle.bosh_base.specs.declared.call.Call.{Call}
 use Rattle.bosh_base.specs.declared.call.Call.TheVariants.{CreateVm, DeleteVm, CreateDisk, AttachDisk, Start, Stop, Drain, MountDisk, MigrateDisk}
 use Rattle.bosh_base.specs.declared.entry.Entry.{Entry}

@@ -7,3 +7,5 @@ pub mod Exact
 pub mod History
 pub mod Method
 pub mod Name
+pub mod Plan
+pub mod Version

@@ -21,8 +21,7 @@ pub fn machine_examples()
     ensures deleted { machines one_deleted ≡ [] }
     ensures lost { machines one_lost ≡ [] }
     ensures silent { map (λ machine. machine.silent) (machines one_silent) ≡ true ∷ [] }
-{
-}
+{}
 
 /// Disks that are attached, mounted, migrated, and left by their machine.
 pub fn disk_examples()
@@ -33,8 +32,7 @@ pub fn disk_examples()
     ensures stays { is_disk_there attached_and_deleted 1 ≡ true }
     ensures migrated { contents_of one_migrated 2 ≡ codes "hello" }
     ensures written_after { contents_of one_migrated 1 ≡ codes "later" }
-{
-}
+{}
 
 /// What calls answer.
 pub fn answer_examples()
@@ -47,5 +45,4 @@ pub fn answer_examples()
     ensures silent_is_there { (built : KeyWork → List Digest → Digest) → answer_of built one_silent (Call.HasVm 1) ≡ Answer.Yes }
     ensures silent_is_gone { (built : KeyWork → List Digest → Digest) → answer_of built one_silent (Call.Ping 1) ≡ Answer.Gone }
     ensures silent_has_disks { (built : KeyWork → List Digest → Digest) → answer_of built one_silent (Call.CreateDisk ten 1) ≡ Answer.Cid 1 }
-{
-}
+{}

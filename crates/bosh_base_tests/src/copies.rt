@@ -1,7 +1,7 @@
 use bosh_base::{
     Addr, Answer, Band, Begin, BuiltKey, Call, CompileRow, CopyFault, Copyable, DepRow, Digest,
     DiskRow, DiskWant, Doubt, Entry, Goal, GoalRow, GroupPlan, Inst, JobSpec, Joint, Key, KeyWork,
-    LinkSpec, Make, Mark, Move, Name, NetAddr, Offer, OfFault, Orphan, Owner, PackageSpec, Placed,
+    LinkSpec, Make, Mark, Move, Name, NetAddr, OfFault, Offer, Orphan, Owner, PackageSpec, Placed,
     Prop, PropSpec, Release, Reply, Role, Row, Said, Seq, Setting, Snapshot, Spec, State, Stemcell,
     Stop, TaskEnd, TaskKind, TaskOpen, TaskRow, TemplateSpec, Text, Tie, Vm,
 };
@@ -17,15 +17,25 @@ fn text(alloc: Global) -> Result<Text, Fail> {
 }
 
 fn inst(alloc: Global) -> Result<Inst, OfFault> {
-    Ok(Inst { dep: name(alloc)?, group: name(alloc)?, index: 3 })
+    Ok(Inst {
+        dep: name(alloc)?,
+        group: name(alloc)?,
+        index: 3,
+    })
 }
 
 fn want(alloc: Global) -> Result<DiskWant, Fail> {
-    Ok(DiskWant { size: 10, properties: text(alloc)? })
+    Ok(DiskWant {
+        size: 10,
+        properties: text(alloc)?,
+    })
 }
 
 fn make(alloc: Global) -> Result<Make, Fail> {
-    let net = NetAddr { net: name(alloc)?, addr: Addr(167_772_170) };
+    let net = NetAddr {
+        net: name(alloc)?,
+        addr: Addr(167_772_170),
+    };
     Ok(Make {
         os: text(alloc)?,
         version: text(alloc)?,
@@ -36,8 +46,14 @@ fn make(alloc: Global) -> Result<Make, Fail> {
 }
 
 fn spec(alloc: Global) -> Result<Spec, Fail> {
-    let mark = Mark { name: name(alloc)?, fingerprint: Digest([7; 32]) };
-    let placed = Placed { path: text(alloc)?, text: text(alloc)? };
+    let mark = Mark {
+        name: name(alloc)?,
+        fingerprint: Digest([7; 32]),
+    };
+    let placed = Placed {
+        path: text(alloc)?,
+        text: text(alloc)?,
+    };
     Ok(Spec {
         jobs: Seq::from(vec![in alloc; mark]?),
         packages: Seq::new(alloc),
@@ -46,20 +62,36 @@ fn spec(alloc: Global) -> Result<Spec, Fail> {
 }
 
 fn key(alloc: Global) -> Result<Key, Fail> {
-    Ok(Key { fingerprint: Digest([9; 32]), os: text(alloc)?, version: text(alloc)? })
+    Ok(Key {
+        fingerprint: Digest([9; 32]),
+        os: text(alloc)?,
+        version: text(alloc)?,
+    })
 }
 
 fn work(alloc: Global) -> Result<KeyWork, Fail> {
     let needed = key(alloc)?;
-    Ok(KeyWork { name: name(alloc)?, key: key(alloc)?, deps: Seq::from(vec![in alloc; needed]?) })
+    Ok(KeyWork {
+        name: name(alloc)?,
+        key: key(alloc)?,
+        deps: Seq::from(vec![in alloc; needed]?),
+    })
 }
 
 fn joint(alloc: Global) -> Result<Joint, OfFault> {
-    Ok(Joint { dep: name(alloc)?, group: name(alloc)?, job: name(alloc)?, link: name(alloc)? })
+    Ok(Joint {
+        dep: name(alloc)?,
+        group: name(alloc)?,
+        job: name(alloc)?,
+        link: name(alloc)?,
+    })
 }
 
 fn offer(alloc: Global) -> Result<Offer, Fail> {
-    let value = Prop { name: text(alloc)?, value: Setting::Scalar(text(alloc)?) };
+    let value = Prop {
+        name: text(alloc)?,
+        value: Setting::Scalar(text(alloc)?),
+    };
     let listed = text(alloc)?;
     Ok(Offer {
         joint: joint(alloc)?,
@@ -80,8 +112,17 @@ fn goal(alloc: Global) -> Result<Goal, Fail> {
         state: State::Running,
         fresh_after: 4,
     };
-    let plan = GroupPlan { name: name(alloc)?, canaries: 1, limit: 2, stage: 0 };
-    let tie = Tie { consumer: joint(alloc)?, provider: joint(alloc)?, kind: text(alloc)? };
+    let plan = GroupPlan {
+        name: name(alloc)?,
+        canaries: 1,
+        limit: 2,
+        stage: 0,
+    };
+    let tie = Tie {
+        consumer: joint(alloc)?,
+        provider: joint(alloc)?,
+        kind: text(alloc)?,
+    };
     let made = make(alloc)?;
     let offered = offer(alloc)?;
     let todo = work(alloc)?;
@@ -105,7 +146,10 @@ fn row(alloc: Global) -> Result<Row, Fail> {
         attached: true,
         mounted: false,
     };
-    let call = Call::CreateDisk { want: want(alloc)?, vm: 1 };
+    let call = Call::CreateDisk {
+        want: want(alloc)?,
+        vm: 1,
+    };
     Ok(Row {
         inst: inst(alloc)?,
         make: Some(make(alloc)?),
@@ -120,8 +164,15 @@ fn row(alloc: Global) -> Result<Row, Fail> {
 }
 
 fn release(alloc: Global) -> Result<Release, Fail> {
-    let template = TemplateSpec { source: text(alloc)?, destination: text(alloc)?, text: text(alloc)? };
-    let declared = PropSpec { name: text(alloc)?, fallback: Some(Setting::Compound) };
+    let template = TemplateSpec {
+        source: text(alloc)?,
+        destination: text(alloc)?,
+        text: text(alloc)?,
+    };
+    let declared = PropSpec {
+        name: text(alloc)?,
+        fallback: Some(Setting::Compound),
+    };
     let listed = text(alloc)?;
     let link = LinkSpec {
         name: name(alloc)?,
@@ -154,7 +205,11 @@ fn release(alloc: Global) -> Result<Release, Fail> {
 }
 
 fn snapshot(alloc: Global) -> Result<Snapshot, Fail> {
-    let deployment = DepRow { dep: name(alloc)?, goal: goal(alloc)?, shared: Seq::new(alloc) };
+    let deployment = DepRow {
+        dep: name(alloc)?,
+        goal: goal(alloc)?,
+        shared: Seq::new(alloc),
+    };
     let compiling = CompileRow {
         task: 1,
         slot: 0,
@@ -163,8 +218,17 @@ fn snapshot(alloc: Global) -> Result<Snapshot, Fail> {
         vm: None,
         doubt: None,
     };
-    let orphan = Orphan { disk: 3, want: want(alloc)?, inst: inst(alloc)?, doubt: None };
-    let built = BuiltKey { name: name(alloc)?, key: key(alloc)?, digest: Digest([3; 32]) };
+    let orphan = Orphan {
+        disk: 3,
+        want: want(alloc)?,
+        inst: inst(alloc)?,
+        doubt: None,
+    };
+    let built = BuiltKey {
+        name: name(alloc)?,
+        key: key(alloc)?,
+        digest: Digest([3; 32]),
+    };
     let task = TaskRow {
         task: 1,
         kind: TaskKind::Recreate(inst(alloc)?),
@@ -174,7 +238,10 @@ fn snapshot(alloc: Global) -> Result<Snapshot, Fail> {
         calls: Some(6),
     };
     let uploaded = release(alloc)?;
-    let stemcell = Stemcell { os: name(alloc)?, version: text(alloc)? };
+    let stemcell = Stemcell {
+        os: name(alloc)?,
+        version: text(alloc)?,
+    };
     let recorded = row(alloc)?;
     Ok(Snapshot {
         releases: Seq::from(vec![in alloc; uploaded]?),
@@ -212,7 +279,10 @@ fn copies_each_type_with_ample_memory(rt: HostRuntime) -> Result<(), Fail> {
         task: 2,
         worker: 0,
         owner: Owner::Instance(inst(alloc)?),
-        call: Call::Apply { vm: 1, spec: spec(alloc)? },
+        call: Call::Apply {
+            vm: 1,
+            spec: spec(alloc)?,
+        },
     };
     let stop = Stop {
         kept: Some(Entry::TaskOpen(task_open(alloc)?)),
@@ -223,15 +293,39 @@ fn copies_each_type_with_ample_memory(rt: HostRuntime) -> Result<(), Fail> {
         Move::Note(Entry::Snapshot(snapshot(alloc)?)),
         Move::Note(Entry::Begin(begin)),
         Move::Stop(stop),
-        Move::Said(Said { command: 1, reply: Reply::Contents(text(alloc)?) }),
+        Move::Said(Said {
+            command: 1,
+            reply: Reply::Contents(text(alloc)?),
+        }),
     ];
     for step in moves.iter() {
         let copied = step.copy(alloc)?;
-        assert!(rt; matches!((step, &copied), (Move::Note(_), Move::Note(_)) | (Move::Stop(_), Move::Stop(_)) | (Move::Said(_), Move::Said(_))));
+        assert!(rt;
+            matches!(
+                (step, &copied),
+                (Move::Note(_), Move::Note(_))
+                    | (Move::Stop(_), Move::Stop(_))
+                    | (Move::Said(_), Move::Said(_))
+            )
+        );
     }
     let known: Result<Name, CopyFault> = name(alloc)?.copy(alloc);
     assert!(rt; known.is_ok());
-    assert!(rt; Band { first: Addr(1), last: Addr(2) } == Band { first: Addr(1), last: Addr(2) });
-    assert!(rt; Answer::Cid(1).is_kind(Call::CreateDisk { want: want(alloc)?, vm: 1 }.method()));
+    assert!(rt;
+        Band {
+            first: Addr(1),
+            last: Addr(2)
+        } == Band {
+            first: Addr(1),
+            last: Addr(2)
+        }
+    );
+    assert!(rt;
+        Answer::Cid(1).is_kind(Call::CreateDisk {
+            want: want(alloc)?,
+            vm: 1
+        }
+        .method())
+    );
     Ok(())
 }

@@ -2,6 +2,10 @@
 #![tactic(auto)]
 
 #[cfg(test)]
+mod copies;
+#[cfg(test)]
 mod names;
 #[cfg(test)]
-mod copies;
+mod plans;
+#[cfg(test)]
+mod versions;
