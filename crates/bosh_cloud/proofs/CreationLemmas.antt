@@ -22,11 +22,24 @@ use Rattle.bosh_base.specs.declared.make.Make.{Make}
 use Rattle.bosh_base.proofs.HistoryLemmas.{latest_last, latest_seen_last}
 use Rattle.bosh_cloud.specs.CloudView.{AreTables}
 use Rattle.bosh_cloud.specs.NewMachine.{new_machine}
-use Rattle.bosh_cloud.specs.Orderly.{IsUntouched, IsOrderly}
+use Rattle.bosh_cloud.specs.Orderly.{AddsMachine, IsUntouched, IsOrderly}
 
--- the effect of a creation
-abbrev pub creation : effect.Effect → Make → List ℕ → Entry
-creation e make hint = Effect (record e { call = CreateVm make hint })
+-- a creation: the effect of a call that makes a machine of this make
+pub record Creation : Type 0 where
+  pub asked : effect.Effect
+  pub make : Make
+  pub hint : List ℕ
+
+abbrev pub effect_of : Creation → effect.Effect
+effect_of c = record c.asked { call = CreateVm c.make c.hint }
+
+-- the history with one more creation
+abbrev pub grown : List Entry → Creation → List Entry
+grown xs c = xs ++ Effect (effect_of c) ∷ []
+
+-- the machine that it makes
+abbrev pub machine_by : List Entry → Creation → Machine
+machine_by xs c = new_machine (vms_created xs + 1) c.asked c.make
 
 -- ---- the numbers from 1 on
 
@@ -51,85 +64,85 @@ filter-none p (v ∷ vs) fails = rw (fails v) (filter-none p vs fails)
 
 -- ---- what stays
 
-vms_created-creation : (xs : List Entry) (e : effect.Effect) (make : Make) (hint : List ℕ) → vms_created (xs ++ creation e make hint ∷ []) ≡ vms_created xs + 1
-vms_created-creation xs e make hint = grind (arith, sum_by-append)
+vms_created-creation : (xs : List Entry) (c : Creation) → vms_created (grown xs c) ≡ vms_created xs + 1
+vms_created-creation xs c = grind (arith, sum_by-append)
 
-disks_created-creation : (xs : List Entry) (e : effect.Effect) (make : Make) (hint : List ℕ) → disks_created (xs ++ creation e make hint ∷ []) ≡ disks_created xs
-disks_created-creation xs e make hint = grind (arith, sum_by-append)
+disks_created-creation : (xs : List Entry) (c : Creation) → disks_created (grown xs c) ≡ disks_created xs
+disks_created-creation xs c = grind (arith, sum_by-append)
 
-IsOrderly-creation : (xs : List Entry) (e : effect.Effect) (make : Make) (hint : List ℕ) → IsOrderly xs → IsOrderly (xs ++ creation e make hint ∷ [])
-IsOrderly-creation xs e make hint orderly v later =
-    let before : IsUntouched xs v = orderly v (omega (arith, vms_created-creation xs e make hint)) in
+IsOrderly-creation : (xs : List Entry) (c : Creation) → IsOrderly xs → IsOrderly (grown xs c)
+IsOrderly-creation xs c orderly v later =
+    let before : IsUntouched xs v = orderly v (omega (arith, vms_created-creation xs c)) in
     record {
-      no_spec = latest_last (by_call (applied v)) None xs (creation e make hint) ∙ before.no_spec;
-      not_running = latest_last (by_call (started v)) false xs (creation e make hint) ∙ before.not_running;
-      not_drained = latest_last (by_call (drained v)) false xs (creation e make hint) ∙ before.not_drained;
-      not_silent = latest_last (silence v) false xs (creation e make hint) ∙ before.not_silent;
-      no_disk = λ d is. before.no_disk d (sym (latest_last (by_call (attached d)) None xs (creation e make hint)) ∙ is);
+      no_spec = latest_last (by_call (applied v)) None xs (Effect (effect_of c)) ∙ before.no_spec;
+      not_running = latest_last (by_call (started v)) false xs (Effect (effect_of c)) ∙ before.not_running;
+      not_drained = latest_last (by_call (drained v)) false xs (Effect (effect_of c)) ∙ before.not_drained;
+      not_silent = latest_last (silence v) false xs (Effect (effect_of c)) ∙ before.not_silent;
+      no_disk = λ d is. before.no_disk d (sym (latest_last (by_call (attached d)) None xs (Effect (effect_of c))) ∙ is);
     }
 
 -- another machine is there where it was
-is_vm_there-creation : (xs : List Entry) (e : effect.Effect) (make : Make) (hint : List ℕ) (v : ℕ) → v ≢ vms_created xs + 1 → is_vm_there (xs ++ creation e make hint ∷ []) v ≡ is_vm_there xs v
-is_vm_there-creation xs e make hint v other =
-    latest_seen_last (vm_presence v) false [] xs (creation e make hint)
-      ∙ ap (λ is. chosen (when is true) (is_vm_there xs v)) (ne_eqb (vms_created xs + 1) v (λ is. other (sym is)))
+is_vm_there-creation : (xs : List Entry) (c : Creation) (v : ℕ) → v ≢ vms_created xs + 1 → is_vm_there (grown xs c) v ≡ is_vm_there xs v
+is_vm_there-creation xs c v other =
+    latest_seen_last (vm_presence v) false [] xs (Effect (effect_of c))
+    ∙ ap (λ is. chosen (when is true) (is_vm_there xs v)) (ne_eqb (vms_created xs + 1) v (λ is. other (sym is)))
 
-vm_creation-creation : (xs : List Entry) (e : effect.Effect) (make : Make) (hint : List ℕ) (v : ℕ) → v ≢ vms_created xs + 1 → vm_creation (xs ++ creation e make hint ∷ []) v ≡ vm_creation xs v
-vm_creation-creation xs e make hint v other =
-    latest_seen_last (vm_created v) None [] xs (creation e make hint)
-      ∙ ap (λ is. chosen (when is (Some (record e { call = CreateVm make hint }))) (vm_creation xs v)) (ne_eqb (vms_created xs + 1) v (λ is. other (sym is)))
+vm_creation-creation : (xs : List Entry) (c : Creation) (v : ℕ) → v ≢ vms_created xs + 1 → vm_creation (grown xs c) v ≡ vm_creation xs v
+vm_creation-creation xs c v other =
+    latest_seen_last (vm_created v) None [] xs (Effect (effect_of c))
+    ∙ ap (λ is. chosen (when is (Some (effect_of c))) (vm_creation xs v)) (ne_eqb (vms_created xs + 1) v (λ is. other (sym is)))
 
 -- whom a disk was last attached to, where it is another machine
-present-creation : (xs : List Entry) (e : effect.Effect) (make : Make) (hint : List ℕ) (o : Option ℕ) → o ≢ Some (vms_created xs + 1) → option_and_then (present (xs ++ creation e make hint ∷ [])) o ≡ option_and_then (present xs) o
-present-creation xs e make hint None other = refl
-present-creation xs e make hint (Some v) other = ap (λ there. when there v) (is_vm_there-creation xs e make hint v (λ is. other (ap Some is)))
+present-creation : (xs : List Entry) (c : Creation) (o : Option ℕ) → o ≢ Some (vms_created xs + 1) → option_and_then (present (grown xs c)) o ≡ option_and_then (present xs) o
+present-creation xs c None other = refl
+present-creation xs c (Some v) other = ap (λ there. when there v) (is_vm_there-creation xs c v (λ is. other (ap Some is)))
 
 -- no disk was attached to a machine that is not created yet
 no_disk_ahead : (xs : List Entry) → IsOrderly xs → (d : ℕ) → latest (by_call (attached d)) None xs ≢ Some (vms_created xs + 1)
 no_disk_ahead xs orderly d = (orderly (vms_created xs + 1) (omega arith)).no_disk d
 
-holder_of-creation : (xs : List Entry) (e : effect.Effect) (make : Make) (hint : List ℕ) → IsOrderly xs → (d : ℕ) → holder_of (xs ++ creation e make hint ∷ []) d ≡ holder_of xs d
-holder_of-creation xs e make hint orderly d =
-    ap (option_and_then (present (xs ++ creation e make hint ∷ []))) (latest_last (by_call (attached d)) None xs (creation e make hint))
-      ∙ present-creation xs e make hint (latest (by_call (attached d)) None xs) (no_disk_ahead xs orderly d)
+holder_of-creation : (xs : List Entry) (c : Creation) → IsOrderly xs → (d : ℕ) → holder_of (grown xs c) d ≡ holder_of xs d
+holder_of-creation xs c orderly d =
+    ap (option_and_then (present (grown xs c))) (latest_last (by_call (attached d)) None xs (Effect (effect_of c)))
+    ∙ present-creation xs c (latest (by_call (attached d)) None xs) (no_disk_ahead xs orderly d)
 
 -- the test of `is_holder`
 abbrev is_held_by : ℕ → Option ℕ → Bool
 is_held_by v (Some vm) = vm == v
 is_held_by v None = false
 
-is_holder-creation : (xs : List Entry) (e : effect.Effect) (make : Make) (hint : List ℕ) → IsOrderly xs → (v d : ℕ) → is_holder (xs ++ creation e make hint ∷ []) v d ≡ is_holder xs v d
-is_holder-creation xs e make hint orderly v d = ap (is_held_by v) (holder_of-creation xs e make hint orderly d)
+is_holder-creation : (xs : List Entry) (c : Creation) → IsOrderly xs → (v d : ℕ) → is_holder (grown xs c) v d ≡ is_holder xs v d
+is_holder-creation xs c orderly v d = ap (is_held_by v) (holder_of-creation xs c orderly d)
 
-attached_to-creation : (xs : List Entry) (e : effect.Effect) (make : Make) (hint : List ℕ) → IsOrderly xs → (v : ℕ) → attached_to (xs ++ creation e make hint ∷ []) v ≡ attached_to xs v
-attached_to-creation xs e make hint orderly v =
-    ap (λ n. filter (is_holder (xs ++ creation e make hint ∷ []) v) (numbers_to n)) (disks_created-creation xs e make hint)
-      ∙ ap (λ test. filter test (numbers_to (disks_created xs))) (fun_ext (is_holder-creation xs e make hint orderly v))
+attached_to-creation : (xs : List Entry) (c : Creation) → IsOrderly xs → (v : ℕ) → attached_to (grown xs c) v ≡ attached_to xs v
+attached_to-creation xs c orderly v =
+    ap (λ n. filter (is_holder (grown xs c) v) (numbers_to n)) (disks_created-creation xs c)
+    ∙ ap (λ test. filter test (numbers_to (disks_created xs))) (fun_ext (is_holder-creation xs c orderly v))
 
-mounted_on-creation : (xs : List Entry) (e : effect.Effect) (make : Make) (hint : List ℕ) → IsOrderly xs → (v : ℕ) → mounted_on (xs ++ creation e make hint ∷ []) v ≡ mounted_on xs v
-mounted_on-creation xs e make hint orderly v =
-    ap (filter (is_disk_mounted (xs ++ creation e make hint ∷ []))) (attached_to-creation xs e make hint orderly v)
-      ∙ ap (λ test. filter test (attached_to xs v)) (fun_ext (λ d. latest_last (by_call (mounts d)) false xs (creation e make hint)))
+mounted_on-creation : (xs : List Entry) (c : Creation) → IsOrderly xs → (v : ℕ) → mounted_on (grown xs c) v ≡ mounted_on xs v
+mounted_on-creation xs c orderly v =
+    ap (filter (is_disk_mounted (grown xs c))) (attached_to-creation xs c orderly v)
+    ∙ ap (λ test. filter test (attached_to xs v)) (fun_ext (λ d. latest_last (by_call (mounts d)) false xs (Effect (effect_of c))))
 
-machine_made-creation : (xs : List Entry) (e : effect.Effect) (make : Make) (hint : List ℕ) → IsOrderly xs → (v : ℕ) (c : effect.Effect) (m : Make) → machine_made (xs ++ creation e make hint ∷ []) v c m ≡ machine_made xs v c m
-machine_made-creation xs e make hint orderly v c m = λ i. record {
+machine_made-creation : (xs : List Entry) (c : Creation) → IsOrderly xs → (v : ℕ) (e : effect.Effect) (m : Make) → machine_made (grown xs c) v e m ≡ machine_made xs v e m
+machine_made-creation xs c orderly v e m = λ i. record {
   vm = v;
-  agent = c.n;
-  owner = c.owner;
-  dep = c.dep;
+  agent = e.n;
+  owner = e.owner;
+  dep = e.dep;
   make = m;
-  spec = latest_last (by_call (applied v)) None xs (creation e make hint) i;
-  running = latest_last (by_call (started v)) false xs (creation e make hint) i;
-  drained = latest_last (by_call (drained v)) false xs (creation e make hint) i;
-  attached = attached_to-creation xs e make hint orderly v i;
-  mounted = mounted_on-creation xs e make hint orderly v i;
-  silent = latest_last (silence v) false xs (creation e make hint) i;
+  spec = latest_last (by_call (applied v)) None xs (Effect (effect_of c)) i;
+  running = latest_last (by_call (started v)) false xs (Effect (effect_of c)) i;
+  drained = latest_last (by_call (drained v)) false xs (Effect (effect_of c)) i;
+  attached = attached_to-creation xs c orderly v i;
+  mounted = mounted_on-creation xs c orderly v i;
+  silent = latest_last (silence v) false xs (Effect (effect_of c)) i;
 }
 
-machine_of-creation : (xs : List Entry) (e : effect.Effect) (make : Make) (hint : List ℕ) → IsOrderly xs → (v : ℕ) → v ≢ vms_created xs + 1 → machine_of (xs ++ creation e make hint ∷ []) v ≡ machine_of xs v
-machine_of-creation xs e make hint orderly v other = λ i.
-    if is_vm_there-creation xs e make hint v other i
-    then option_and_then (λ c. option_map (λ m. machine_made-creation xs e make hint orderly v c m i) (make_of c.call)) (vm_creation-creation xs e make hint v other i)
+machine_of-creation : (xs : List Entry) (c : Creation) → IsOrderly xs → (v : ℕ) → v ≢ vms_created xs + 1 → machine_of (grown xs c) v ≡ machine_of xs v
+machine_of-creation xs c orderly v other = λ i.
+    if is_vm_there-creation xs c v other i
+    then option_and_then (λ e. option_map (λ m. machine_made-creation xs c orderly v e m i) (make_of e.call)) (vm_creation-creation xs c v other i)
     else None
 
 -- ---- the new machine
@@ -140,80 +153,91 @@ none_ahead xs v None other = refl
 none_ahead xs v (Some u) other =
     elim (is_vm_there xs u) as (λ there. is_held_by v (when there u) ≡ false) [ true ↦ ne_eqb u v (λ is. other (ap Some is)) | false ↦ refl ]
 
-attached_to_new : (xs : List Entry) (e : effect.Effect) (make : Make) (hint : List ℕ) → IsOrderly xs → attached_to (xs ++ creation e make hint ∷ []) (vms_created xs + 1) ≡ []
-attached_to_new xs e make hint orderly =
-    attached_to-creation xs e make hint orderly (vms_created xs + 1)
-      ∙ filter-none (is_holder xs (vms_created xs + 1)) (numbers_to (disks_created xs)) (λ d. none_ahead xs (vms_created xs + 1) (latest (by_call (attached d)) None xs) (no_disk_ahead xs orderly d))
+attached_to_new : (xs : List Entry) (c : Creation) → IsOrderly xs → attached_to (grown xs c) (vms_created xs + 1) ≡ []
+attached_to_new xs c orderly =
+    attached_to-creation xs c orderly (vms_created xs + 1)
+    ∙ filter-none (is_holder xs (vms_created xs + 1)) (numbers_to (disks_created xs)) (λ d. none_ahead xs (vms_created xs + 1) (latest (by_call (attached d)) None xs) (no_disk_ahead xs orderly d))
 
-machine_made_new : (xs : List Entry) (e : effect.Effect) (make : Make) (hint : List ℕ) → IsOrderly xs → (c : effect.Effect) → machine_made (xs ++ creation e make hint ∷ []) (vms_created xs + 1) c make ≡ new_machine (vms_created xs + 1) c make
-machine_made_new xs e make hint orderly c =
+machine_made_new : (xs : List Entry) (c : Creation) → IsOrderly xs → machine_made (grown xs c) (vms_created xs + 1) (effect_of c) c.make ≡ machine_by xs c
+machine_made_new xs c orderly =
     let before : IsUntouched xs (vms_created xs + 1) = orderly (vms_created xs + 1) (omega arith) in
-    machine_made-creation xs e make hint orderly (vms_created xs + 1) c make ∙ (λ i. record {
+    machine_made-creation xs c orderly (vms_created xs + 1) (effect_of c) c.make ∙ (λ i. record {
       vm = vms_created xs + 1;
-      agent = c.n;
-      owner = c.owner;
-      dep = c.dep;
-      make = make;
+      agent = c.asked.n;
+      owner = c.asked.owner;
+      dep = c.asked.dep;
+      make = c.make;
       spec = before.no_spec i;
       running = before.not_running i;
       drained = before.not_drained i;
-      attached = (sym (attached_to-creation xs e make hint orderly (vms_created xs + 1)) ∙ attached_to_new xs e make hint orderly) i;
-      mounted = filter (is_disk_mounted xs) ((sym (attached_to-creation xs e make hint orderly (vms_created xs + 1)) ∙ attached_to_new xs e make hint orderly) i);
+      attached = (sym (attached_to-creation xs c orderly (vms_created xs + 1)) ∙ attached_to_new xs c orderly) i;
+      mounted = filter (is_disk_mounted xs) ((sym (attached_to-creation xs c orderly (vms_created xs + 1)) ∙ attached_to_new xs c orderly) i);
       silent = before.not_silent i;
     })
 
-machine_of_new : (xs : List Entry) (e : effect.Effect) (make : Make) (hint : List ℕ) → IsOrderly xs → machine_of (xs ++ creation e make hint ∷ []) (vms_created xs + 1) ≡ Some (new_machine (vms_created xs + 1) e make)
-machine_of_new xs e make hint orderly =
+machine_of_new : (xs : List Entry) (c : Creation) → IsOrderly xs → machine_of (grown xs c) (vms_created xs + 1) ≡ Some (machine_by xs c)
+machine_of_new xs c orderly =
     let it : (vms_created xs + 1 == vms_created xs + 1) ≡ true = eq-eqb (vms_created xs + 1) (vms_created xs + 1) refl in
-    let there : is_vm_there (xs ++ creation e make hint ∷ []) (vms_created xs + 1) ≡ true =
-      latest_seen_last (vm_presence (vms_created xs + 1)) false [] xs (creation e make hint)
-        ∙ ap (λ is. chosen (when is true) (is_vm_there xs (vms_created xs + 1))) it in
-    let created : vm_creation (xs ++ creation e make hint ∷ []) (vms_created xs + 1) ≡ Some (record e { call = CreateVm make hint }) =
-      latest_seen_last (vm_created (vms_created xs + 1)) None [] xs (creation e make hint)
-        ∙ ap (λ is. chosen (when is (Some (record e { call = CreateVm make hint }))) (vm_creation xs (vms_created xs + 1))) it in
-    (λ i. if there i then option_and_then (λ c. option_map (machine_made (xs ++ creation e make hint ∷ []) (vms_created xs + 1) c) (make_of c.call)) (created i) else None)
-      ∙ ap Some (machine_made_new xs e make hint orderly (record e { call = CreateVm make hint }))
+    let there : is_vm_there (grown xs c) (vms_created xs + 1) ≡ true =
+    latest_seen_last (vm_presence (vms_created xs + 1)) false [] xs (Effect (effect_of c))
+    ∙ ap (λ is. chosen (when is true) (is_vm_there xs (vms_created xs + 1))) it in
+    let created : vm_creation (grown xs c) (vms_created xs + 1) ≡ Some (effect_of c) =
+    latest_seen_last (vm_created (vms_created xs + 1)) None [] xs (Effect (effect_of c))
+    ∙ ap (λ is. chosen (when is (Some (effect_of c))) (vm_creation xs (vms_created xs + 1))) it in
+    (λ i. if there i then option_and_then (λ e. option_map (machine_made (grown xs c) (vms_created xs + 1) e) (make_of e.call)) (created i) else None)
+    ∙ ap Some (machine_made_new xs c orderly)
 
 -- ---- the tables
 
-machines-creation : (xs : List Entry) (e : effect.Effect) (make : Make) (hint : List ℕ) → IsOrderly xs → machines (xs ++ creation e make hint ∷ []) ≡ machines xs ++ new_machine (vms_created xs + 1) e make ∷ []
-machines-creation xs e make hint orderly =
-    ap (λ n. filter_map (machine_of (xs ++ creation e make hint ∷ [])) (numbers_to n)) (vms_created-creation xs e make hint)
-      ∙ filter_map-one_more (machine_of (xs ++ creation e make hint ∷ [])) (vms_created xs) (new_machine (vms_created xs + 1) e make) (machine_of_new xs e make hint orderly)
-      ∙ ap (λ front. front ++ new_machine (vms_created xs + 1) e make ∷ [])
-          (filter_map-numbers_to (machine_of (xs ++ creation e make hint ∷ [])) (machine_of xs) (vms_created xs) (λ v below. machine_of-creation xs e make hint orderly v (λ is. omega arith)))
+machines-creation : (xs : List Entry) (c : Creation) → IsOrderly xs → machines (grown xs c) ≡ machines xs ++ machine_by xs c ∷ []
+machines-creation xs c orderly =
+    ap (λ n. filter_map (machine_of (grown xs c)) (numbers_to n)) (vms_created-creation xs c)
+    ∙ filter_map-one_more (machine_of (grown xs c)) (vms_created xs) (machine_by xs c) (machine_of_new xs c orderly)
+    ∙ ap (λ front. front ++ machine_by xs c ∷ [])
+    (filter_map-numbers_to (machine_of (grown xs c)) (machine_of xs) (vms_created xs) (λ v below. machine_of-creation xs c orderly v (λ is. omega arith)))
 
-contents_of-creation : (xs : List Entry) (e : effect.Effect) (make : Make) (hint : List ℕ) → contents_of (xs ++ creation e make hint ∷ []) ≡ contents_of xs
-contents_of-creation xs e make hint = fold-append written (λ d. []) xs (creation e make hint ∷ [])
+contents_of-creation : (xs : List Entry) (c : Creation) → contents_of (grown xs c) ≡ contents_of xs
+contents_of-creation xs c = fold-append written (λ d. []) xs (Effect (effect_of c) ∷ [])
 
-disk_of-creation : (xs : List Entry) (e : effect.Effect) (make : Make) (hint : List ℕ) (d : ℕ) → disk_of (xs ++ creation e make hint ∷ []) d ≡ disk_of xs d
-disk_of-creation xs e make hint d =
-    let made : (c : effect.Effect) (want : DiskWant) → disk_made (xs ++ creation e make hint ∷ []) d c want ≡ disk_made xs d c want =
-      λ c want i. record { disk = d; tag = c.n; owner = c.owner; want = want; contents = contents_of-creation xs e make hint i d } in
+disk_of-creation : (xs : List Entry) (c : Creation) (d : ℕ) → disk_of (grown xs c) d ≡ disk_of xs d
+disk_of-creation xs c d =
+    let made : (e : effect.Effect) (want : DiskWant) → disk_made (grown xs c) d e want ≡ disk_made xs d e want =
+    λ e want i. record { disk = d; tag = e.n; owner = e.owner; want = want; contents = contents_of-creation xs c i d } in
     λ i.
-    if latest_seen_last (disk_presence d) false [] xs (creation e make hint) i
-    then option_and_then (λ c. option_map (λ want. made c want i) (want_of c.call)) (latest_seen_last (disk_created d) None [] xs (creation e make hint) i)
+    if latest_seen_last (disk_presence d) false [] xs (Effect (effect_of c)) i
+    then option_and_then (λ e. option_map (λ want. made e want i) (want_of e.call)) (latest_seen_last (disk_created d) None [] xs (Effect (effect_of c)) i)
     else None
 
-disks-creation : (xs : List Entry) (e : effect.Effect) (make : Make) (hint : List ℕ) → disks (xs ++ creation e make hint ∷ []) ≡ disks xs
-disks-creation xs e make hint =
-    ap (λ n. filter_map (disk_of (xs ++ creation e make hint ∷ [])) (numbers_to n)) (disks_created-creation xs e make hint)
-      ∙ ap (λ row. filter_map row (numbers_to (disks_created xs))) (fun_ext (disk_of-creation xs e make hint))
+disks-creation : (xs : List Entry) (c : Creation) → disks (grown xs c) ≡ disks xs
+disks-creation xs c =
+    ap (λ n. filter_map (disk_of (grown xs c)) (numbers_to n)) (disks_created-creation xs c)
+    ∙ ap (λ row. filter_map row (numbers_to (disks_created xs))) (fun_ext (disk_of-creation xs c))
 
 -- a call with a make is a creation
 made_is : (call : Call) (make : Make) → make_of call ≡ Some make → (hint : List ℕ) × (call ≡ CreateVm make hint)
 made_is (CreateVm m hint) make is = (hint, cc)
 made_is call make is = absurd cc
 
+pub AddsMachine-creation : (xs : List Entry) (e : effect.Effect) (make : Make) → make_of e.call ≡ Some make → IsOrderly xs → AddsMachine xs (xs ++ Effect e ∷ []) (new_machine (vms_created xs + 1) e make)
+AddsMachine-creation xs e make is orderly =
+    let hint : List ℕ = (made_is e.call make is).0 in
+    let c : Creation = record { asked = e; make = make; hint = hint } in
+    let adds : Entry → Type 0 = λ entry. AddsMachine xs (xs ++ entry ∷ []) (new_machine (vms_created xs + 1) e make) in
+    let entry : Effect e ≡ Effect (effect_of c) = ap (λ call. Effect (record e { call = call })) (made_is e.call make is).1 in
+    subst adds (sym entry) (record {
+      stays_orderly = IsOrderly-creation xs c orderly;
+      one_more_created = vms_created-creation xs c;
+      one_more_machine = machines-creation xs c orderly;
+      same_disks = disks-creation xs c;
+    })
+
 -- the tables after one more creation
 pub AreTables-creation : (xs : List Entry) (created : ℕ) (vms : List Machine) (volumes : List Disk) (e : effect.Effect) (make : Make) → make_of e.call ≡ Some make → AreTables xs created vms volumes → AreTables (xs ++ Effect e ∷ []) (created + 1) (vms ++ new_machine (created + 1) e make ∷ []) volumes
 AreTables-creation xs created vms volumes e make is tables =
-    let hint : List ℕ = (made_is e.call make is).0 in
-    let after : Entry → Type 0 = λ entry. AreTables (xs ++ entry ∷ []) (created + 1) (vms ++ new_machine (created + 1) e make ∷ []) volumes in
-    let entry : Effect e ≡ creation e make hint = ap (λ call. Effect (record e { call = call })) (made_is e.call make is).1 in
-    subst after (sym entry) (record {
-      are_orderly = IsOrderly-creation xs e make hint tables.are_orderly;
-      created_so_far = ap (λ n. n + 1) tables.created_so_far ∙ sym (vms_created-creation xs e make hint);
-      all_machines = (λ i. tables.all_machines i ++ new_machine (tables.created_so_far i + 1) e make ∷ []) ∙ sym (machines-creation xs e make hint tables.are_orderly);
-      all_disks = tables.all_disks ∙ sym (disks-creation xs e make hint);
-    })
+    let adds : AddsMachine xs (xs ++ Effect e ∷ []) (new_machine (vms_created xs + 1) e make) = AddsMachine-creation xs e make is tables.are_orderly in
+    record {
+      are_orderly = adds.stays_orderly;
+      created_so_far = ap (λ n. n + 1) tables.created_so_far ∙ sym adds.one_more_created;
+      all_machines = (λ i. tables.all_machines i ++ new_machine (tables.created_so_far i + 1) e make ∷ []) ∙ sym adds.one_more_machine;
+      all_disks = tables.all_disks ∙ sym adds.same_disks;
+    }

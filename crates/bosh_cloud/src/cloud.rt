@@ -36,7 +36,7 @@ impl<L: Keeper> Model for SimCloud<L> {
 }
 
 impl<L: Keeper> SimCloud<L> {
-    /// The cloud that its store tells of. On a refusal the store is given back.
+    /// The cloud with nothing in it, over a new store. A refusal gives the store back.
     pub fn load(alloc: Global, store: L) -> Result<SimCloud<L>, (L, CloudFault)>
         requires { IsUnused L.bodies L.is_broken store }
         ensures loaded { IfOk result (λ cloud. cloud ≡ record { store = store; effects = [] }) }
@@ -52,8 +52,15 @@ impl<L: Keeper> SimCloud<L> {
         })
     }
 
-    /// Performs call number `n`, for this owner and in the deployment of the task that makes it.
-    pub fn perform(&mut self, n: u64, owner: &Owner, dep: &Name, call: &Call) -> Result<Answer, CloudFault>
+    /// Performs call number `n`, for this owner and in the deployment of the task that makes it. The call is one
+    /// that creates a machine. For want of memory nothing changes.
+    pub fn perform(
+        &mut self,
+        n: u64,
+        owner: &Owner,
+        dep: &Name,
+        call: &Call,
+    ) -> Result<Answer, CloudFault>
         requires { method_of call.now ≡ Method.CreateVm }
         ensures answer { IfOk result (λ answer. (built : KeyWork → List Digest → Digest) → answer ≡ answer_of built self.old.effects call.now) }
         ensures step { IfOk result (λ answer. (built : KeyWork → List Digest → Digest) → CallStep built self.old.effects call.now true answer) }
