@@ -25,21 +25,24 @@ use Rattle.bosh_cloud.specs.NewMachine.{new_machine}
 use Rattle.bosh_cloud.specs.Orderly.{AddsMachine, IsUntouched, IsOrderly}
 
 -- a creation: the effect of a call that makes a machine of this make
-pub record Creation : Type 0 where
-  pub asked : effect.Effect
-  pub make : Make
-  pub hint : List ℕ
+record Creation : Type 0 where
+  asked : effect.Effect
+  make : Make
+  hint : List ℕ
 
-abbrev pub effect_of : Creation → effect.Effect
+abbrev effect_of : Creation → effect.Effect
 effect_of c = record c.asked { call = CreateVm c.make c.hint }
 
 -- the history with one more creation
-abbrev pub grown : List Entry → Creation → List Entry
+abbrev grown : List Entry → Creation → List Entry
 grown xs c = xs ++ Effect (effect_of c) ∷ []
 
--- the machine that it makes
-abbrev pub machine_by : List Entry → Creation → Machine
-machine_by xs c = new_machine (vms_created xs + 1) c.asked c.make
+-- the machine that the next creation makes
+abbrev next_vm : List Entry → ℕ
+next_vm xs = vms_created xs + 1
+
+abbrev machine_by : List Entry → Creation → Machine
+machine_by xs c = new_machine (next_vm xs) c.asked c.make
 
 -- ---- the numbers from 1 on
 
@@ -64,12 +67,14 @@ filter-none p (v ∷ vs) fails = rw (fails v) (filter-none p vs fails)
 
 -- ---- what stays
 
+-- how many machines and disks were created
 vms_created-creation : (xs : List Entry) (c : Creation) → vms_created (grown xs c) ≡ vms_created xs + 1
 vms_created-creation xs c = grind (arith, sum_by-append)
 
 disks_created-creation : (xs : List Entry) (c : Creation) → disks_created (grown xs c) ≡ disks_created xs
 disks_created-creation xs c = grind (arith, sum_by-append)
 
+-- effects stay in their order
 IsOrderly-creation : (xs : List Entry) (c : Creation) → IsOrderly xs → IsOrderly (grown xs c)
 IsOrderly-creation xs c orderly v later =
     let before : IsUntouched xs v = orderly v (omega (arith, vms_created-creation xs c)) in
@@ -82,25 +87,27 @@ IsOrderly-creation xs c orderly v later =
     }
 
 -- another machine is there where it was
-is_vm_there-creation : (xs : List Entry) (c : Creation) (v : ℕ) → v ≢ vms_created xs + 1 → is_vm_there (grown xs c) v ≡ is_vm_there xs v
+is_vm_there-creation : (xs : List Entry) (c : Creation) (v : ℕ) → v ≢ next_vm xs → is_vm_there (grown xs c) v ≡ is_vm_there xs v
 is_vm_there-creation xs c v other =
     latest_seen_last (vm_presence v) false [] xs (Effect (effect_of c))
-    ∙ ap (λ is. chosen (when is true) (is_vm_there xs v)) (ne_eqb (vms_created xs + 1) v (λ is. other (sym is)))
+    ∙ ap (λ is. chosen (when is true) (is_vm_there xs v)) (ne_eqb (next_vm xs) v (λ is. other (sym is)))
 
-vm_creation-creation : (xs : List Entry) (c : Creation) (v : ℕ) → v ≢ vms_created xs + 1 → vm_creation (grown xs c) v ≡ vm_creation xs v
+-- .. and was created as it was
+vm_creation-creation : (xs : List Entry) (c : Creation) (v : ℕ) → v ≢ next_vm xs → vm_creation (grown xs c) v ≡ vm_creation xs v
 vm_creation-creation xs c v other =
     latest_seen_last (vm_created v) None [] xs (Effect (effect_of c))
-    ∙ ap (λ is. chosen (when is (Some (effect_of c))) (vm_creation xs v)) (ne_eqb (vms_created xs + 1) v (λ is. other (sym is)))
+    ∙ ap (λ is. chosen (when is (Some (effect_of c))) (vm_creation xs v)) (ne_eqb (next_vm xs) v (λ is. other (sym is)))
 
 -- whom a disk was last attached to, where it is another machine
-present-creation : (xs : List Entry) (c : Creation) (o : Option ℕ) → o ≢ Some (vms_created xs + 1) → option_and_then (present (grown xs c)) o ≡ option_and_then (present xs) o
+present-creation : (xs : List Entry) (c : Creation) (o : Option ℕ) → o ≢ Some (next_vm xs) → option_and_then (present (grown xs c)) o ≡ option_and_then (present xs) o
 present-creation xs c None other = refl
 present-creation xs c (Some v) other = ap (λ there. when there v) (is_vm_there-creation xs c v (λ is. other (ap Some is)))
 
 -- no disk was attached to a machine that is not created yet
-no_disk_ahead : (xs : List Entry) → IsOrderly xs → (d : ℕ) → latest (by_call (attached d)) None xs ≢ Some (vms_created xs + 1)
-no_disk_ahead xs orderly d = (orderly (vms_created xs + 1) (omega arith)).no_disk d
+no_disk_ahead : (xs : List Entry) → IsOrderly xs → (d : ℕ) → latest (by_call (attached d)) None xs ≢ Some (next_vm xs)
+no_disk_ahead xs orderly d = (orderly (next_vm xs) (omega arith)).no_disk d
 
+-- each disk has the holder that it had
 holder_of-creation : (xs : List Entry) (c : Creation) → IsOrderly xs → (d : ℕ) → holder_of (grown xs c) d ≡ holder_of xs d
 holder_of-creation xs c orderly d =
     ap (option_and_then (present (grown xs c))) (latest_last (by_call (attached d)) None xs (Effect (effect_of c)))
@@ -114,6 +121,7 @@ is_held_by v None = false
 is_holder-creation : (xs : List Entry) (c : Creation) → IsOrderly xs → (v d : ℕ) → is_holder (grown xs c) v d ≡ is_holder xs v d
 is_holder-creation xs c orderly v d = ap (is_held_by v) (holder_of-creation xs c orderly d)
 
+-- each machine has the disks that it had
 attached_to-creation : (xs : List Entry) (c : Creation) → IsOrderly xs → (v : ℕ) → attached_to (grown xs c) v ≡ attached_to xs v
 attached_to-creation xs c orderly v =
     ap (λ n. filter (is_holder (grown xs c) v) (numbers_to n)) (disks_created-creation xs c)
@@ -124,6 +132,7 @@ mounted_on-creation xs c orderly v =
     ap (filter (is_disk_mounted (grown xs c))) (attached_to-creation xs c orderly v)
     ∙ ap (λ test. filter test (attached_to xs v)) (fun_ext (λ d. latest_last (by_call (mounts d)) false xs (Effect (effect_of c))))
 
+-- .. and is as it was
 machine_made-creation : (xs : List Entry) (c : Creation) → IsOrderly xs → (v : ℕ) (e : effect.Effect) (m : Make) → machine_made (grown xs c) v e m ≡ machine_made xs v e m
 machine_made-creation xs c orderly v e m = λ i. record {
   vm = v;
@@ -139,7 +148,7 @@ machine_made-creation xs c orderly v e m = λ i. record {
   silent = latest_last (silence v) false xs (Effect (effect_of c)) i;
 }
 
-machine_of-creation : (xs : List Entry) (c : Creation) → IsOrderly xs → (v : ℕ) → v ≢ vms_created xs + 1 → machine_of (grown xs c) v ≡ machine_of xs v
+machine_of-creation : (xs : List Entry) (c : Creation) → IsOrderly xs → (v : ℕ) → v ≢ next_vm xs → machine_of (grown xs c) v ≡ machine_of xs v
 machine_of-creation xs c orderly v other = λ i.
     if is_vm_there-creation xs c v other i
     then option_and_then (λ e. option_map (λ m. machine_made-creation xs c orderly v e m i) (make_of e.call)) (vm_creation-creation xs c v other i)
@@ -153,16 +162,15 @@ none_ahead xs v None other = refl
 none_ahead xs v (Some u) other =
     elim (is_vm_there xs u) as (λ there. is_held_by v (when there u) ≡ false) [ true ↦ ne_eqb u v (λ is. other (ap Some is)) | false ↦ refl ]
 
-attached_to_new : (xs : List Entry) (c : Creation) → IsOrderly xs → attached_to (grown xs c) (vms_created xs + 1) ≡ []
-attached_to_new xs c orderly =
-    attached_to-creation xs c orderly (vms_created xs + 1)
-    ∙ filter-none (is_holder xs (vms_created xs + 1)) (numbers_to (disks_created xs)) (λ d. none_ahead xs (vms_created xs + 1) (latest (by_call (attached d)) None xs) (no_disk_ahead xs orderly d))
+nothing_ahead : (xs : List Entry) → IsOrderly xs → attached_to xs (next_vm xs) ≡ []
+nothing_ahead xs orderly = filter-none (is_holder xs (next_vm xs)) (numbers_to (disks_created xs)) (λ d. none_ahead xs (next_vm xs) (latest (by_call (attached d)) None xs) (no_disk_ahead xs orderly d))
 
-machine_made_new : (xs : List Entry) (c : Creation) → IsOrderly xs → machine_made (grown xs c) (vms_created xs + 1) (effect_of c) c.make ≡ machine_by xs c
+-- it is as `new_machine` says
+machine_made_new : (xs : List Entry) (c : Creation) → IsOrderly xs → machine_made (grown xs c) (next_vm xs) (effect_of c) c.make ≡ machine_by xs c
 machine_made_new xs c orderly =
-    let before : IsUntouched xs (vms_created xs + 1) = orderly (vms_created xs + 1) (omega arith) in
-    machine_made-creation xs c orderly (vms_created xs + 1) (effect_of c) c.make ∙ (λ i. record {
-      vm = vms_created xs + 1;
+    let before : IsUntouched xs (next_vm xs) = orderly (next_vm xs) (omega arith) in
+    machine_made-creation xs c orderly (next_vm xs) (effect_of c) c.make ∙ (λ i. record {
+      vm = next_vm xs;
       agent = c.asked.n;
       owner = c.asked.owner;
       dep = c.asked.dep;
@@ -170,40 +178,35 @@ machine_made_new xs c orderly =
       spec = before.no_spec i;
       running = before.not_running i;
       drained = before.not_drained i;
-      attached = (sym (attached_to-creation xs c orderly (vms_created xs + 1)) ∙ attached_to_new xs c orderly) i;
-      mounted = filter (is_disk_mounted xs) ((sym (attached_to-creation xs c orderly (vms_created xs + 1)) ∙ attached_to_new xs c orderly) i);
+      attached = nothing_ahead xs orderly i;
+      mounted = filter (is_disk_mounted xs) (nothing_ahead xs orderly i);
       silent = before.not_silent i;
     })
 
-machine_of_new : (xs : List Entry) (c : Creation) → IsOrderly xs → machine_of (grown xs c) (vms_created xs + 1) ≡ Some (machine_by xs c)
+machine_of_new : (xs : List Entry) (c : Creation) → IsOrderly xs → machine_of (grown xs c) (next_vm xs) ≡ Some (machine_by xs c)
 machine_of_new xs c orderly =
-    let it : (vms_created xs + 1 == vms_created xs + 1) ≡ true = eq-eqb (vms_created xs + 1) (vms_created xs + 1) refl in
-    let there : is_vm_there (grown xs c) (vms_created xs + 1) ≡ true =
-    latest_seen_last (vm_presence (vms_created xs + 1)) false [] xs (Effect (effect_of c))
-    ∙ ap (λ is. chosen (when is true) (is_vm_there xs (vms_created xs + 1))) it in
-    let created : vm_creation (grown xs c) (vms_created xs + 1) ≡ Some (effect_of c) =
-    latest_seen_last (vm_created (vms_created xs + 1)) None [] xs (Effect (effect_of c))
-    ∙ ap (λ is. chosen (when is (Some (effect_of c))) (vm_creation xs (vms_created xs + 1))) it in
-    (λ i. if there i then option_and_then (λ e. option_map (machine_made (grown xs c) (vms_created xs + 1) e) (make_of e.call)) (created i) else None)
+    let it : (next_vm xs == next_vm xs) ≡ true = eq-eqb (next_vm xs) (next_vm xs) refl in
+    let there : is_vm_there (grown xs c) (next_vm xs) ≡ true = latest_seen_last (vm_presence (next_vm xs)) false [] xs (Effect (effect_of c)) ∙ ap (λ is. chosen (when is true) (is_vm_there xs (next_vm xs))) it in
+    let created : vm_creation (grown xs c) (next_vm xs) ≡ Some (effect_of c) = latest_seen_last (vm_created (next_vm xs)) None [] xs (Effect (effect_of c)) ∙ ap (λ is. chosen (when is (Some (effect_of c))) (vm_creation xs (next_vm xs))) it in
+    (λ i. if there i then option_and_then (λ e. option_map (machine_made (grown xs c) (next_vm xs) e) (make_of e.call)) (created i) else None)
     ∙ ap Some (machine_made_new xs c orderly)
 
 -- ---- the tables
 
+-- one machine more
 machines-creation : (xs : List Entry) (c : Creation) → IsOrderly xs → machines (grown xs c) ≡ machines xs ++ machine_by xs c ∷ []
 machines-creation xs c orderly =
     ap (λ n. filter_map (machine_of (grown xs c)) (numbers_to n)) (vms_created-creation xs c)
     ∙ filter_map-one_more (machine_of (grown xs c)) (vms_created xs) (machine_by xs c) (machine_of_new xs c orderly)
-    ∙ ap (λ front. front ++ machine_by xs c ∷ [])
-    (filter_map-numbers_to (machine_of (grown xs c)) (machine_of xs) (vms_created xs) (λ v below. machine_of-creation xs c orderly v (λ is. omega arith)))
+    ∙ ap (λ front. front ++ machine_by xs c ∷ []) (filter_map-numbers_to (machine_of (grown xs c)) (machine_of xs) (vms_created xs) (λ v below. machine_of-creation xs c orderly v (λ is. omega arith)))
 
+-- and no other disk
 contents_of-creation : (xs : List Entry) (c : Creation) → contents_of (grown xs c) ≡ contents_of xs
 contents_of-creation xs c = fold-append written (λ d. []) xs (Effect (effect_of c) ∷ [])
 
 disk_of-creation : (xs : List Entry) (c : Creation) (d : ℕ) → disk_of (grown xs c) d ≡ disk_of xs d
 disk_of-creation xs c d =
-    let made : (e : effect.Effect) (want : DiskWant) → disk_made (grown xs c) d e want ≡ disk_made xs d e want =
-    λ e want i. record { disk = d; tag = e.n; owner = e.owner; want = want; contents = contents_of-creation xs c i d } in
-    λ i.
+    let made : (e : effect.Effect) (want : DiskWant) → disk_made (grown xs c) d e want ≡ disk_made xs d e want = λ e want i. record { disk = d; tag = e.n; owner = e.owner; want = want; contents = contents_of-creation xs c i d } in λ i.
     if latest_seen_last (disk_presence d) false [] xs (Effect (effect_of c)) i
     then option_and_then (λ e. option_map (λ want. made e want i) (want_of e.call)) (latest_seen_last (disk_created d) None [] xs (Effect (effect_of c)) i)
     else None
@@ -218,6 +221,7 @@ made_is : (call : Call) (make : Make) → make_of call ≡ Some make → (hint :
 made_is (CreateVm m hint) make is = (hint, cc)
 made_is call make is = absurd cc
 
+-- what one more creation adds
 pub AddsMachine-creation : (xs : List Entry) (e : effect.Effect) (make : Make) → make_of e.call ≡ Some make → IsOrderly xs → AddsMachine xs (xs ++ Effect e ∷ []) (new_machine (vms_created xs + 1) e make)
 AddsMachine-creation xs e make is orderly =
     let hint : List ℕ = (made_is e.call make is).0 in
