@@ -1,0 +1,5 @@
+pub mod Tree
+pub mod Code
+pub mod View
+pub mod Depth
+pub mod Keys
