@@ -3,3 +3,4 @@ pub mod Code
 pub mod View
 pub mod Depth
 pub mod Keys
+pub mod Scalar

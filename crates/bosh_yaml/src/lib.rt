@@ -2,9 +2,13 @@
 #![tactic(auto)]
 
 mod copied;
+mod fault;
 mod node;
+mod plain;
 mod text;
 
 pub use copied::{Copied, CopyFault};
+pub use fault::ReadFault;
 pub use node::{Items, Node, Pairs};
+pub use plain::scalar;
 pub use text::{OfFault, Str};

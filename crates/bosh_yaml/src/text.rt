@@ -58,6 +58,15 @@ impl Str {
         }
     }
 
+    /// The text of bytes that are UTF-8.
+    pub fn from_utf8(alloc: Global, bytes: &[u8]) -> Result<Str, AllocError>
+        requires { IsUtf8 bytes.now }
+        ensures { IfOk result (λ s. s ≡ bytes.now) }
+    {
+        let bytes = Vec::from_slice(alloc, bytes)?;
+        Ok(Str { bytes })
+    }
+
     /// How many bytes the text has.
     pub fn len(&self) -> usize
         ensures { result ≡ length self.now }
