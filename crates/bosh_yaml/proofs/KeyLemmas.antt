@@ -28,7 +28,6 @@ or_parts false b h = (refl, h)
 or_both : (a b : Bool) → a ≡ false → b ≡ false → (a || b) ≡ false
 or_both a b p q = rw p q
 
-
 or_regroup : (a b c : Bool) → (a || (b || c)) ≡ ((a || b) || c)
 or_regroup true b c = refl
 or_regroup false b c = refl
@@ -41,8 +40,7 @@ has_key-push key (q ∷ ps) p =
 pub HasDistinctKeys-push : (ps : List Pair) (p : Pair) → HasDistinctKeys ps → has_key p.0 ps ≡ false → HasDistinctKeys (ps ++ p ∷ [])
 HasDistinctKeys-push [] p d f = (refl, tt)
 HasDistinctKeys-push (q ∷ ps) p d f =
-    let parts = or_parts (bytes_eq q.0 p.0) (has_key p.0 ps) f in
-    (
+    let parts = or_parts (bytes_eq q.0 p.0) (has_key p.0 ps) f in (
       has_key-push q.0 ps p ∙ or_both (has_key q.0 ps) (bytes_eq p.0 q.0) d.0 (bytes_eq_flips q.0 p.0 parts.0),
       HasDistinctKeys-push ps p d.1 parts.1,
     )

@@ -4,3 +4,6 @@ pub mod View
 pub mod Depth
 pub mod Keys
 pub mod Scalar
+pub mod Lines
+pub mod Bare
+pub mod Quotes

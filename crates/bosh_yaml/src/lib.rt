@@ -1,10 +1,13 @@
 //! Nodes: what a YAML or JSON text says, as null, truth values, integers, texts, lists and maps.
 #![tactic(auto)]
 
+mod bare;
 mod copied;
 mod fault;
+mod line;
 mod node;
 mod plain;
+mod quoted;
 mod text;
 
 pub use copied::{Copied, CopyFault};

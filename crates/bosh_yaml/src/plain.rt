@@ -2,7 +2,7 @@
 
 ghost use Rattle.std.specs.Prelude.{◌≡◌, ◌&&◌, ◌||◌, Bool, IfOk, IfErr};
 ghost use Rattle.std.specs.Str.{IsUtf8, all_ascii_digits, bytes_eq};
-ghost use Rattle.bosh_yaml.specs.Scalar.{digits_of, integer_of, is_counting as counts, scalar_of};
+ghost use Rattle.bosh_yaml.specs.Scalar.{digits_of, integer_of, is_counting as counts, scalar_of, leaf_tree};
 ghost use Rattle.bosh_yaml.specs.View.{tree_of};
 
 use crate::fault::ReadFault;
@@ -11,24 +11,56 @@ use crate::text::Str;
 use std::alloc::Global;
 use std::str;
 
+/// A value that is neither a list nor a map.
+#[derive(Drop)]
+pub(crate) enum Leaf {
+    Null,
+    Bool(bool),
+    Int(i64),
+    Text(Str),
+}
+
+impl From<Leaf> for Node {
+    ghost from_gives = { λ s n. tree_of n ≡ leaf_tree s };
+
+    fn from(leaf: Leaf) -> Node {
+        match leaf {
+            Leaf::Null => Node::Null,
+            Leaf::Bool(b) => Node::Bool(b),
+            Leaf::Int(n) => Node::Int(n),
+            Leaf::Text(text) => Node::Text(text),
+        }
+    }
+}
+
 /// What a plain scalar stands for. A text that is not null, a truth value or an integer is text.
 pub fn scalar(alloc: Global, text: &[u8]) -> Result<Node, ReadFault>
     requires { IsUtf8 text.now }
-    ensures value { IfOk result (λ n. tree_of n ≡ scalar_of text.now) }
+    ensures value { IfOk result (λ n. tree_of n ≡ leaf_tree (scalar_of text.now)) }
+    ensures memory { IfErr result (λ e. e ≡ ReadFault.Memory) }
+{
+    let leaf = plain(alloc, text)?;
+    Ok(Node::from(leaf))
+}
+
+/// What a plain scalar is.
+pub(crate) fn plain(alloc: Global, text: &[u8]) -> Result<Leaf, ReadFault>
+    requires { IsUtf8 text.now }
+    ensures value { IfOk result (λ s. s ≡ scalar_of text.now) }
     ensures memory { IfErr result (λ e. e ≡ ReadFault.Memory) }
 {
     if is_word(text, b"") || is_word(text, b"~") || is_word(text, b"null") {
-        return Ok(Node::Null);
+        return Ok(Leaf::Null);
     }
     if is_word(text, b"true") {
-        return Ok(Node::Bool(true));
+        return Ok(Leaf::Bool(true));
     }
     if is_word(text, b"false") {
-        return Ok(Node::Bool(false));
+        return Ok(Leaf::Bool(false));
     }
     match integer(text) {
-        Some(n) => Ok(Node::Int(n)),
-        None => Ok(Node::Text(Str::from_utf8(alloc, text)?)),
+        Some(n) => Ok(Leaf::Int(n)),
+        None => Ok(Leaf::Text(Str::from_utf8(alloc, text)?)),
     }
 }
 
