@@ -1,3 +1,4 @@
 pub mod KeyLemmas
 pub mod IntegerLemmas
 pub mod LineLemmas
+pub mod QuoteLemmas

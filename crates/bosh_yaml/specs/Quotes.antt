@@ -18,7 +18,7 @@ single_quoted (b ∷ c ∷ bs) =
     if b == 39 then (if c == 39 then after_text (39 ∷ []) (single_quoted bs) else Some ([], c ∷ bs))
     else after_text (b ∷ []) (single_quoted (c ∷ bs))
 
--- the byte that an escape of one letter stands for: `\\`, `\"`, `\/`, `\n`, `\r`, `\t` and `\0`
+-- the character that an escape of one letter stands for: `\\`, `\"`, `\/`, `\n`, `\r`, `\t` and `\0`
 abbrev pub escaped : ℕ → Option ℕ
 escaped b =
     if b == 92 then Some 92 else if b == 34 then Some 34 else if b == 47 then Some 47
@@ -42,18 +42,15 @@ then_digit (Some n) (Some d) = Some (16 * n + d)
 abbrev pub four_hex : ℕ → ℕ → ℕ → ℕ → Option ℕ
 four_hex a b c d = then_digit (then_digit (then_digit (hex a) (hex b)) (hex c)) (hex d)
 
--- the bytes of a character, unless it is a surrogate
-abbrev pub character : Option ℕ → Option (List ℕ)
+-- a number below 65,536 as a character, unless it is a surrogate
+abbrev pub character : Option ℕ → Option ℕ
 character None = None
-character (Some n) = if nat_le 55296 n && nat_le n 57343 then None else Some (encode_utf8 n)
+character (Some n) = if nat_le 55296 n && nat_le n 57343 then None else Some n
 
-abbrev pub after_some : Option (List ℕ) → Quoted → Quoted
-after_some None q = None
-after_some (Some front) q = after_text front q
-
-abbrev pub one_byte : Option ℕ → Option (List ℕ)
-one_byte None = None
-one_byte (Some b) = Some (b ∷ [])
+-- a character and the text after it
+abbrev pub after_character : Option ℕ → Quoted → Quoted
+after_character None q = None
+after_character (Some c) q = after_text (encode_utf8 c) q
 
 -- with the escapes of one letter, and `\u` with four hexadecimal digits
 abbrev mutual
@@ -66,11 +63,11 @@ abbrev mutual
 
   pub double_escaped : List ℕ → Quoted
   double_escaped [] = None
-  double_escaped (e ∷ bs) = if e == 117 then double_unicode bs else after_some (one_byte (escaped e)) (double_quoted bs)
+  double_escaped (e ∷ bs) = if e == 117 then double_unicode bs else after_character (escaped e) (double_quoted bs)
 
   pub double_unicode : List ℕ → Quoted
   double_unicode [] = None
   double_unicode (a ∷ []) = None
   double_unicode (a ∷ b ∷ []) = None
   double_unicode (a ∷ b ∷ c ∷ []) = None
-  double_unicode (a ∷ b ∷ c ∷ d ∷ bs) = after_some (character (four_hex a b c d)) (double_quoted bs)
+  double_unicode (a ∷ b ∷ c ∷ d ∷ bs) = after_character (character (four_hex a b c d)) (double_quoted bs)
