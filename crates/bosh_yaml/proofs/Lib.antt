@@ -2,3 +2,4 @@ pub mod KeyLemmas
 pub mod IntegerLemmas
 pub mod LineLemmas
 pub mod QuoteLemmas
+pub mod TextLemmas

@@ -7,3 +7,5 @@ pub mod Scalar
 pub mod Lines
 pub mod Bare
 pub mod Quotes
+pub mod Result
+pub mod Word

@@ -9,6 +9,7 @@ mod node;
 mod plain;
 mod quoted;
 mod text;
+mod word;
 
 pub use copied::{Copied, CopyFault};
 pub use fault::ReadFault;

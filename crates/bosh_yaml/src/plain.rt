@@ -64,7 +64,7 @@ pub(crate) fn plain(alloc: Global, text: &[u8]) -> Result<Leaf, ReadFault>
     }
 }
 
-fn is_word(text: &[u8], word: &[u8]) -> bool
+pub(crate) fn is_word(text: &[u8], word: &[u8]) -> bool
     ensures { result ≡ bytes_eq text.now word.now }
 {
     text == word

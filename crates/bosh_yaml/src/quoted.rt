@@ -34,7 +34,10 @@ pub(crate) fn single_quoted(
 
 #[tactic(auto, using(crate::proofs::QuoteLemmas::quotes))]
 // The text up to the closing double quote, with its escapes undone, and what follows it.
-pub(crate) fn double_quoted(alloc: Global, bytes: &[u8]) -> Result<Option<(Vec<u8>, &[u8])>, AllocError>
+pub(crate) fn double_quoted(
+    alloc: Global,
+    bytes: &[u8],
+) -> Result<Option<(Vec<u8>, &[u8])>, AllocError>
     ensures { IfOk result (λ o. option_map (λ p. (p.0.items, p.1.now)) o ≡ double bytes.now) }
 {
     let mut text = Vec::new(alloc);

@@ -1,6 +1,6 @@
 //! Text: bytes that are UTF-8.
 
-ghost use Rattle.std.specs.Prelude.{◌≡◌, ◌==◌, ◌↔◌, IfOk, length};
+ghost use Rattle.std.specs.Prelude.{◌≡◌, ◌==◌, ◌↔◌, IfOk, OnOk, length};
 ghost use Rattle.std.specs.Str.{IsUtf8};
 ghost use Rattle.bosh_yaml.specs.declared.text.OfFault.TheVariants.{Memory};
 
@@ -47,6 +47,7 @@ impl Str {
     /// The text that the bytes are.
     pub fn of(alloc: Global, bytes: &[u8]) -> Result<Str, OfFault>
         ensures ok { IfOk result (λ s. s ≡ bytes.now) }
+        ensures utf8 { OnOk result (IsUtf8 bytes.now) }
         ensures not_one { (result ≡ Err OfFault.NotOne) ↔ ¬ IsUtf8 bytes.now }
     {
         match str::from_utf8(bytes) {

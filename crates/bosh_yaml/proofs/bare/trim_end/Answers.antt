@@ -10,7 +10,7 @@ loop-len-preserved c =
 
 pub returns : goal.returns
 returns c =
-    elim c.loop-len-test.branch
-    [ then-loop-len-test+else-bytes-len-eq32 w ↦ sym (trim_end-done c.loop-len.len c.args.bytes.now w.loop-len-test.true c.loop-len.invariant.0 w.if-bytes-len-eq32.false) ∙ c.loop-len.invariant.1
-    | else-loop-len-test w ↦ trim_end-none c.loop-len.len c.args.bytes.now w.loop-len-test.false ∙ c.loop-len.invariant.1
+    elim c.loop-len-test.branch [
+      | then-loop-len-test+else-bytes-len-eq32 w ↦ sym (trim_end-done c.loop-len.len c.args.bytes.now w.loop-len-test.true c.loop-len.invariant.0 w.if-bytes-len-eq32.false) ∙ c.loop-len.invariant.1
+      | else-loop-len-test w ↦ trim_end-none c.loop-len.len c.args.bytes.now w.loop-len-test.false ∙ c.loop-len.invariant.1
     ]

@@ -8,7 +8,7 @@ returns-then-line-len-eq13-clause-cut c =
 
 pub returns-clause-cut : goal.returns-clause-cut
 returns-clause-cut c =
-    elim c.else-len-gt0.branch
-    [ else-len-gt0-via-then-len-gt0+else-line-len-eq13 w ↦ without_return-done c.args.line.now w.if-len-gt0.true w.if-line-len-eq13.false
-    | else-len-gt0-via-else-len-gt0 w ↦ without_return-empty c.args.line.now w.if-len-gt0.false
+    elim c.else-len-gt0.branch [
+      | else-len-gt0-via-then-len-gt0+else-line-len-eq13 w ↦ without_return-done c.args.line.now w.if-len-gt0.true w.if-line-len-eq13.false
+      | else-len-gt0-via-else-len-gt0 w ↦ without_return-empty c.args.line.now w.if-len-gt0.false
     ]
