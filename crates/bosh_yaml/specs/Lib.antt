@@ -9,3 +9,4 @@ pub mod Bare
 pub mod Quotes
 pub mod Result
 pub mod Word
+pub mod Flow

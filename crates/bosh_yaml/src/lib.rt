@@ -3,7 +3,9 @@
 
 mod bare;
 mod copied;
+mod event;
 mod fault;
+mod flow;
 mod line;
 mod node;
 mod plain;

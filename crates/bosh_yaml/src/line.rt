@@ -45,7 +45,8 @@ pub(crate) fn is_clean(line: &[u8]) -> bool
 
 // The bytes without the spaces at their front.
 pub(crate) fn skip_spaces(bytes: &[u8]) -> &[u8]
-    ensures { result.now ≡ skipped bytes.now }
+    ensures skipped { result.now ≡ skipped bytes.now }
+    ensures no_longer { length result.now ≤ length bytes.now }
 {
     let mut rest = bytes;
     while let [b' ', after @ ..] = rest {

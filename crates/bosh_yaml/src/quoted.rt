@@ -1,6 +1,6 @@
 //! Quoted scalars.
 
-ghost use Rattle.std.specs.Prelude.{◌≡◌, ◌<◌, ◌++◌, None, length, IfNone, IfOk, IfSome, OnOk};
+ghost use Rattle.std.specs.Prelude.{◌≡◌, ◌<◌, ◌≤◌, ◌++◌, None, length, IfNone, IfOk, IfSome, OnOk};
 ghost use Rattle.std.specs.Char.{encode_utf8};
 ghost use Rattle.std.specs.Option.{option_map};
 ghost use Rattle.bosh_yaml.specs.Quotes.{after_text, character as character_of, double_escaped, double_quoted as double, double_unicode, escaped as unescaped, four_hex, hex as hexadecimal, single_quoted as single};
@@ -12,7 +12,8 @@ pub(crate) fn single_quoted(
     alloc: Global,
     bytes: &[u8],
 ) -> Result<Option<(Vec<u8>, &[u8])>, AllocError>
-    ensures { IfOk result (λ o. option_map (λ p. (p.0.items, p.1.now)) o ≡ single bytes.now) }
+    ensures text { IfOk result (λ o. option_map (λ p. (p.0.items, p.1.now)) o ≡ single bytes.now) }
+    ensures no_longer { IfOk result (λ o. IfSome o (λ p. length p.1.now ≤ length bytes.now)) }
 {
     let mut text = Vec::new(alloc);
     let mut rest = bytes;
@@ -38,7 +39,8 @@ pub(crate) fn double_quoted(
     alloc: Global,
     bytes: &[u8],
 ) -> Result<Option<(Vec<u8>, &[u8])>, AllocError>
-    ensures { IfOk result (λ o. option_map (λ p. (p.0.items, p.1.now)) o ≡ double bytes.now) }
+    ensures text { IfOk result (λ o. option_map (λ p. (p.0.items, p.1.now)) o ≡ double bytes.now) }
+    ensures no_longer { IfOk result (λ o. IfSome o (λ p. length p.1.now ≤ length bytes.now)) }
 {
     let mut text = Vec::new(alloc);
     let mut rest = bytes;

@@ -1,6 +1,6 @@
 //! Scalars on a line, as values and as keys.
 
-ghost use Rattle.std.specs.Prelude.{◌≡◌, ◌<◌, length, IfOk, Ok};
+ghost use Rattle.std.specs.Prelude.{◌≡◌, ◌<◌, length, IfOk, IfSome, Ok};
 ghost use Rattle.std.specs.Option.{option_map};
 ghost use Rattle.bosh_yaml.specs.Result.{Gives};
 ghost use Rattle.bosh_yaml.specs.Word.{key_of, leaf_of, plain_word as plain_words, quoted_word, text_of as texts, word_at as words};
@@ -27,6 +27,7 @@ pub(crate) fn word_at(
     bytes: &[u8],
 ) -> Result<(Word, &[u8]), ReadFault>
     ensures gives { Gives (λ p. (p.0, p.1.now)) result (words place line bytes.now) }
+    ensures shorter { IfOk result (λ p. length p.1.now < length bytes.now) }
 {
     let Some((first, rest)) = bytes.split_first() else {
         return Err(ReadFault::Syntax { line });
@@ -43,7 +44,8 @@ fn quoted(
     line: u32,
     found: Option<(Vec<u8>, &[u8])>,
 ) -> Result<(Word, &[u8]), ReadFault>
-    ensures { Gives (λ p. (p.0, p.1.now)) result (quoted_word line (option_map (λ p. (p.0.items, p.1.now)) found.entry)) }
+    ensures gives { Gives (λ p. (p.0, p.1.now)) result (quoted_word line (option_map (λ p. (p.0.items, p.1.now)) found.entry)) }
+    ensures rest { IfOk result (λ p. IfSome found.entry (λ q. p.1.now ≡ q.1.now)) }
 {
     match found {
         Some((text, rest)) => {
@@ -60,7 +62,8 @@ fn plain_word(
     line: u32,
     bytes: &[u8],
 ) -> Result<(Word, &[u8]), ReadFault>
-    ensures { Gives (λ p. (p.0, p.1.now)) result (plain_words place line bytes.now) }
+    ensures gives { Gives (λ p. (p.0, p.1.now)) result (plain_words place line bytes.now) }
+    ensures shorter { IfOk result (λ p. length p.1.now < length bytes.now) }
 {
     if !starts_plain(bytes) {
         return Err(ReadFault::Syntax { line });
