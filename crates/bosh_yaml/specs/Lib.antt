@@ -10,3 +10,4 @@ pub mod Quotes
 pub mod Result
 pub mod Word
 pub mod Flow
+pub mod Block

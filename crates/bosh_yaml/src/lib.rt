@@ -2,6 +2,7 @@
 #![tactic(auto)]
 
 mod bare;
+mod block;
 mod copied;
 mod event;
 mod fault;
