@@ -5,3 +5,5 @@ pub mod QuoteLemmas
 pub mod TextLemmas
 pub mod ResultLemmas
 pub mod FlowLemmas
+pub mod LiteralLemmas
+pub mod ContentLemmas

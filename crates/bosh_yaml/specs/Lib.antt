@@ -11,3 +11,5 @@ pub mod Result
 pub mod Word
 pub mod Flow
 pub mod Block
+pub mod Content
+pub mod Literal

@@ -3,11 +3,13 @@
 
 mod bare;
 mod block;
+mod content;
 mod copied;
 mod event;
 mod fault;
 mod flow;
 mod line;
+mod literal;
 mod node;
 mod plain;
 mod quoted;
