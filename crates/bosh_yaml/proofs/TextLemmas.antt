@@ -15,3 +15,11 @@ pub text_of-other : (line : ℕ) (bs : List ℕ) → (IsUtf8 bs → ⊥) → tex
 text_of-other line bs h = rw (is_not (is_utf8 bs) (λ e. h (IsUtf8-from_is_utf8 bs e)))
 
 pub ruleset texts = (text_of-utf8, text_of-other)
+
+pub is_utf8-true : (bs : List ℕ) → IsUtf8 bs → is_utf8 bs ≡ true
+is_utf8-true = is_utf8-from_IsUtf8
+
+pub is_utf8-false : (bs : List ℕ) → (IsUtf8 bs → ⊥) → is_utf8 bs ≡ false
+is_utf8-false bs h = is_not (is_utf8 bs) (λ e. h (IsUtf8-from_is_utf8 bs e))
+
+pub ruleset tests_text = (is_utf8-true, is_utf8-false)

@@ -13,3 +13,5 @@ pub mod Flow
 pub mod Block
 pub mod Content
 pub mod Literal
+pub mod Events
+pub mod Scanning

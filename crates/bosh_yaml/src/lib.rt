@@ -13,6 +13,7 @@ mod literal;
 mod node;
 mod plain;
 mod quoted;
+mod scan;
 mod text;
 mod word;
 

@@ -78,7 +78,7 @@ fn plain_word(
 }
 
 #[tactic(auto, using(crate::proofs::TextLemmas::texts))]
-fn text_of(alloc: Global, line: u32, bytes: &[u8]) -> Result<Str, ReadFault>
+pub(crate) fn text_of(alloc: Global, line: u32, bytes: &[u8]) -> Result<Str, ReadFault>
     ensures { Gives (λ s. s) result (texts line bytes.now) }
 {
     match Str::of(alloc, bytes) {
