@@ -7,3 +7,4 @@ pub mod ResultLemmas
 pub mod FlowLemmas
 pub mod LiteralLemmas
 pub mod ContentLemmas
+pub mod ScanLemmas

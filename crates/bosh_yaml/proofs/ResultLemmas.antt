@@ -22,3 +22,24 @@ with_front_bind front (Err e) f = refl
 
 pub ok_same : {A : Type 0} {x y : A} → ◌≡◌ {A = Result A ReadFault} (Ok x) (Ok y) → x ≡ y
 ok_same h = cc
+
+refuses_value : {A B : Type 0} (e : ReadFault) (x : A) (y : B) → Refuses e (Ok x) → Refuses e (Ok y)
+refuses_value Memory x y h = tt
+refuses_value (Syntax line) x y h = cc
+refuses_value (RepeatedKey line) x y h = cc
+refuses_value TooDeep x y h = cc
+refuses_value TooLarge x y h = cc
+refuses_value Number x y h = cc
+
+refuses_fault : (A B : Type 0) (e f : ReadFault) → Refuses {B = A} e (Err f) → Refuses {B = B} e (Err f)
+refuses_fault A B Memory f h = tt
+refuses_fault A B (Syntax line) f h = cc
+refuses_fault A B (RepeatedKey line) f h = cc
+refuses_fault A B TooDeep f h = cc
+refuses_fault A B TooLarge f h = cc
+refuses_fault A B Number f h = cc
+
+-- what refuses a step refuses what the step was made of
+pub Refuses-step : {A B : Type 0} (e : ReadFault) (read : Result A ReadFault) (f : A → B) → Refuses e (read >>= λ x. Ok (f x)) → Refuses e read
+Refuses-step e (Ok x) f h = refuses_value e (f x) x h
+Refuses-step e (Err g) f h = refuses_fault _ _ e g h

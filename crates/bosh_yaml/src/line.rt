@@ -1,13 +1,14 @@
 //! Lines, and the spaces and comments on them.
 
-ghost use Rattle.std.specs.Prelude.{◌≡◌, ◌+◌, ◌≤◌, ◌∷◌, [], length, IfNone, IfSome};
+ghost use Rattle.std.specs.Prelude.{◌≡◌, ◌<◌, ◌≤◌, ◌∷◌, [], length, IfNone, IfSome};
 ghost use Rattle.bosh_yaml.specs.Lines.{begins as starts, is_blank as blank, is_clean as clean, is_end as end, is_gap as gap, lines_of, without_return as without_carriage, skip_spaces as skipped};
 
 // The first line of the bytes, and what follows it.
 pub(crate) fn next_line(bytes: &[u8]) -> Option<(&[u8], &[u8])>
     ensures none { IfNone result (lines_of bytes.now ≡ []) }
     ensures some { IfSome result (λ p. lines_of bytes.now ≡ p.0.now ∷ lines_of p.1.now) }
-    ensures shorter { IfSome result (λ p. length p.0.now + length p.1.now ≤ length bytes.now) }
+    ensures shorter { IfSome result (λ p. length p.1.now < length bytes.now) }
+    ensures within { IfSome result (λ p. length p.0.now ≤ length bytes.now) }
 {
     if bytes.is_empty() {
         return None;

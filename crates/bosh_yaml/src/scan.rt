@@ -2,7 +2,7 @@
 
 ghost use Rattle.std.specs.Prelude.{◌≡◌, ◌+◌, ◌<◌, ◌≤◌, ◌^◌, [], ◌++◌, length, ◌∷◌, map, Some, Ok};
 ghost use Rattle.std.specs.Str.{is_utf8};
-ghost use Rattle.bosh_yaml.specs.Events.{content_line as content, end_by_mode, events_of as events_spelled, first_line as first, fixed_indent as fixed, is_marker as marker, is_readable as readable, line_by_mode, literal_event, literal_line as literal, plain_line as plain};
+ghost use Rattle.bosh_yaml.specs.Events.{content_line as content, end_by_mode, events_of as events_spelled, first_line as first, fixed_indent as fixed, is_marker as marker, is_readable as readable, literal_event, literal_line as literal, one_line, plain_line as plain};
 ghost use Rattle.bosh_yaml.specs.Scanning.{add_event, add_scanned};
 ghost use Rattle.bosh_yaml.specs.Result.{Gives, with_front};
 
@@ -163,4 +163,81 @@ fn literal_line<'a>(
     push_literal(alloc, header, indent, body.as_slice(), events)?;
     body.clear();
     plain_line(alloc, Mode::Outside, line, bytes, frames, events)
+}
+
+// Any line, by what is open before it.
+fn take_line_by<'a>(
+    alloc: Global,
+    mode: Mode,
+    line: u32,
+    bytes: &'a [u8],
+    frames: &mut VecDeque<Frame>,
+    events: &mut Vec<Event>,
+    body: &mut Vec<&'a [u8]>,
+) -> Result<Mode, ReadFault>
+    requires { length bytes.now < 2 ^ 63 }
+    ensures { Gives (λ next. (events.new.items, record { frames = frames.new.items; mode = next; body = map (λ l. l.now) body.new.items })) result (add_scanned events.old.items (one_line line (record { frames = frames.old.items; mode = mode; body = map (λ l. l.now) body.old.items }) bytes.now)) }
+{
+    if !is_readable(bytes) {
+        return Err(ReadFault::Syntax { line });
+    }
+    match mode {
+        Mode::Literal(header, indent) => literal_line(
+            alloc, header, indent, line, bytes, frames, events, body,
+        ),
+        Mode::Start => {
+            body.clear();
+            first_line(alloc, line, bytes, frames, events)
+        }
+        Mode::Outside => {
+            body.clear();
+            plain_line(alloc, Mode::Outside, line, bytes, frames, events)
+        }
+    }
+}
+
+// The end of the text.
+fn finish(
+    alloc: Global,
+    mode: Mode,
+    mut frames: VecDeque<Frame>,
+    events: &mut Vec<Event>,
+    body: &[&[u8]],
+) -> Result<(), ReadFault>
+    ensures { Gives (λ u. events.new.items) result (with_front events.old.items (end_by_mode mode frames.items (map (λ l. l.now) body.now))) }
+{
+    if let Mode::Literal(header, indent) = mode {
+        push_literal(alloc, header, indent, body, events)?;
+    }
+    place_end(&mut frames, events)?;
+    Ok(())
+}
+
+/// The events of a text of at most 1,048,576 bytes.
+pub(crate) fn events_of(alloc: Global, text: &[u8]) -> Result<Vec<Event>, ReadFault>
+    requires { length text.now ≤ 1048576 }
+    ensures { Gives (λ v. v.items) result (events_spelled text.now) }
+{
+    let mut frames = VecDeque::new(alloc);
+    frames.push_front(Frame::Whole)?;
+    let mut events = Vec::new(alloc);
+    let mut body = Vec::new(alloc);
+    let mut mode = Mode::Start;
+    let mut line = 1u32;
+    let mut rest = text;
+    while let Some((bytes, after)) = next_line(rest) {
+        mode = take_line_by(
+            alloc,
+            mode,
+            line,
+            bytes,
+            &mut frames,
+            &mut events,
+            &mut body,
+        )?;
+        line += 1;
+        rest = after;
+    }
+    finish(alloc, mode, frames, &mut events, body.as_slice())?;
+    Ok(events)
 }
