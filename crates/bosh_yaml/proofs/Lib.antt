@@ -8,3 +8,5 @@ pub mod FlowLemmas
 pub mod LiteralLemmas
 pub mod ContentLemmas
 pub mod ScanLemmas
+pub mod NestingLemmas
+pub mod SeenLemmas

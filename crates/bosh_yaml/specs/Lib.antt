@@ -15,3 +15,5 @@ pub mod Content
 pub mod Literal
 pub mod Events
 pub mod Scanning
+pub mod Nodes
+pub mod Seen

@@ -3,6 +3,7 @@
 
 mod bare;
 mod block;
+mod check;
 mod content;
 mod copied;
 mod event;
