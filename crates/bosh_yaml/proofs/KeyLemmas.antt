@@ -32,7 +32,7 @@ or_regroup : (a b c : Bool) → (a || (b || c)) ≡ ((a || b) || c)
 or_regroup true b c = refl
 or_regroup false b c = refl
 
-has_key-push : (key : List ℕ) (ps : List Pair) (p : Pair) → has_key key (ps ++ p ∷ []) ≡ (has_key key ps || bytes_eq p.0 key)
+pub has_key-push : (key : List ℕ) (ps : List Pair) (p : Pair) → has_key key (ps ++ p ∷ []) ≡ (has_key key ps || bytes_eq p.0 key)
 has_key-push key [] p = or-false (bytes_eq p.0 key)
 has_key-push key (q ∷ ps) p =
     ap (λ x. bytes_eq q.0 key || x) (has_key-push key ps p) ∙ or_regroup (bytes_eq q.0 key) (has_key key ps) (bytes_eq p.0 key)

@@ -10,3 +10,4 @@ pub mod ContentLemmas
 pub mod ScanLemmas
 pub mod NestingLemmas
 pub mod SeenLemmas
+pub mod BuildLemmas

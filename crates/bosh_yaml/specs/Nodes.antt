@@ -1,10 +1,14 @@
 -- What the events of a text say: the first key that stands a second time in its mapping, how deep collections nest, and the tree.
 use Rattle.std.specs.Prelude.{◌≡◌, ℕ, ◌+◌, ◌-◌, max, Bool, true, false, ◌||◌, List, [], ◌∷◌, ◌++◌, Option, Some, None, Result, Ok, Err, if◌then◌else◌}
 use Rattle.std.specs.Str.{bytes_eq}
+use Rattle.bosh_yaml.specs.declared.build.Open.{Open}
+use Rattle.bosh_yaml.specs.declared.build.Open.TheVariants.{List as ListOf, Map as MapOf, Entry as EntryOf}
 use Rattle.bosh_yaml.specs.declared.event.Event.{Event}
 use Rattle.bosh_yaml.specs.declared.event.Event.TheVariants.{Scalar, OpenList, OpenMap, Key, Close}
 use Rattle.bosh_yaml.specs.declared.fault.ReadFault.{ReadFault}
+use Rattle.bosh_yaml.specs.Result.{◌>>=◌}
 use Rattle.bosh_yaml.specs.Scalar.{leaf_tree}
+use Rattle.bosh_yaml.specs.Keys.{has_key}
 use Rattle.bosh_yaml.specs.Tree.{Tree, list, map, trees_of, fields_of}
 use Rattle.bosh_yaml.specs.Word.{refused}
 
@@ -46,26 +50,59 @@ abbrev pub nesting : ℕ → List Event → ℕ
 nesting before [] = before
 nesting before (event ∷ events) = max before (nesting (open_after before event) events)
 
--- an open collection
-pub data Open : Type 0 where
-  in_list : List Tree → Open
-  in_map : List (List ℕ × Tree) → Open
-  in_entry : List (List ℕ × Tree) → List ℕ → Open
+-- after a value: the whole tree, where no collection is open, and the open collections
+abbrev pub Step : Type 0
+Step = Option Tree × List Open
 
--- after a value: the open collections, or the whole tree
-abbrev pub with_value : Tree → List Open → Result (Option Tree × List Open) ReadFault
+abbrev pub with_value : Tree → List Open → Result Step ReadFault
 with_value t [] = Ok (Some t, [])
-with_value t (in_list ts ∷ outer) = Ok (None, in_list (ts ++ t ∷ []) ∷ outer)
-with_value t (in_entry ps key ∷ outer) = Ok (None, in_map (ps ++ (key, t) ∷ []) ∷ outer)
-with_value t (in_map ps ∷ outer) = refused 0
+with_value t (ListOf ts ∷ all) = Ok (None, ListOf (ts ++ t ∷ []) ∷ all)
+with_value t (EntryOf ps key ∷ all) = Ok (None, MapOf (ps ++ (key, t) ∷ []) ∷ all)
+with_value t (MapOf ps ∷ all) = refused 0
 
 -- a key in the innermost collection
-abbrev pub with_key : List ℕ → List Open → Result (List Open) ReadFault
-with_key key (in_map ps ∷ outer) = Ok (in_entry ps key ∷ outer)
-with_key key outer = refused 0
+abbrev pub with_key : List ℕ → List Open → Result Step ReadFault
+with_key key [] = refused 0
+with_key key (MapOf ps ∷ all) = Ok (None, EntryOf ps key ∷ all)
+with_key key (ListOf ts ∷ all) = refused 0
+with_key key (EntryOf ps k ∷ all) = refused 0
 
--- the innermost collection, closed
-abbrev pub closed : List Open → Result (Tree × List Open) ReadFault
-closed (in_list ts ∷ outer) = Ok (list (trees_of ts), outer)
-closed (in_map ps ∷ outer) = Ok (map (fields_of ps), outer)
-closed outer = refused 0
+-- the innermost collection is whole
+abbrev pub with_close : List Open → Result Step ReadFault
+with_close [] = refused 0
+with_close (ListOf ts ∷ all) = with_value (list (trees_of ts)) all
+with_close (MapOf ps ∷ all) = with_value (map (fields_of ps)) all
+with_close (EntryOf ps k ∷ all) = refused 0
+
+abbrev pub with_event : Event → List Open → Result Step ReadFault
+with_event (Scalar leaf) all = with_value (leaf_tree leaf) all
+with_event OpenList all = Ok (None, ListOf [] ∷ all)
+with_event OpenMap all = Ok (None, MapOf [] ∷ all)
+with_event (Key line key) all = with_key key all
+with_event Close all = with_close all
+
+-- the tree that events make, from the open collections on
+abbrev pub made : Option Tree → List Open → List Event → Result Tree ReadFault
+made None all [] = refused 0
+made (Some t) all [] = Ok t
+made None all (event ∷ events) = do
+  next ← with_event event all
+  made next.0 next.1 events
+made (Some t) all (event ∷ events) = refused 0
+
+-- each key whose value has not come is new
+abbrev pub AreNew : List Open → Type 0
+AreNew [] = Unit {0}
+AreNew (ListOf ts ∷ all) = AreNew all
+AreNew (MapOf ps ∷ all) = AreNew all
+AreNew (EntryOf ps key ∷ all) = (has_key key ps ≡ false) × AreNew all
+
+abbrev pub IsNewIn : Event → List Open → Type 0
+IsNewIn (Key line key) (MapOf ps ∷ all) = has_key key ps ≡ false
+IsNewIn event all = Unit {0}
+
+-- the keys of an open collection
+abbrev pub keys_of_open : Open → Keys
+keys_of_open (ListOf ts) key = false
+keys_of_open (MapOf ps) key = has_key key ps
+keys_of_open (EntryOf ps k) key = has_key key ps || bytes_eq k key

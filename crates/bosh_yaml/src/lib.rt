@@ -3,6 +3,7 @@
 
 mod bare;
 mod block;
+mod build;
 mod check;
 mod content;
 mod copied;
