@@ -21,11 +21,11 @@ bytes_eq_flips : (a b : List ℕ) → bytes_eq a b ≡ false → bytes_eq b a �
 bytes_eq_flips a b h =
     not_true (bytes_eq b a) (λ e. let t : bytes_eq a b ≡ true = (bytes_eq-Decides a b).1 (sym ((bytes_eq-Decides b a).0 e)) in cc)
 
-or_parts : (a b : Bool) → (a || b) ≡ false → (a ≡ false) × (b ≡ false)
+pub or_parts : (a b : Bool) → (a || b) ≡ false → (a ≡ false) × (b ≡ false)
 or_parts true b h = cc
 or_parts false b h = (refl, h)
 
-or_both : (a b : Bool) → a ≡ false → b ≡ false → (a || b) ≡ false
+pub or_both : (a b : Bool) → a ≡ false → b ≡ false → (a || b) ≡ false
 or_both a b p q = rw p q
 
 or_regroup : (a b c : Bool) → (a || (b || c)) ≡ ((a || b) || c)

@@ -11,3 +11,4 @@ pub mod ScanLemmas
 pub mod NestingLemmas
 pub mod SeenLemmas
 pub mod BuildLemmas
+pub mod CanonLemmas

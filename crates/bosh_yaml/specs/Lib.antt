@@ -17,3 +17,6 @@ pub mod Events
 pub mod Scanning
 pub mod Nodes
 pub mod Seen
+pub mod Canon
+pub mod Json
+pub mod Reading

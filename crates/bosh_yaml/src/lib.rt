@@ -4,6 +4,7 @@
 mod bare;
 mod block;
 mod build;
+mod canonical;
 mod check;
 mod content;
 mod copied;
@@ -19,6 +20,7 @@ mod scan;
 mod text;
 mod word;
 
+pub use canonical::canon;
 pub use copied::{Copied, CopyFault};
 pub use fault::ReadFault;
 pub use node::{Items, Node, Pairs};

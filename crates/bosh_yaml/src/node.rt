@@ -26,7 +26,7 @@ pub enum Node {
 #[cycle(node)]
 #[derive(Drop)]
 pub struct Items {
-    nodes: Vec<Node>,
+    pub(crate) nodes: Vec<Node>,
 }
 
 impl Model for Items {
@@ -103,7 +103,7 @@ impl Items {
 #[cycle(node)]
 #[derive(Drop)]
 pub struct Pairs {
-    entries: Vec<(Str, Node)>,
+    pub(crate) entries: Vec<(Str, Node)>,
 }
 
 impl Model for Pairs {
@@ -160,6 +160,14 @@ impl Pairs {
             Some((key, value)) => Some((key, value)),
             None => None,
         }
+    }
+
+    /// The keys and values, in their written order.
+    pub fn as_slice(&self) -> &[(Str, Node)]
+        ensures value { map pair_of result.now ≡ self.now }
+        ensures distinct { HasDistinctKeys self.now }
+    {
+        self.entries.as_slice()
     }
 
     /// The value at a key.
