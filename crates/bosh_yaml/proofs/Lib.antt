@@ -12,3 +12,4 @@ pub mod NestingLemmas
 pub mod SeenLemmas
 pub mod BuildLemmas
 pub mod CanonLemmas
+pub mod JsonLemmas

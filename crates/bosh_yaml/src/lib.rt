@@ -11,12 +11,16 @@ mod copied;
 mod event;
 mod fault;
 mod flow;
+mod json;
 mod line;
 mod literal;
 mod node;
 mod plain;
 mod quoted;
+mod reader;
 mod scan;
+#[cfg(test)]
+mod tests;
 mod text;
 mod word;
 
@@ -25,4 +29,5 @@ pub use copied::{Copied, CopyFault};
 pub use fault::ReadFault;
 pub use node::{Items, Node, Pairs};
 pub use plain::scalar;
+pub use reader::{MAX_BYTES, MAX_DEPTH, read};
 pub use text::{OfFault, Str};
