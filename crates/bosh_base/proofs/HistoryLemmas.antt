@@ -1,6 +1,6 @@
 -- The laws of the words on histories.
-use Rattle.std.proofs.Common.{◌≡◌, Option, Some, None, List, [], ◌∷◌, ◌++◌, refl, sym, ◌∙◌, ap, subst, append_assoc, append-nil}
-use Rattle.bosh_base.specs.History.{chosen, latest, latest_seen, EachAfter, Always, AlwaysFrom, Extends}
+use Rattle.std.proofs.Common.{◌≡◌, Option, List, [], ◌∷◌, ◌++◌, refl, sym, ◌∙◌, ap, subst, append_assoc, append-nil}
+use Rattle.bosh_base.specs.History.{chosen, latest, latest_seen, EachAfter, AlwaysFrom, Extends}
 
 -- one more item at the end answers first
 pub latest_last : {X A : Type 0} (answer : X → Option A) (d : A) (xs : List X) (x : X) → latest answer d (xs ++ x ∷ []) ≡ chosen (answer x) (latest answer d xs)

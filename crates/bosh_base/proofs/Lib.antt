@@ -1,1 +1,3 @@
 pub mod HistoryLemmas
+pub mod VersionLemmas
+pub mod VersionOrderLemmas

@@ -1,7 +1,6 @@
 -- What a call on the cloud may answer, and whether it then has its effect
 -- (bosh.io, "CPI API v1" and "Agent API", in this project's profile).
-use Rattle.std.specs.Prelude.{◌≡◌, ◌⊎◌, ℕ, ◌+◌, Bool, true, false, not, ◌&&◌, ◌||◌, ◌==◌, if◌then◌else◌, Option, Some, None, is_some, List, filter, find, IsTrue}
-use Rattle.std.specs.Option.{option_eq}
+use Rattle.std.specs.Prelude.{◌≡◌, ◌⊎◌, ℕ, ◌+◌, Bool, true, false, not, ◌&&◌, ◌||◌, ◌==◌, if◌then◌else◌, Option, Some, None, is_some, List, find, IsTrue}
 use Rattle.bosh_base.specs.Call.{method_of}
 use Rattle.bosh_base.specs.Method.{is_changing}
 use Rattle.bosh_base.specs.Cloud.{numbers_to, vms_created, vm_creation, is_vm_there, is_silent, spec_of, is_running, is_drained, disks_created, disk_creation, is_disk_there, holder_of, is_holder, is_disk_mounted, attached_to, mounted_on}
@@ -89,4 +88,4 @@ takes_effect built entries call = is_changing (method_of call) && not (is_gone (
 abbrev pub CallStep : (KeyWork → List Digest → Digest) → List Entry → Call → Bool → Answer → Type 0
 CallStep built entries call has_effect answer =
     ((answer ≡ answer_of built entries call) × (has_effect ≡ takes_effect built entries call))
-      ⊎ ((answer ≡ answers.Failed) × (IsTrue has_effect → IsTrue (takes_effect built entries call)))
+    ⊎ ((answer ≡ answers.Failed) × (IsTrue has_effect → IsTrue (takes_effect built entries call)))

@@ -1,5 +1,5 @@
 -- Tests that tell values apart.
-use Rattle.std.specs.Prelude.{◌≡◌, Bool, true, false, Option, Some, None, List}
+use Rattle.std.specs.Prelude.{◌≡◌, Bool, Option, Some, None, List}
 use Rattle.std.proofs.Common.{refl, ap}
 use Rattle.std.specs.Bool.{Decides}
 use Rattle.std.specs.Option.{option_eq}

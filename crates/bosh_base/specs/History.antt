@@ -1,6 +1,6 @@
 -- The words on histories: lists that grow at their end. A question on a history is answered by its latest
 -- item that answers, or is a statement on each item after those before it.
-use Rattle.std.specs.Prelude.{◌≡◌, Option, Some, None, List, [], ◌∷◌, ◌++◌, unwrap_or}
+use Rattle.std.specs.Prelude.{◌≡◌, Option, Some, None, List, [], ◌∷◌, ◌++◌}
 
 -- the first where there is one, and else the second
 abbrev pub chosen : {A : Type 0} → Option A → A → A

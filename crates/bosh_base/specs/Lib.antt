@@ -2,7 +2,10 @@ pub mod Answer
 pub mod Call
 pub mod CallStep
 pub mod Cloud
+pub mod CloudExamples
 pub mod Exact
 pub mod History
 pub mod Method
 pub mod Name
+pub mod Plan
+pub mod Version

@@ -15,7 +15,11 @@ pub enum Answer {
     No,
     /// By number.
     Disks(Seq<u64>),
-    Facts { spec: Option<Spec>, running: bool, drained: bool },
+    Facts {
+        spec: Option<Spec>,
+        running: bool,
+        drained: bool,
+    },
     /// Of the compiled package.
     Built(Digest),
     /// What the call names is not there.
@@ -33,7 +37,11 @@ impl Copyable for Answer {
             Answer::Yes => Ok(Answer::Yes),
             Answer::No => Ok(Answer::No),
             Answer::Disks(disks) => disks.copy(alloc).map(Answer::Disks),
-            Answer::Facts { spec, running, drained } => Ok(Answer::Facts {
+            Answer::Facts {
+                spec,
+                running,
+                drained,
+            } => Ok(Answer::Facts {
                 spec: spec.copy(alloc)?,
                 running: *running,
                 drained: *drained,

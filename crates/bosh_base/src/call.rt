@@ -8,30 +8,85 @@ use std::alloc::Global;
 #[derive(PartialEq, Eq, Drop)]
 pub enum Call {
     /// The disks are a hint: where the machine will be wanted.
-    CreateVm { make: Make, disks: Seq<u64> },
-    DeleteVm { vm: u64 },
-    HasVm { vm: u64 },
-    FindVm { agent: u64 },
+    CreateVm {
+        make: Make,
+        disks: Seq<u64>,
+    },
+    DeleteVm {
+        vm: u64,
+    },
+    HasVm {
+        vm: u64,
+    },
+    FindVm {
+        agent: u64,
+    },
     /// The machine is the one that the disk is for.
-    CreateDisk { want: DiskWant, vm: u64 },
-    DeleteDisk { disk: u64 },
-    HasDisk { disk: u64 },
-    FindDisk { tag: u64 },
-    AttachDisk { vm: u64, disk: u64 },
-    DetachDisk { vm: u64, disk: u64 },
-    GetDisks { vm: u64 },
-    Ping { vm: u64 },
-    GetState { vm: u64 },
-    Apply { vm: u64, spec: Spec },
-    Start { vm: u64 },
-    Drain { vm: u64 },
-    Stop { vm: u64 },
-    MountDisk { vm: u64, disk: u64 },
-    UnmountDisk { vm: u64, disk: u64 },
-    ListDisk { vm: u64 },
-    MigrateDisk { vm: u64, from: u64, to: u64 },
+    CreateDisk {
+        want: DiskWant,
+        vm: u64,
+    },
+    DeleteDisk {
+        disk: u64,
+    },
+    HasDisk {
+        disk: u64,
+    },
+    FindDisk {
+        tag: u64,
+    },
+    AttachDisk {
+        vm: u64,
+        disk: u64,
+    },
+    DetachDisk {
+        vm: u64,
+        disk: u64,
+    },
+    GetDisks {
+        vm: u64,
+    },
+    Ping {
+        vm: u64,
+    },
+    GetState {
+        vm: u64,
+    },
+    Apply {
+        vm: u64,
+        spec: Spec,
+    },
+    Start {
+        vm: u64,
+    },
+    Drain {
+        vm: u64,
+    },
+    Stop {
+        vm: u64,
+    },
+    MountDisk {
+        vm: u64,
+        disk: u64,
+    },
+    UnmountDisk {
+        vm: u64,
+        disk: u64,
+    },
+    ListDisk {
+        vm: u64,
+    },
+    MigrateDisk {
+        vm: u64,
+        from: u64,
+        to: u64,
+    },
     /// With the digests of the compiled dependencies, in the order of the work.
-    CompilePackage { vm: u64, work: KeyWork, deps: Seq<Digest> },
+    CompilePackage {
+        vm: u64,
+        work: KeyWork,
+        deps: Seq<Digest>,
+    },
 }
 
 impl Copyable for Call {
@@ -41,28 +96,16 @@ impl Copyable for Call {
                 make: make.copy(alloc)?,
                 disks: disks.copy(alloc)?,
             }),
-            Call::DeleteVm { vm } => Ok(Call::DeleteVm {
-                vm: *vm,
-            }),
-            Call::HasVm { vm } => Ok(Call::HasVm {
-                vm: *vm,
-            }),
-            Call::FindVm { agent } => Ok(Call::FindVm {
-                agent: *agent,
-            }),
+            Call::DeleteVm { vm } => Ok(Call::DeleteVm { vm: *vm }),
+            Call::HasVm { vm } => Ok(Call::HasVm { vm: *vm }),
+            Call::FindVm { agent } => Ok(Call::FindVm { agent: *agent }),
             Call::CreateDisk { want, vm } => Ok(Call::CreateDisk {
                 want: want.copy(alloc)?,
                 vm: *vm,
             }),
-            Call::DeleteDisk { disk } => Ok(Call::DeleteDisk {
-                disk: *disk,
-            }),
-            Call::HasDisk { disk } => Ok(Call::HasDisk {
-                disk: *disk,
-            }),
-            Call::FindDisk { tag } => Ok(Call::FindDisk {
-                tag: *tag,
-            }),
+            Call::DeleteDisk { disk } => Ok(Call::DeleteDisk { disk: *disk }),
+            Call::HasDisk { disk } => Ok(Call::HasDisk { disk: *disk }),
+            Call::FindDisk { tag } => Ok(Call::FindDisk { tag: *tag }),
             Call::AttachDisk { vm, disk } => Ok(Call::AttachDisk {
                 vm: *vm,
                 disk: *disk,
@@ -71,28 +114,16 @@ impl Copyable for Call {
                 vm: *vm,
                 disk: *disk,
             }),
-            Call::GetDisks { vm } => Ok(Call::GetDisks {
-                vm: *vm,
-            }),
-            Call::Ping { vm } => Ok(Call::Ping {
-                vm: *vm,
-            }),
-            Call::GetState { vm } => Ok(Call::GetState {
-                vm: *vm,
-            }),
+            Call::GetDisks { vm } => Ok(Call::GetDisks { vm: *vm }),
+            Call::Ping { vm } => Ok(Call::Ping { vm: *vm }),
+            Call::GetState { vm } => Ok(Call::GetState { vm: *vm }),
             Call::Apply { vm, spec } => Ok(Call::Apply {
                 vm: *vm,
                 spec: spec.copy(alloc)?,
             }),
-            Call::Start { vm } => Ok(Call::Start {
-                vm: *vm,
-            }),
-            Call::Drain { vm } => Ok(Call::Drain {
-                vm: *vm,
-            }),
-            Call::Stop { vm } => Ok(Call::Stop {
-                vm: *vm,
-            }),
+            Call::Start { vm } => Ok(Call::Start { vm: *vm }),
+            Call::Drain { vm } => Ok(Call::Drain { vm: *vm }),
+            Call::Stop { vm } => Ok(Call::Stop { vm: *vm }),
             Call::MountDisk { vm, disk } => Ok(Call::MountDisk {
                 vm: *vm,
                 disk: *disk,
@@ -101,9 +132,7 @@ impl Copyable for Call {
                 vm: *vm,
                 disk: *disk,
             }),
-            Call::ListDisk { vm } => Ok(Call::ListDisk {
-                vm: *vm,
-            }),
+            Call::ListDisk { vm } => Ok(Call::ListDisk { vm: *vm }),
             Call::MigrateDisk { vm, from, to } => Ok(Call::MigrateDisk {
                 vm: *vm,
                 from: *from,

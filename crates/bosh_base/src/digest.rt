@@ -1,4 +1,4 @@
-use crate::{CopyFault, Copyable, Exact};
+use crate::{CopyFault, Copyable};
 use std::alloc::Global;
 
 /// A SHA-256 digest (FIPS 180-4).

@@ -1,4 +1,7 @@
-use crate::{Answer, Call, CopyFault, Copyable, Digest, Failure, Goal, Inst, Name, Owner, Release, Seq, Snapshot, Stemcell, TaskKind, Text};
+use crate::{
+    Answer, Call, CopyFault, Copyable, Digest, Failure, Goal, Inst, Name, Owner, Release, Seq,
+    Snapshot, Stemcell, TaskKind, Text,
+};
 use std::alloc::Global;
 
 /// A task is opened.

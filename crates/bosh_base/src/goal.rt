@@ -1,4 +1,6 @@
-use crate::{CopyFault, Copyable, DiskWant, Inst, KeyWork, Make, Name, Offer, Seq, Spec, State, Tie};
+use crate::{
+    CopyFault, Copyable, DiskWant, Inst, KeyWork, Make, Name, Offer, Seq, Spec, State, Tie,
+};
 use std::alloc::Global;
 
 /// How one instance is to stand.

@@ -1,7 +1,7 @@
 ghost use Rattle.std.specs.Prelude.{◌≡◌};
 ghost use Rattle.bosh_base.specs.Method.{name_of, place_of, is_changing, is_agents};
 
-use crate::{CopyFault, Copyable, Exact};
+use crate::{CopyFault, Copyable};
 use std::alloc::Global;
 
 /// What can be asked of the cloud, or of a machine's agent.

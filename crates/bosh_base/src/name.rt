@@ -3,8 +3,8 @@ ghost use Rattle.std.specs.List.{list_all};
 ghost use Rattle.bosh_base.specs.Name.{IsName, is_name, is_name_byte};
 ghost use Rattle.bosh_base.specs.declared.name.OfFault.TheVariants.{Memory, NotOne};
 
-use crate::{CopyFault, Copyable, Exact, Seq, Text};
-use std::alloc::{AllocError, AllocFailed, Global};
+use crate::{CopyFault, Copyable, Text};
+use std::alloc::{AllocError, Global};
 use std::cmp::Ordering;
 use std::marker::Model;
 
@@ -150,11 +150,4 @@ impl Ord for Name {
     fn cmp(&self, other: &Self) -> Ordering {
         self.text.cmp(&other.text)
     }
-}
-
-impl Exact for Name {
-    ghost use Rattle.std.proofs.lemmas.Bool.Decides.{Decides-eqb};
-    ghost use Rattle.bosh_base.specs.Exact.{Decides-list};
-
-    ghost exact = { Decides-list Decides-eqb };
 }

@@ -59,9 +59,7 @@ impl Copyable for Problem {
                 inst: inst.copy(alloc)?,
                 disk: *disk,
             }),
-            Problem::LooseDisk { disk } => Ok(Problem::LooseDisk {
-                disk: *disk,
-            }),
+            Problem::LooseDisk { disk } => Ok(Problem::LooseDisk { disk: *disk }),
         }
     }
 }

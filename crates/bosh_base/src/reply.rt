@@ -1,4 +1,7 @@
-use crate::{Addr, BuiltKey, CopyFault, Copyable, Digest, Inst, Mark, Method, Name, Owner, Problem, Seq, Stemcell, TaskEnd, TaskKind, Text};
+use crate::{
+    Addr, BuiltKey, CopyFault, Copyable, Digest, Inst, Mark, Method, Name, Owner, Problem, Seq,
+    Stemcell, TaskEnd, TaskKind, Text,
+};
 use std::alloc::Global;
 
 /// How an instance is listed.

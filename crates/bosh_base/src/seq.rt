@@ -2,7 +2,7 @@ ghost use Rattle.std.specs.Prelude.{◌≡◌, ◌↔◌, [], ◌∷◌, ◌++�
 ghost use Rattle.std.specs.Option.{option_copied};
 ghost use Rattle.std.specs.Slice.Iter.{iter_rest};
 
-use crate::{CopyFault, Copyable, Exact};
+use crate::{CopyFault, Copyable};
 use std::alloc::Global;
 use std::cmp::Ordering;
 use std::marker::Model;
@@ -154,10 +154,4 @@ impl<T: Ord> Ord for Seq<T> {
     fn cmp(&self, other: &Self) -> Ordering {
         self.items.cmp(&other.items)
     }
-}
-
-impl<T: Exact> Exact for Seq<T> {
-    ghost use Rattle.bosh_base.specs.Exact.{Decides-list};
-
-    ghost exact = { Decides-list T.exact };
 }

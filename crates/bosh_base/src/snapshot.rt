@@ -1,4 +1,7 @@
-use crate::{CopyFault, Copyable, Digest, DiskWant, Doubt, Goal, Inst, Key, Make, Name, Offer, Release, Row, Seq, Stemcell, TaskRow, Text, Vm};
+use crate::{
+    CopyFault, Copyable, Digest, DiskWant, Doubt, Goal, Inst, Key, Make, Name, Offer, Release, Row,
+    Seq, Stemcell, TaskRow, Text, Vm,
+};
 use std::alloc::Global;
 
 /// What is recorded of a deployment.

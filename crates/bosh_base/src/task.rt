@@ -39,11 +39,19 @@ impl Copyable for TaskKind {
 pub enum TaskEnd {
     Finished,
     /// A call failed.
-    Fault { n: u64, method: Method, owner: Owner },
+    Fault {
+        n: u64,
+        method: Method,
+        owner: Owner,
+    },
     /// The director stopped.
     Interrupted,
     /// What a call named was not there.
-    Gone { n: u64, method: Method, owner: Owner },
+    Gone {
+        n: u64,
+        method: Method,
+        owner: Owner,
+    },
 }
 
 impl Copyable for TaskEnd {

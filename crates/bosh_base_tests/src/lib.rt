@@ -1,0 +1,11 @@
+//! Tests of the plain types. They stand apart, since a crate with tests is proved twice.
+#![tactic(auto)]
+
+#[cfg(test)]
+mod copies;
+#[cfg(test)]
+mod names;
+#[cfg(test)]
+mod plans;
+#[cfg(test)]
+mod versions;

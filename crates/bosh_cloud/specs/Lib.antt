@@ -1,0 +1,4 @@
+pub mod CloudView
+pub mod NewMachine
+pub mod Orderly
+pub mod Unused

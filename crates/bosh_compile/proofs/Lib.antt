@@ -1,0 +1,6 @@
+pub mod GreatestLemmas
+pub mod KeyLemmas
+pub mod LevelLemmas
+pub mod ListingLemmas
+pub mod OrderLemmas
+pub mod RoundLemmas

@@ -1,0 +1,6 @@
+pub mod CompileOrder
+pub mod Level
+pub mod Leveled
+pub mod Listing
+pub mod Readiness
+pub mod Rounds

@@ -1,0 +1,18 @@
+//! In which order packages are compiled, when one may be, and the digest of what a compilation gives.
+#![tactic(auto)]
+
+mod fault;
+mod laws;
+mod level;
+mod listing;
+mod order;
+mod readiness;
+
+pub use fault::CompileFault;
+pub use laws::{levels_are_determined, rank_shows_no_cycle};
+pub use listing::built;
+pub use order::levels;
+pub use readiness::ready;
+
+#[cfg(test)]
+mod tests;

@@ -1,0 +1,16 @@
+//! Links: which provider each consumer of a deployment is tied to.
+#![tactic(auto)]
+
+mod consumer;
+mod fault;
+mod provider;
+mod resolution;
+mod table;
+
+pub use consumer::{Consumer, Source};
+pub use fault::LinkFault;
+pub use provider::Provider;
+pub use resolution::resolve;
+
+#[cfg(test)]
+mod tests;

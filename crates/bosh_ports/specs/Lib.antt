@@ -1,0 +1,11 @@
+pub mod Contents
+pub mod Failing
+pub mod Faults
+pub mod Keeper
+pub mod MemShelf
+pub mod MemSink
+pub mod MemSource
+pub mod Rigged
+pub mod Shelf
+pub mod Sink
+pub mod Source

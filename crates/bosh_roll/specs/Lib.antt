@@ -1,0 +1,3 @@
+pub mod GroupRoll
+pub mod Limit
+pub mod Upd

@@ -1,0 +1,15 @@
+pub mod KeyLemmas
+pub mod IntegerLemmas
+pub mod LineLemmas
+pub mod QuoteLemmas
+pub mod TextLemmas
+pub mod ResultLemmas
+pub mod FlowLemmas
+pub mod LiteralLemmas
+pub mod ContentLemmas
+pub mod ScanLemmas
+pub mod NestingLemmas
+pub mod SeenLemmas
+pub mod BuildLemmas
+pub mod CanonLemmas
+pub mod JsonLemmas

@@ -1,0 +1,40 @@
+-- A set holds a new key beside those that it held.
+use Rattle.std.proofs.Common.{◌≡◌, ℕ, Bool, true, false, ◌||◌, not, cond, List, [], ◌∷◌, Option, Some, None, refl, ap, sym, ◌∙◌, Bor}
+use Rattle.std.specs.Str.{bytes_eq}
+use Rattle.std.specs.Ordering.{nat_cmp, is_eq}
+use Rattle.std.specs.Cmp.Lexicographic.{slice_cmp}
+use Rattle.std.proofs.lemmas.Map.Text.{is_eq-slice_cmp}
+use Rattle.bosh_yaml.specs.declared.event.Event.{Event}
+use Rattle.bosh_yaml.specs.declared.event.Event.TheVariants.{Key}
+use Rattle.bosh_yaml.specs.Nodes.{Keys, with_new, line_or, repeated, no_keys}
+use Rattle.bosh_yaml.specs.Seen.{keys_in, keys_of_set, line_or_else}
+
+-- two tests that agree on each key are one
+pub same_keys : (a b : Keys) → ((key : List ℕ) → a key ≡ b key) → a ≡ b
+same_keys a b h = λ i key. h key i
+
+or_of_cond : (t u : Bool) → cond t true u ≡ (u || t)
+or_of_cond true true = refl
+or_of_cond true false = refl
+or_of_cond false true = refl
+or_of_cond false false = refl
+
+pub with_new_key : (old new : Keys) (key : List ℕ) → ((q : List ℕ) → new q ≡ cond (is_eq (slice_cmp nat_cmp key q)) true (old q)) → new ≡ with_new old key
+with_new_key old new key h =
+    same_keys new (with_new old key) (λ q. h q ∙ rw (is_eq-slice_cmp key q) (or_of_cond (bytes_eq key q) (old q)))
+
+pub key_is_new : (old new : Keys) (below : List Keys) (line : ℕ) (key : List ℕ) (rest : List Event) → old key ≡ false → new ≡ with_new old key → repeated (old ∷ below) (Key line key ∷ rest) ≡ repeated (new ∷ below) rest
+key_is_new old new below line key rest h e = rw (h, e) refl
+
+pub key_is_old : (old : Keys) (below : List Keys) (line : ℕ) (key : List ℕ) (rest : List Event) → old key ≡ true → repeated (old ∷ below) (Key line key ∷ rest) ≡ Some line
+key_is_old old below line key rest h = rw h refl
+
+pub not_true_of : (a x : Bool) → a ≡ not x → a ≡ true → x ≡ false
+not_true_of a true p q = cc
+not_true_of a false p q = refl
+
+pub not_false_of : (a x : Bool) → a ≡ not x → a ≡ false → x ≡ true
+not_false_of a true p q = refl
+not_false_of a false p q = cc
+
+pub ruleset seen = (with_new_key)

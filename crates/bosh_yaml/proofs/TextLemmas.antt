@@ -1,0 +1,25 @@
+-- The test for UTF-8 says what it means.
+use Rattle.std.proofs.Common.{◌≡◌, ℕ, Bool, true, false, List, Ok, Err, Result, ap, refl, sym}
+use Rattle.std.specs.Str.{IsUtf8, is_utf8}
+use Rattle.std.proofs.lemmas.Str.{IsUtf8-from_is_utf8, is_utf8-from_IsUtf8}
+use Rattle.bosh_yaml.specs.Word.{text_of, refused}
+
+pub text_of-utf8 : (line : ℕ) (bs : List ℕ) → IsUtf8 bs → text_of line bs ≡ Ok bs
+text_of-utf8 line bs h = rw (is_utf8-from_IsUtf8 bs h)
+
+is_not : (b : Bool) → (b ≡ true → ⊥) → b ≡ false
+is_not true h = absurd (h refl)
+is_not false h = refl
+
+pub text_of-other : (line : ℕ) (bs : List ℕ) → (IsUtf8 bs → ⊥) → text_of line bs ≡ refused line
+text_of-other line bs h = rw (is_not (is_utf8 bs) (λ e. h (IsUtf8-from_is_utf8 bs e)))
+
+pub ruleset texts = (text_of-utf8, text_of-other)
+
+pub is_utf8-true : (bs : List ℕ) → IsUtf8 bs → is_utf8 bs ≡ true
+is_utf8-true = is_utf8-from_IsUtf8
+
+pub is_utf8-false : (bs : List ℕ) → (IsUtf8 bs → ⊥) → is_utf8 bs ≡ false
+is_utf8-false bs h = is_not (is_utf8 bs) (λ e. h (IsUtf8-from_is_utf8 bs e))
+
+pub ruleset tests_text = (is_utf8-true, is_utf8-false)

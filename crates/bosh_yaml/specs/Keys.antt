@@ -1,0 +1,33 @@
+-- Keys of a map, in their written order, and what stands at a key.
+use Rattle.std.specs.Prelude.{◌≡◌, ℕ, Bool, true, false, ◌||◌, List, [], ◌∷◌, Option, Some, None, if◌then◌else◌}
+use Rattle.std.specs.Str.{bytes_eq}
+use Rattle.bosh_yaml.specs.Tree.{Tree, Fields, null, boolean, integer, text, list, map, no_fields, field}
+
+-- whether a key is one of these
+abbrev pub has_key : List ℕ → List (List ℕ × Tree) → Bool
+has_key key [] = false
+has_key key (p ∷ ps) = bytes_eq p.0 key || has_key key ps
+
+-- no key stands twice
+abbrev pub HasDistinctKeys : List (List ℕ × Tree) → Type 0
+HasDistinctKeys [] = Unit {0}
+HasDistinctKeys (p ∷ ps) = (has_key p.0 ps ≡ false) × HasDistinctKeys ps
+
+-- the value at a key; the first, where the key stands twice
+abbrev pub value_at : List ℕ → List (List ℕ × Tree) → Option Tree
+value_at key [] = None
+value_at key (p ∷ ps) = if bytes_eq p.0 key then Some p.1 else value_at key ps
+
+-- the value at a key of a map of a tree
+abbrev pub found_field : List ℕ → Fields → Option Tree
+found_field key no_fields = None
+found_field key (field k t fs) = if bytes_eq k key then Some t else found_field key fs
+
+-- the value at a key of a node, None where the node is no map or has no such key
+abbrev pub found : List ℕ → Tree → Option Tree
+found key null = None
+found key (boolean b) = None
+found key (integer n) = None
+found key (text s) = None
+found key (list ts) = None
+found key (map fs) = found_field key fs

@@ -1,0 +1,115 @@
+//! The node that events make.
+
+ghost use Rattle.std.specs.Prelude.{◌≡◌, [], None, map, OnOk};
+ghost use Rattle.std.specs.Option.{option_map};
+ghost use Rattle.bosh_yaml.specs.Nodes.{AreNew, IsNewIn, made, repeated, with_close as with_closed, with_event, with_key as keyed, with_value as valued};
+ghost use Rattle.bosh_yaml.specs.Result.{Gives};
+ghost use Rattle.bosh_yaml.specs.View.{tree_of};
+
+use crate::event::Event;
+use crate::fault::ReadFault;
+use crate::node::{Items, Node, Pairs};
+use crate::text::Str;
+use std::alloc::Global;
+use std::collections::VecDeque;
+
+/// A list or a map that is not whole.
+#[derive(Drop)]
+pub(crate) enum Open {
+    List(Items),
+    Map(Pairs),
+    /// A map, and a key whose value has not come.
+    Entry(Pairs, Str),
+}
+
+// Adds a value to the innermost collection, or answers it where none is outer.
+fn with_value(value: Node, outer: &mut VecDeque<Open>) -> Result<Option<Node>, ReadFault>
+    requires { AreNew outer.old.items }
+    ensures gives { Gives (λ o. (option_map tree_of o, outer.new.items)) result (valued (tree_of value) outer.old.items) }
+    ensures new { OnOk result (AreNew outer.new.items) }
+{
+    match outer.pop_front() {
+        None => Ok(Some(value)),
+        Some(Open::List(mut items)) => {
+            if items.push(value).is_err() {
+                return Err(ReadFault::Memory);
+            }
+            outer.push_front(Open::List(items))?;
+            Ok(None)
+        }
+        Some(Open::Entry(mut pairs, key)) => {
+            if pairs.push(key, value).is_err() {
+                return Err(ReadFault::Memory);
+            }
+            outer.push_front(Open::Map(pairs))?;
+            Ok(None)
+        }
+        Some(Open::Map(_)) => Err(ReadFault::Syntax { line: 0 }),
+    }
+}
+
+fn with_key(key: Str, outer: &mut VecDeque<Open>) -> Result<Option<Node>, ReadFault>
+    ensures gives { Gives (λ o. (option_map tree_of o, outer.new.items)) result (keyed key outer.old.items) }
+{
+    match outer.pop_front() {
+        Some(Open::Map(pairs)) => {
+            outer.push_front(Open::Entry(pairs, key))?;
+            Ok(None)
+        }
+        _ => Err(ReadFault::Syntax { line: 0 }),
+    }
+}
+
+fn with_close(outer: &mut VecDeque<Open>) -> Result<Option<Node>, ReadFault>
+    requires { AreNew outer.old.items }
+    ensures gives { Gives (λ o. (option_map tree_of o, outer.new.items)) result (with_closed outer.old.items) }
+    ensures new { OnOk result (AreNew outer.new.items) }
+{
+    match outer.pop_front() {
+        Some(Open::List(items)) => with_value(Node::List(items), outer),
+        Some(Open::Map(pairs)) => with_value(Node::Map(pairs), outer),
+        _ => Err(ReadFault::Syntax { line: 0 }),
+    }
+}
+
+// Takes one event.
+fn take_event(
+    alloc: Global,
+    event: Event,
+    outer: &mut VecDeque<Open>,
+) -> Result<Option<Node>, ReadFault>
+    requires all_new { AreNew outer.old.items }
+    requires new { IsNewIn event outer.old.items }
+    ensures gives { Gives (λ o. (option_map tree_of o, outer.new.items)) result (with_event event outer.old.items) }
+    ensures new { OnOk result (AreNew outer.new.items) }
+{
+    match event {
+        Event::Scalar(leaf) => with_value(Node::from(leaf), outer),
+        Event::OpenList => {
+            outer.push_front(Open::List(Items::new(alloc)))?;
+            Ok(None)
+        }
+        Event::OpenMap => {
+            outer.push_front(Open::Map(Pairs::new(alloc)))?;
+            Ok(None)
+        }
+        Event::Key { key, .. } => with_key(key, outer),
+        Event::Close => with_close(outer),
+    }
+}
+
+/// The node that events make in which no key stands twice in its mapping.
+pub(crate) fn node_of(alloc: Global, events: Vec<Event>) -> Result<Node, ReadFault>
+    requires { repeated [] events.items ≡ None }
+    ensures { Gives tree_of result (made None [] events.items) }
+{
+    let mut outer = VecDeque::new(alloc);
+    let mut whole = None;
+    for event in events {
+        if whole.is_some() {
+            return Err(ReadFault::Syntax { line: 0 });
+        }
+        whole = take_event(alloc, event, &mut outer)?;
+    }
+    whole.ok_or(ReadFault::Syntax { line: 0 })
+}

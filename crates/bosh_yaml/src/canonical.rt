@@ -1,0 +1,70 @@
+//! The canonical text of a node: compact JSON with each map's keys in byte order.
+
+ghost use Rattle.std.specs.Prelude.{◌≡◌, IfErr, IfOk, string_bytes};
+ghost use Rattle.serde_json.specs.Data.{no_members};
+ghost use Rattle.serde_json.specs.View.{items_view, members_view, view};
+ghost use Rattle.bosh_yaml.specs.Canon.{canon_text, data_items, data_members, data_of};
+ghost use Rattle.bosh_yaml.specs.Tree.{fields_of, trees_of};
+ghost use Rattle.bosh_yaml.specs.View.{tree_of};
+
+use crate::fault::ReadFault;
+use crate::node::{Items, Node, Pairs};
+use crate::text::Str;
+use serde_json::{Map, Number, Value};
+use std::alloc::{AllocError, Global};
+use std::str;
+
+/// The node as compact JSON, with each map's keys in byte order.
+pub fn canon(alloc: Global, node: &Node) -> Result<Vec<u8>, ReadFault>
+    ensures text { IfOk result (λ v. v.items ≡ canon_text (tree_of node.now)) }
+    ensures memory { IfErr result (λ e. e ≡ ReadFault.Memory) }
+{
+    let value = value_of(alloc, node)?;
+    Ok(value.to_string(alloc)?.into_bytes())
+}
+
+fn string_of(alloc: Global, text: &Str) -> Result<String, AllocError>
+    ensures { IfOk result (λ s. string_bytes s ≡ text.now) }
+{
+    match str::from_utf8(text.as_bytes()) {
+        Ok(text) => String::from_str(alloc, text),
+        Err(_) => unreachable!(),
+    }
+}
+
+#[cycle(canon)]
+fn value_of(alloc: Global, node: &Node) -> Result<Value, AllocError>
+    ensures { IfOk result (λ v. view v ≡ data_of (tree_of node.now)) }
+{
+    match node {
+        Node::Null => Ok(Value::Null),
+        Node::Bool(b) => Ok(Value::Bool(*b)),
+        Node::Int(n) => Ok(Value::Number(Number::from(*n))),
+        Node::Text(text) => Ok(Value::String(string_of(alloc, text)?)),
+        Node::List(items) => Ok(Value::Array(values_of(alloc, items)?)),
+        Node::Map(pairs) => Ok(Value::Object(members_of(alloc, pairs)?)),
+    }
+}
+
+#[cycle(canon)]
+fn values_of(alloc: Global, items: &Items) -> Result<Vec<Value>, AllocError>
+    ensures { IfOk result (λ v. items_view v.items ≡ data_items (trees_of items.now)) }
+{
+    let mut values = Vec::new(alloc);
+    for node in &items.nodes {
+        values.push(value_of(alloc, node)?)?;
+    }
+    Ok(values)
+}
+
+#[cycle(canon)]
+fn members_of(alloc: Global, pairs: &Pairs) -> Result<Map<String, Value>, AllocError>
+    ensures { IfOk result (λ m. members_view m.entries ≡ data_members (fields_of pairs.now) no_members) }
+{
+    let mut members = Map::new(alloc);
+    for (key, value) in &pairs.entries {
+        let key = string_of(alloc, key)?;
+        drop(members.insert(key, value_of(alloc, value)?)?);
+    }
+    Ok(members)
+}

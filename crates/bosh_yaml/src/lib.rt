@@ -1,0 +1,33 @@
+//! Nodes: what a YAML or JSON text says, as null, truth values, integers, texts, lists and maps.
+#![tactic(auto)]
+
+mod bare;
+mod block;
+mod build;
+mod canonical;
+mod check;
+mod content;
+mod copied;
+mod event;
+mod fault;
+mod flow;
+mod json;
+mod line;
+mod literal;
+mod node;
+mod plain;
+mod quoted;
+mod reader;
+mod scan;
+#[cfg(test)]
+mod tests;
+mod text;
+mod word;
+
+pub use canonical::canon;
+pub use copied::{Copied, CopyFault};
+pub use fault::ReadFault;
+pub use node::{Items, Node, Pairs};
+pub use plain::scalar;
+pub use reader::{MAX_BYTES, MAX_DEPTH, read};
+pub use text::{OfFault, Str};
