@@ -8,4 +8,6 @@ mod names;
 #[cfg(test)]
 mod plans;
 #[cfg(test)]
+mod samples;
+#[cfg(test)]
 mod versions;
