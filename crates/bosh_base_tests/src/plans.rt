@@ -39,7 +39,7 @@ fn tells_whom_a_plan_gives_an_address(rt: HostRuntime) -> Result<(), Fail> {
         (256, false, false),
     ];
     for (place, dynamic, fixed) in rows {
-        let addr = Addr(first + place);
+        let addr = Addr(first | place);
         assert!(rt; plan.is_dynamic(&net, &zone, addr) == dynamic);
         assert!(rt; plan.is_static(&net, &zone, addr) == fixed);
         assert!(rt; !plan.is_dynamic(&net, &other, addr));

@@ -1,15 +1,19 @@
 //! A value of each plain type.
 use bosh_base::{
-    Addr, Call, CompileRow, DepRow, Digest, DiskRow, DiskWant, Goal, GoalRow, Inst, JobSpec, Joint,
-    Key, KeyWork, Make, Mark, Name, NetAddr, Offer, Orphan, Placed, Release, Role, Row, Seq, Spec,
-    State, TaskKind, TaskOpen, Text, Vm,
+    Addr, Call, CompileRow, CopyFault, DepRow, Digest, DiskRow, DiskWant, Goal, GoalRow, Inst,
+    JobSpec, Joint, Key, KeyWork, Make, Mark, Name, NetAddr, Offer, Orphan, Placed, Release, Role,
+    Row, Seq, Spec, State, TaskKind, TaskOpen, Text, Vm,
 };
 use std::alloc::Global;
 use std::test::Fail;
 
 // The list of one item.
-fn one<T: Drop>(alloc: Global, item: T) -> Result<Seq<T>, Fail> {
-    Ok(Seq::from(vec![in alloc; item]?))
+fn one<T: Drop>(alloc: Global, item: T) -> Result<Seq<T>, CopyFault> {
+    let mut list = Seq::new(alloc);
+    match list.push(item) {
+        Ok(()) => Ok(list),
+        Err(_item) => Err(CopyFault::Memory),
+    }
 }
 
 pub fn name(alloc: Global) -> Result<Name, Fail> {
