@@ -1,11 +1,16 @@
 // What no clause says: that the calls which take memory succeed where there is enough of it.
+ghost use Rattle.std.specs.Prelude.{◌≡◌};
+ghost use Rattle.bosh_base.specs.Call.{method_of};
+
 use crate::SimCloud;
-use bosh_base::{Answer, Call, Make, Name, Owner, Seq, Text};
+use bosh_base::{Answer, Call, Make, Method, Name, Owner, Seq, Text};
 use bosh_ports::{Keeper, MemKeeper};
 use std::alloc::Global;
 use std::process::Abort;
 
-fn creation(rt: &impl Abort, alloc: Global, zone: &[u8]) -> Call {
+fn creation(rt: &impl Abort, alloc: Global, zone: &[u8]) -> Call
+    ensures { method_of result ≡ Method.CreateVm }
+{
     let vm = b"null".to_vec(alloc).expect(rt, "memory");
     let make = Make {
         os: Text::new(alloc),
@@ -29,6 +34,7 @@ fn machines_are_numbered_as_they_are_made(rt: HostRuntime) {
         panic!(rt; "memory");
     };
     assert!(rt; cloud.machines().is_empty());
+    assert!(rt; first.method() == Method::CreateVm);
     let _made = cloud
         .perform(4, &Owner::Compile(1, 0), &dep, &first)
         .expect(&rt, "memory");
