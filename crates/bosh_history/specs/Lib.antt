@@ -1,0 +1,9 @@
+pub mod Effects
+pub mod Exactness
+pub mod Goals
+pub mod Moves
+pub mod Permitted
+pub mod Records
+pub mod Safety
+pub mod Same
+pub mod Ties
