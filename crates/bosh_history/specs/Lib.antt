@@ -1,6 +1,7 @@
 pub mod Effects
 pub mod Exactness
 pub mod Goals
+pub mod Growing
 pub mod Moves
 pub mod Permitted
 pub mod Records
