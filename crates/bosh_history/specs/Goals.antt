@@ -24,6 +24,7 @@ pub record IsSound (g : Goal) (group : plan.GroupPlan) : Type 0 where
   pub one_group : g.groups ≡ group ∷ []
   pub of_the_deployment : All (λ want. want.inst.dep ≡ g.dep) g.rows
   pub of_the_group : All (λ want. want.inst.group ≡ group.name) g.rows
+  pub has_room : 1 ≤ group.limit
   pub distinct : (i : Inst) → count_by (same_inst i) (instances g) ≤ 1
 
 -- how an instance is to stand by the current goal of its deployment

@@ -1,0 +1,67 @@
+-- What contracts see of the book, and what it keeps true.
+use Rattle.std.specs.Prelude.{◌≡◌, ◌≢◌, ℕ, ◌≤◌, Bool, false, Some, None, List, [], Contains, All}
+use Rattle.bosh_base.specs.declared.call.Call.{Call}
+use Rattle.bosh_base.specs.declared.call.Call.TheVariants.{CreateVm}
+use Rattle.bosh_base.specs.declared.entry.Begin as begin
+use Rattle.bosh_base.specs.declared.entry.Entry.{Entry}
+use Rattle.bosh_base.specs.declared.entry.TaskOpen as task_open
+use Rattle.bosh_base.specs.declared.inst.Inst.{Inst}
+use Rattle.bosh_base.specs.declared.make.Make.{Make}
+use Rattle.bosh_base.specs.declared.owner.Owner.{Owner}
+use Rattle.bosh_base.specs.declared.owner.Owner.TheVariants.{Instance}
+use Rattle.bosh_history.specs.Goals.{want_of}
+use Rattle.bosh_history.specs.Records.{last_call, begin_of, opening_of, doubt_of, has_failed}
+
+-- its store, its entries, the numbers of its open calls, and whether it was stopped
+pub record BookView (K : Type 0) : Type 0 where
+  pub store : K
+  pub entries : List Entry
+  pub calls : List ℕ
+  pub is_stopped : Bool
+
+-- what a permit allows: call n of a task, in the name of an owner, for a deployment
+pub record PermitView : Type 0 where
+  pub n : ℕ
+  pub task : ℕ
+  pub owner : Owner
+  pub dep : List ℕ
+  pub call : Call
+
+-- call n began, and makes a machine of an instance, which has no other call in doubt
+pub record IsOpenCall (entries : List Entry) (n : ℕ) : Type 0 where
+  pub begin : begin.Begin
+  pub began : begin_of entries n ≡ Some begin
+  pub number : begin.n ≡ n
+  pub inst : Inst
+  pub owner : begin.owner ≡ Instance inst
+  pub make : Make
+  pub creates : begin.call ≡ CreateVm make []
+  pub in_doubt : doubt_of entries inst ≡ Some n
+  pub is_begun : n ≤ last_call entries
+
+-- the open calls are those in doubt, none has failed, and what a task changes is wanted by a goal
+pub record AreOpenCalls (entries : List Entry) (calls : List ℕ) : Type 0 where
+  pub each : (n : ℕ) → Contains calls n → IsOpenCall entries n
+  pub doubts : (i : Inst) (n : ℕ) → doubt_of entries i ≡ Some n → Contains calls n
+  pub none_failed : (t : ℕ) → has_failed entries t ≡ false
+  pub wants : (t : ℕ) (task : task_open.TaskOpen) → opening_of entries t ≡ Some task → All (λ i. want_of entries i ≢ None) task.changed
+
+-- the owner is an instance of the deployment
+abbrev pub IsOf : Owner → List ℕ → Type 0
+IsOf (Instance i) dep = i.dep ≡ dep
+IsOf owner dep = ⊥
+
+-- a permit is for the call that began so, and for the deployment of its owner
+pub record IsFor (begun : begin.Begin) (permit : PermitView) : Type 0 where
+  pub number : begun.n ≡ permit.n
+  pub task : begun.task ≡ permit.task
+  pub owner : begun.owner ≡ permit.owner
+  pub call : begun.call ≡ permit.call
+  pub deployment : IsOf permit.owner permit.dep
+
+-- a permit is current where its call is open in this book
+pub record IsCurrent {K : Type 0} (book : BookView K) (permit : PermitView) : Type 0 where
+  pub is_open : Contains book.calls permit.n
+  pub begun : begin.Begin
+  pub began : begin_of book.entries permit.n ≡ Some begun
+  pub is_for : IsFor begun permit
