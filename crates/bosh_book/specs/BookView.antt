@@ -65,3 +65,5 @@ pub record IsCurrent {K : Type 0} (book : BookView K) (permit : PermitView) : Ty
   pub begun : begin.Begin
   pub began : begin_of book.entries permit.n ≡ Some begun
   pub is_for : IsFor begun permit
+  pub make : Make
+  pub creates : permit.call ≡ CreateVm make []
