@@ -1,0 +1,4 @@
+pub mod NumberLemmas
+pub mod QuestionLemmas
+pub mod SameLemmas
+pub mod TaskLemmas

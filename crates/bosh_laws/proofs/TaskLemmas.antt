@@ -1,0 +1,71 @@
+-- Tasks: how each was opened, and how far it has come with its instances.
+use Rattle.std.proofs.Common.{◌≡◌, ℕ, ◌+◌, ◌≤◌, Bool, true, false, Option, Some, None, List, [], ◌∷◌, ◌++◌, refl, sym, ◌∙◌, ap, subst, arith, add-one}
+use Rattle.std.specs.Prelude.{◌≢◌, ◌⊎◌, slice_get, count_by, map}
+use Rattle.std.specs.Str.{bytes_eq}
+use Rattle.std.proofs.lemmas.Bool.Decides.{eqb_tells}
+use Rattle.std.proofs.lemmas.List.Sums.{sum_by-append}
+use Rattle.bosh_base.proofs.HistoryLemmas.{latest_last, latest_seen_last}
+use Rattle.bosh_base.specs.Cloud.{when}
+use Rattle.bosh_base.specs.History.{chosen}
+use Rattle.bosh_base.specs.declared.entry.Begin as begin
+use Rattle.bosh_base.specs.declared.entry.End as end
+use Rattle.bosh_base.specs.declared.entry.TaskOpen as task_open
+use Rattle.bosh_base.specs.declared.entry.Update as update
+use Rattle.bosh_base.specs.declared.entry.Entry.{Entry}
+use Rattle.bosh_base.specs.declared.entry.Entry.TheVariants as entries
+use Rattle.bosh_base.specs.declared.goal.Goal.{Goal}
+use Rattle.bosh_base.specs.declared.goal.GroupPlan.{GroupPlan}
+use Rattle.bosh_base.specs.declared.inst.Inst.{Inst}
+use Rattle.bosh_history.specs.Goals.{IsSound, instances}
+use Rattle.bosh_history.specs.Permitted.{Begins, Opens, BeginsUpdate, EndsUpdate, EndsTask}
+use Rattle.bosh_history.specs.Records.{last_call, begin_of, tasks_opened, opens_task, opening_of, update_of, updates, goal_of, vm_of}
+use Rattle.bosh_history.specs.Same.{same_inst}
+use Rattle.bosh_roll.specs.declared.upd.Upd.TheVariants.{Todo, Busy, Finished}
+use Rattle.bosh_laws.proofs.SameLemmas.{same_inst_tells, name_tells}
+
+-- task t, as it was opened
+pub record TaskNumber (D : List Entry) (t : ℕ) (task : task_open.TaskOpen) : Type 0 where
+  pub own_number : task.task ≡ t
+  pub counted : t ≤ tasks_opened D
+
+pub TaskNumber-open : (D : List Entry) (o : task_open.TaskOpen) → Opens D o → (t : ℕ) (task : task_open.TaskOpen) → (opening_of D t ≡ Some task → TaskNumber D t task) → opening_of (D ++ entries.TaskOpen o ∷ []) t ≡ Some task → TaskNumber (D ++ entries.TaskOpen o ∷ []) t task
+TaskNumber-open D o p t task k is = record {
+  own_number = grind (arith, latest_last, eqb_tells o.task t, k);
+  counted = grind (arith, latest_last, sum_by-append, eqb_tells o.task t, p.number, k);
+}
+
+-- the goal of task t: it is current, no instance stands in it twice, and the task changes each
+pub record GoalFacts (D : List Entry) (task : task_open.TaskOpen) (goal : Goal) : Type 0 where
+  pub distinct : (i : Inst) → count_by (same_inst i) (instances goal) ≤ 1
+  pub changes_all : task.changed ≡ instances goal
+  pub is_current : goal_of D goal.dep ≡ Some goal
+
+-- an opening sets the goal of its deployment
+pub goal_of-open : (D : List Entry) (o : task_open.TaskOpen) → (p : Opens D o) → (dep : List ℕ) → ((dep ≡ p.goal.dep) × (goal_of (D ++ entries.TaskOpen o ∷ []) dep ≡ Some p.goal)) ⊎ ((dep ≢ p.goal.dep) × (goal_of (D ++ entries.TaskOpen o ∷ []) dep ≡ goal_of D dep))
+goal_of-open D o p dep = grind (arith, latest_last, name_tells dep p.goal.dep, p.of_the_deployment, p.has_goal)
+
+pub GoalFacts-open : (D : List Entry) (o : task_open.TaskOpen) → (p : Opens D o) → (t : ℕ) (task : task_open.TaskOpen) (goal : Goal) → task.goal ≡ Some goal → (opening_of D t ≡ Some task → GoalFacts D task goal) → opening_of (D ++ entries.TaskOpen o ∷ []) t ≡ Some task → GoalFacts (D ++ entries.TaskOpen o ∷ []) task goal
+GoalFacts-open D o p t task goal has k is = record {
+  distinct = λ i.
+    let earlier : opening_of D t ≡ Some task → count_by (same_inst i) (instances goal) ≤ 1 = λ was. (k was).distinct i in
+    grind (arith, latest_last, eqb_tells o.task t, earlier, p.has_goal, p.is_sound.distinct i);
+  changes_all = grind (arith, latest_last, eqb_tells o.task t, k, p.has_goal, p.changes_all);
+  is_current = grind (arith, latest_last, eqb_tells o.task t, k, p.has_goal, p.is_new, goal_of-open D o p goal.dep);
+}
+
+-- a task that works on an instance was opened to change it
+pub record IsBegun (D : List Entry) (t : ℕ) (i : Inst) : Type 0 where
+  pub task : task_open.TaskOpen
+  pub opened : opening_of D t ≡ Some task
+  pub place : ℕ
+  pub is_changed : slice_get task.changed place ≡ Some i
+
+begun_before_open : (D : List Entry) (o : task_open.TaskOpen) → (t : ℕ) (i : Inst) → update_of (D ++ entries.TaskOpen o ∷ []) t i ≡ Busy → (update_of D t i ≡ Busy) × ((task : task_open.TaskOpen) → opening_of D t ≡ Some task → opening_of (D ++ entries.TaskOpen o ∷ []) t ≡ Some task)
+begun_before_open D o t i is = grind (arith, latest_last, eqb_tells o.task t)
+
+pub IsBegun-open : (D : List Entry) (o : task_open.TaskOpen) → (t : ℕ) (i : Inst) → (update_of D t i ≡ Busy → IsBegun D t i) → update_of (D ++ entries.TaskOpen o ∷ []) t i ≡ Busy → IsBegun (D ++ entries.TaskOpen o ∷ []) t i
+IsBegun-open D o t i k is =
+    let before : (update_of D t i ≡ Busy) × ((task : task_open.TaskOpen) → opening_of D t ≡ Some task → opening_of (D ++ entries.TaskOpen o ∷ []) t ≡ Some task) = begun_before_open D o t i is in
+    let b : IsBegun D t i = k before.0 in
+    record { task = b.task; opened = before.1 b.task b.opened; place = b.place; is_changed = b.is_changed }
+

@@ -1,0 +1,8 @@
+use Rattle.bosh_laws.proofs.QuestionLemmas.{vm_of-begin}
+use Rattle.bosh_laws.proofs.TaskLemmas.{TaskNumber-open}
+use Rattle.bosh_laws.proofs.NumberLemmas.{CallFacts-begin}
+use Rattle.bosh_laws.proofs.SameLemmas.{same_inst_tells}
+use Rattle.bosh_laws.proofs.laws.every_done_deploy_left_its_goal.Goals as goal
+
+pub returns : goal.returns
+returns g c = ?
