@@ -1,3 +1,4 @@
+pub mod CallLemmas
 pub mod NumberLemmas
 pub mod QuestionLemmas
 pub mod SameLemmas

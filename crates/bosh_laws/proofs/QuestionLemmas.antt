@@ -14,13 +14,38 @@ use Rattle.bosh_base.specs.declared.make.Make.{Make}
 use Rattle.bosh_base.specs.declared.moves.Move.{Move}
 use Rattle.bosh_base.specs.declared.owner.Owner.TheVariants.{Instance}
 use Rattle.bosh_base.specs.declared.row.Vm.{Vm}
+use Rattle.bosh_roll.specs.declared.upd.Upd.TheVariants.{Todo}
+use Rattle.bosh_base.specs.History.{chosen}
+use Rattle.bosh_history.specs.Moves.{performs, did_of}
 use Rattle.bosh_history.specs.Permitted.{Begins}
-use Rattle.bosh_history.specs.Records.{begin_of, make_of, vm_of, doubt_of}
+use Rattle.bosh_history.specs.Records.{begins, begin_of, made_from, make_of, vm_told, vm_of, doubt_told, doubt_of, updates, update_of, opens, opening_of}
 use Rattle.bosh_laws.proofs.SameLemmas.{same_inst_tells}
 
 -- one more entry
 abbrev pub more : List Entry → Entry → List Entry
 more D e = D ++ e ∷ []
+
+-- an entry that does not answer changes no answer
+pub update_of-stays : (D : List Entry) (e : Entry) (t : ℕ) (i : Inst) → updates t i e ≡ None → update_of (more D e) t i ≡ update_of D t i
+update_of-stays D e t i none = latest_last (updates t i) Todo D e ∙ ap (λ said. chosen said (update_of D t i)) none
+
+pub opening_of-stays : (D : List Entry) (e : Entry) (t : ℕ) → opens t e ≡ None → opening_of (more D e) t ≡ opening_of D t
+opening_of-stays D e t none = latest_last (opens t) None D e ∙ ap (λ said. chosen said (opening_of D t)) none
+
+pub begin_of-stays : (D : List Entry) (e : Entry) (n : ℕ) → begins n e ≡ None → begin_of (more D e) n ≡ begin_of D n
+begin_of-stays D e n none = latest_last (begins n) None D e ∙ ap (λ said. chosen said (begin_of D n)) none
+
+pub make_of-stays : (D : List Entry) (e : Entry) (i : Inst) → made_from i e ≡ None → make_of (more D e) i ≡ make_of D i
+make_of-stays D e i none = latest_last (made_from i) None D e ∙ ap (λ said. chosen said (make_of D i)) none
+
+pub vm_of-stays : (D : List Entry) (e : Entry) (i : Inst) → vm_told i D e ≡ None → vm_of (more D e) i ≡ vm_of D i
+vm_of-stays D e i none = latest_seen_last (vm_told i) None [] D e ∙ ap (λ said. chosen said (vm_of D i)) none
+
+pub doubt_of-stays : (D : List Entry) (e : Entry) (i : Inst) → doubt_told i D e ≡ None → doubt_of (more D e) i ≡ doubt_of D i
+doubt_of-stays D e i none = latest_seen_last (doubt_told i) None [] D e ∙ ap (λ said. chosen said (doubt_of D i)) none
+
+pub did_of-stays : (moves : List Move) (move : Move) (n : ℕ) → performs n move ≡ None → did_of (moves ++ move ∷ []) n ≡ did_of moves n
+did_of-stays moves move n none = latest_last (performs n) None moves move ∙ ap (λ said. chosen said (did_of moves n)) none
 
 -- a permitted call asks for a machine of its instance, and is in doubt
 pub make_of-begin : (D : List Entry) (call : begin.Begin) (p : Begins D call) (i : Inst) → ((i ≡ p.inst) × (make_of (more D (entries.Begin call)) i ≡ Some p.want.make)) ⊎ ((i ≢ p.inst) × (make_of (more D (entries.Begin call)) i ≡ make_of D i))
