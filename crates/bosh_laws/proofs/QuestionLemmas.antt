@@ -18,7 +18,7 @@ use Rattle.bosh_roll.specs.declared.upd.Upd.TheVariants.{Todo}
 use Rattle.bosh_base.specs.History.{chosen}
 use Rattle.bosh_history.specs.Moves.{performs, did_of}
 use Rattle.bosh_history.specs.Permitted.{Begins}
-use Rattle.bosh_history.specs.Records.{begins, begin_of, made_from, make_of, vm_told, vm_of, doubt_told, doubt_of, updates, update_of, opens, opening_of}
+use Rattle.bosh_history.specs.Records.{begins, begin_of, made_from, make_of, vm_told, vm_of, doubt_told, doubt_of, updates, update_of, opens, opening_of, goal_set, goal_of}
 use Rattle.bosh_laws.proofs.SameLemmas.{same_inst_tells}
 
 -- one more entry
@@ -31,6 +31,9 @@ update_of-stays D e t i none = latest_last (updates t i) Todo D e ∙ ap (λ sai
 
 pub opening_of-stays : (D : List Entry) (e : Entry) (t : ℕ) → opens t e ≡ None → opening_of (more D e) t ≡ opening_of D t
 opening_of-stays D e t none = latest_last (opens t) None D e ∙ ap (λ said. chosen said (opening_of D t)) none
+
+pub goal_of-stays : (D : List Entry) (e : Entry) (dep : List ℕ) → goal_set dep e ≡ None → goal_of (more D e) dep ≡ goal_of D dep
+goal_of-stays D e dep none = latest_last (goal_set dep) None D e ∙ ap (λ said. chosen said (goal_of D dep)) none
 
 pub begin_of-stays : (D : List Entry) (e : Entry) (n : ℕ) → begins n e ≡ None → begin_of (more D e) n ≡ begin_of D n
 begin_of-stays D e n none = latest_last (begins n) None D e ∙ ap (λ said. chosen said (begin_of D n)) none

@@ -1,5 +1,5 @@
 -- Tasks: how each was opened, and how far it has come with its instances.
-use Rattle.std.proofs.Common.{◌≡◌, ℕ, ◌+◌, ◌≤◌, Bool, true, false, Option, Some, None, List, [], ◌∷◌, ◌++◌, refl, sym, ◌∙◌, ap, subst, arith, add-one}
+use Rattle.std.proofs.Common.{◌≡◌, ℕ, ◌+◌, ◌≤◌, Bool, true, false, Option, Some, None, List, [], ◌∷◌, ◌++◌, refl, sym, ◌∙◌, ap, subst, arith, inl, inr}
 use Rattle.std.specs.Prelude.{◌≢◌, ◌⊎◌, slice_get, count_by, map}
 use Rattle.std.specs.Str.{bytes_eq}
 use Rattle.std.proofs.lemmas.Bool.Decides.{eqb_tells}
@@ -18,9 +18,10 @@ use Rattle.bosh_base.specs.declared.goal.GroupPlan.{GroupPlan}
 use Rattle.bosh_base.specs.declared.inst.Inst.{Inst}
 use Rattle.bosh_history.specs.Goals.{IsSound, instances}
 use Rattle.bosh_history.specs.Permitted.{Begins, Opens, BeginsUpdate, EndsUpdate, EndsTask}
-use Rattle.bosh_history.specs.Records.{last_call, begin_of, tasks_opened, opens_task, opening_of, update_of, updates, goal_of, vm_of}
+use Rattle.bosh_history.specs.Records.{last_call, begin_of, tasks_opened, opens_task, opens, opening_of, updates, update_of, goal_set, goal_of, vm_of}
 use Rattle.bosh_history.specs.Same.{same_inst}
 use Rattle.bosh_roll.specs.declared.upd.Upd.TheVariants.{Todo, Busy, Finished}
+use Rattle.bosh_laws.proofs.QuestionLemmas.{more, update_of-stays, opening_of-stays, goal_of-stays}
 use Rattle.bosh_laws.proofs.SameLemmas.{same_inst_tells, name_tells}
 
 -- task t, as it was opened
@@ -69,3 +70,38 @@ IsBegun-open D o t i k is =
     let b : IsBegun D t i = k before.0 in
     record { task = b.task; opened = before.1 b.task b.opened; place = b.place; is_changed = b.is_changed }
 
+-- another entry opens nothing and begins no work
+pub TaskNumber-stays : (D : List Entry) (e : Entry) (t : ℕ) (task : task_open.TaskOpen) → opens t e ≡ None → opens_task e ≡ false → (opening_of D t ≡ Some task → TaskNumber D t task) → opening_of (more D e) t ≡ Some task → TaskNumber (more D e) t task
+TaskNumber-stays D e t task none opens_none k is =
+    let was : TaskNumber D t task = k (sym (opening_of-stays D e t none) ∙ is) in
+    let count : tasks_opened (more D e) ≡ tasks_opened D = grind (arith, sum_by-append, opens_none) in
+    record { own_number = was.own_number; counted = omega arith }
+
+pub GoalFacts-stays : (D : List Entry) (e : Entry) (t : ℕ) (task : task_open.TaskOpen) (goal : Goal) → opens t e ≡ None → ((dep : List ℕ) → goal_set dep e ≡ None) → (opening_of D t ≡ Some task → GoalFacts D task goal) → opening_of (more D e) t ≡ Some task → GoalFacts (more D e) task goal
+GoalFacts-stays D e t task goal none sets_none k is =
+    let was : GoalFacts D task goal = k (sym (opening_of-stays D e t none) ∙ is) in
+    record { distinct = was.distinct; changes_all = was.changes_all; is_current = goal_of-stays D e goal.dep (sets_none goal.dep) ∙ was.is_current }
+
+IsBegun-same : (D : List Entry) (e : Entry) (t : ℕ) (i : Inst) → opens t e ≡ None → IsBegun D t i → IsBegun (more D e) t i
+IsBegun-same D e t i none b = record { task = b.task; opened = opening_of-stays D e t none ∙ b.opened; place = b.place; is_changed = b.is_changed }
+
+pub IsBegun-stays : (D : List Entry) (e : Entry) (t : ℕ) (i : Inst) → opens t e ≡ None → updates t i e ≡ None → (update_of D t i ≡ Busy → IsBegun D t i) → update_of (more D e) t i ≡ Busy → IsBegun (more D e) t i
+IsBegun-stays D e t i none same k is = IsBegun-same D e t i none (k (sym (update_of-stays D e t i same) ∙ is))
+
+-- work begins
+begun_before : (D : List Entry) (u : update.Update) (t : ℕ) (i : Inst) → update_of (more D (entries.UpdBegin u)) t i ≡ Busy → ((u.task ≡ t) × (i ≡ u.inst)) ⊎ (update_of D t i ≡ Busy)
+begun_before D u t i is = grind (arith, latest_last, eqb_tells u.task t, same_inst_tells i u.inst, is)
+
+begun_by : (D : List Entry) (u : update.Update) (p : BeginsUpdate D u) (t : ℕ) (i : Inst) → (update_of D t i ≡ Busy → IsBegun D t i) → ((u.task ≡ t) × (i ≡ u.inst)) ⊎ (update_of D t i ≡ Busy) → IsBegun (more D (entries.UpdBegin u)) t i
+begun_by D u p t i k (inl it) = IsBegun-same D (entries.UpdBegin u) t i refl (record { task = p.task; opened = ap (opening_of D) (sym it.0) ∙ p.opened; place = p.place; is_changed = p.is_changed ∙ ap Some (sym it.1) })
+begun_by D u p t i k (inr was) = IsBegun-same D (entries.UpdBegin u) t i refl (k was)
+
+pub IsBegun-begin : (D : List Entry) (u : update.Update) (p : BeginsUpdate D u) (t : ℕ) (i : Inst) → (update_of D t i ≡ Busy → IsBegun D t i) → update_of (more D (entries.UpdBegin u)) t i ≡ Busy → IsBegun (more D (entries.UpdBegin u)) t i
+IsBegun-begin D u p t i k is = begun_by D u p t i k (begun_before D u t i is)
+
+-- work ends
+busy_before_done : (D : List Entry) (u : update.Update) (t : ℕ) (i : Inst) → update_of (more D (entries.UpdDone u)) t i ≡ Busy → update_of D t i ≡ Busy
+busy_before_done D u t i is = grind (arith, latest_last, is)
+
+pub IsBegun-done : (D : List Entry) (u : update.Update) (t : ℕ) (i : Inst) → (update_of D t i ≡ Busy → IsBegun D t i) → update_of (more D (entries.UpdDone u)) t i ≡ Busy → IsBegun (more D (entries.UpdDone u)) t i
+IsBegun-done D u t i k is = IsBegun-same D (entries.UpdDone u) t i refl (k (busy_before_done D u t i is))
