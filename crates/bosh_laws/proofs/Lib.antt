@@ -1,4 +1,5 @@
 pub mod CallLemmas
+pub mod InstLemmas
 pub mod LimitLemmas
 pub mod NumberLemmas
 pub mod QuestionLemmas

@@ -1,3 +1,4 @@
+use Rattle.bosh_laws.proofs.InstLemmas.{InstFacts}
 use Rattle.bosh_laws.proofs.LimitLemmas.{in_flight}
 use Rattle.bosh_laws.proofs.CallLemmas.{OpenCall}
 use Rattle.bosh_laws.proofs.QuestionLemmas.{vm_of-begin}
