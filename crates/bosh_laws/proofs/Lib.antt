@@ -1,4 +1,6 @@
 pub mod CallLemmas
+pub mod PerformLemmas
+pub mod EffectLemmas
 pub mod InstLemmas
 pub mod LimitLemmas
 pub mod NumberLemmas

@@ -1,3 +1,5 @@
+use Rattle.bosh_laws.proofs.PerformLemmas.{IsStep}
+use Rattle.bosh_laws.proofs.EffectLemmas.{Creates}
 use Rattle.bosh_laws.proofs.InstLemmas.{InstFacts}
 use Rattle.bosh_laws.proofs.LimitLemmas.{in_flight}
 use Rattle.bosh_laws.proofs.CallLemmas.{OpenCall}
