@@ -140,7 +140,7 @@ apart ms D L n m a b other same =
     other (cc)
 
 -- what ends is such a call
-pub Ended-open : (ms : List Move) (D L : List Entry) (n : ℕ) (o : OpenCall ms D L n) → Ended D n o.inst
+abbrev pub Ended-open : (ms : List Move) (D L : List Entry) (n : ℕ) (o : OpenCall ms D L n) → Ended D n o.inst
 Ended-open ms D L n o = record { call = o.call; began = o.began; make = o.make; owner = o.owner; creates = o.creates }
 
 doubt_beside : (ms : List Move) (D L : List Entry) (e : end.End) (o : OpenCall ms D L e.n) (i : Inst) → IsAnswered L o.inst e.n (record { n = e.n; effect = true; answer = e.answer }) → i ≢ o.inst → doubt_of (more D (entries.End e)) i ≡ doubt_of D i

@@ -7,3 +7,4 @@ pub mod NumberLemmas
 pub mod QuestionLemmas
 pub mod SameLemmas
 pub mod TaskLemmas
+pub mod TieLemmas
