@@ -8,3 +8,4 @@ pub mod QuestionLemmas
 pub mod SameLemmas
 pub mod TaskLemmas
 pub mod TieLemmas
+pub mod KeptLemmas

@@ -27,7 +27,7 @@ use Rattle.bosh_laws.proofs.CallLemmas.{OpenCall, IsMade, IsMachine, IsAnswered}
 use Rattle.bosh_laws.proofs.EffectLemmas.{Creates, IsMade-more, IsMade-new, IsOrderly-more, belong-more}
 
 -- what the step rule says of a creation
-abbrev built : KeyWork → List Digest → Digest
+abbrev pub built : KeyWork → List Digest → Digest
 built work deps = work.key.fingerprint
 
 pub IsStep : (L : List Entry) (make : Make) (has_effect : Bool) (answer : _) → CallStep built L (CreateVm make []) has_effect answer → ((answer ≡ Cid (vms_created L + 1)) × (has_effect ≡ true)) ⊎ (answer ≡ Failed)

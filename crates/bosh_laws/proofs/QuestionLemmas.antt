@@ -21,6 +21,11 @@ use Rattle.bosh_history.specs.Permitted.{Begins}
 use Rattle.bosh_history.specs.Records.{begins, begin_of, made_from, make_of, vm_told, vm_of, doubt_told, doubt_of, updates, update_of, opens, opening_of, goal_set, goal_of}
 use Rattle.bosh_laws.proofs.SameLemmas.{same_inst_tells}
 
+-- there is none
+pub none_of : {A : Type 0} (o : Option A) → ((a : A) → o ≡ Some a → ⊥) → o ≡ None
+none_of None never = refl
+none_of (Some a) never = absurd (never a refl)
+
 -- one more entry
 abbrev pub more : List Entry → Entry → List Entry
 more D e = D ++ e ∷ []

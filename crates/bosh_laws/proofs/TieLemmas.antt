@@ -29,7 +29,7 @@ use Rattle.bosh_laws.proofs.EffectLemmas.{Creates, makes_of-more}
 use Rattle.bosh_laws.proofs.InstLemmas.{InstFacts, caller, same_or_other}
 use Rattle.bosh_laws.proofs.NumberLemmas.{CallFacts}
 use Rattle.bosh_laws.proofs.PerformLemmas.{effect_of, Creates-effect}
-use Rattle.bosh_laws.proofs.QuestionLemmas.{more, make_of-stays, vm_of-stays, doubt_of-stays, did_of-stays, make_of-begin, doubt_of-begin, vm_of-begin, Ended, vm_of-failed, doubt_of-failed, vm_of-created, doubt_of-created}
+use Rattle.bosh_laws.proofs.QuestionLemmas.{more, none_of, make_of-stays, vm_of-stays, doubt_of-stays, did_of-stays, make_of-begin, doubt_of-begin, vm_of-begin, Ended, vm_of-failed, doubt_of-failed, vm_of-created, doubt_of-created}
 
 -- the makes of an instance by its machine, whether its call in doubt took effect, and its make
 abbrev recorded : Option Vm → Bool → Option Make → List Make
@@ -101,10 +101,6 @@ made-failed ms D L e inst p failed i k = k ∙ sym (recorded-same ms (noting ms 
 
 pub machine-failed : (D L : List Entry) (e : end.End) (inst : Inst) (p : Ended D e.n inst) → e.answer ≡ Failed → (i : Inst) → HasItsMachine D L i → HasItsMachine (more D (entries.End e)) L i
 machine-failed D L e inst p failed i k vm is = k vm (sym (vm_of-failed D e inst p failed i) ∙ is)
-
-none_of : {A : Type 0} (o : Option A) → ((a : A) → o ≡ Some a → ⊥) → o ≡ None
-none_of None never = refl
-none_of (Some a) never = absurd (never a refl)
 
 -- an instance with a call in doubt has no machine
 pub no_machine : (D : List Entry) (i : Inst) (n : ℕ) → InstFacts D i → doubt_of D i ≡ Some n → vm_of D i ≡ None
