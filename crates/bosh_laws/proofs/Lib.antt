@@ -9,3 +9,4 @@ pub mod SameLemmas
 pub mod TaskLemmas
 pub mod TieLemmas
 pub mod KeptLemmas
+pub mod RunLemmas
