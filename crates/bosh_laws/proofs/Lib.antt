@@ -10,3 +10,4 @@ pub mod TaskLemmas
 pub mod TieLemmas
 pub mod KeptLemmas
 pub mod RunLemmas
+pub mod ExactLemmas

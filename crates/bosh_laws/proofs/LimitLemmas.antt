@@ -29,10 +29,10 @@ in_flight D task = count_by is_busy (map (update_of D task.task) task.changed)
 
 -- ---- counts
 
-abbrev one_if : Bool → ℕ
+abbrev pub one_if : Bool → ℕ
 one_if test = if test then 1 else 0
 
-count_by-cons : {X : Type 0} (test : X → Bool) (x : X) (xs : List X) → count_by test (x ∷ xs) ≡ one_if (test x) + count_by test xs
+pub count_by-cons : {X : Type 0} (test : X → Bool) (x : X) (xs : List X) → count_by test (x ∷ xs) ≡ one_if (test x) + count_by test xs
 count_by-cons test x xs = sum_by-cons (λ y. one_if (test y)) x xs
 
 none_step : (f : Inst → Upd) (x : Inst) (xs : List Inst) → f x ≡ Todo → count_by is_busy (map f xs) ≡ 0 → count_by is_busy (map f (x ∷ xs)) ≡ 0

@@ -1,3 +1,4 @@
+use Rattle.bosh_laws.proofs.ExactLemmas.{no_open_call}
 use Rattle.bosh_laws.proofs.RunLemmas.{at_the_end}
 use Rattle.bosh_laws.proofs.KeptLemmas.{Kept}
 use Rattle.bosh_laws.proofs.TieLemmas.{made-with}
