@@ -4,4 +4,7 @@
 
 mod laws;
 
-pub use laws::every_done_deploy_left_its_goal;
+pub use laws::{
+    a_done_task_has_no_open_call, every_done_deploy_left_its_goal, every_history_is_safe,
+    every_instance_is_tied,
+};
