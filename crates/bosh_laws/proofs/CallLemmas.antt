@@ -1,8 +1,8 @@
 -- The calls that are open: each makes the machine of an instance that is in doubt for it and at work.
-use Rattle.std.proofs.Common.{◌≡◌, ℕ, ◌+◌, ◌≤◌, Bool, true, false, Option, Some, None, List, [], ◌∷◌, ◌++◌, refl, sym, ◌∙◌, ap, subst, arith, inl, inr, ⊎_elim}
+use Rattle.std.proofs.Common.{◌≡◌, ℕ, ◌≤◌, true, false, Some, None, List, [], ◌∷◌, ◌++◌, refl, sym, ◌∙◌, ap, subst, arith, inl, inr, ⊎_elim}
 use Rattle.std.specs.Prelude.{◌≢◌, ◌⊎◌}
 use Rattle.std.proofs.lemmas.Bool.Decides.{eqb_tells}
-use Rattle.bosh_base.proofs.HistoryLemmas.{latest_last, latest_seen_last}
+use Rattle.bosh_base.proofs.HistoryLemmas.{latest_last}
 use Rattle.bosh_base.specs.Cloud.{is_vm_there, vm_creation, vms_created}
 use Rattle.bosh_base.specs.History.{chosen}
 use Rattle.bosh_base.specs.declared.answer.Answer.{Answer}
@@ -17,20 +17,16 @@ use Rattle.bosh_base.specs.declared.entry.Entry.{Entry}
 use Rattle.bosh_base.specs.declared.entry.Entry.TheVariants as entries
 use Rattle.bosh_base.specs.declared.inst.Inst.{Inst}
 use Rattle.bosh_base.specs.declared.make.Make.{Make}
-use Rattle.bosh_base.specs.declared.moves.Cause.{Cause}
 use Rattle.bosh_base.specs.declared.moves.Did as did
 use Rattle.bosh_base.specs.declared.moves.Move.{Move}
-use Rattle.bosh_base.specs.declared.moves.Move.TheVariants.{Note, Did, Halt, Said}
-use Rattle.bosh_base.specs.declared.moves.Said as said
+use Rattle.bosh_base.specs.declared.moves.Move.TheVariants.{Note, Did}
 use Rattle.bosh_base.specs.declared.owner.Owner.TheVariants.{Instance}
 use Rattle.bosh_history.specs.Moves.{opens_call, is_open, performs, did_of}
-use Rattle.bosh_history.specs.Permitted.{Begins, Opens, BeginsUpdate, EndsUpdate, EndsCall}
-use Rattle.bosh_history.specs.Records.{begin_of, make_of, vm_of, doubt_of, update_of, opening_of, tasks_opened}
-use Rattle.bosh_roll.specs.declared.upd.Upd.TheVariants.{Todo, Busy, Finished}
-use Rattle.bosh_laws.proofs.NumberLemmas.{CallFacts}
-use Rattle.bosh_laws.proofs.QuestionLemmas.{more, update_of-stays, opening_of-stays, begin_of-stays, make_of-stays, vm_of-stays, doubt_of-stays, did_of-stays, make_of-begin, doubt_of-begin, Ended, doubt_of-failed, doubt_of-created}
+use Rattle.bosh_history.specs.Permitted.{Begins, Opens, EndsUpdate, EndsCall}
+use Rattle.bosh_history.specs.Records.{begin_of, make_of, doubt_of, update_of, tasks_opened}
+use Rattle.bosh_roll.specs.declared.upd.Upd.TheVariants.{Busy}
+use Rattle.bosh_laws.proofs.QuestionLemmas.{more, update_of-stays, begin_of-stays, make_of-stays, doubt_of-stays, did_of-stays, make_of-begin, doubt_of-begin, Ended, doubt_of-failed, doubt_of-created}
 use Rattle.bosh_laws.proofs.SameLemmas.{same_inst_tells}
-use Rattle.bosh_laws.proofs.TaskLemmas.{IsBegun, TaskNumber}
 
 -- one more entry is noted
 abbrev pub noting : List Move → Entry → List Move
@@ -60,9 +56,13 @@ IsAnswered-kept : (L M : List Entry) (i : Inst) (n : ℕ) (d : did.Did) → ((v 
 IsAnswered-kept L M i n d there (inl failed) = inl failed
 IsAnswered-kept L M i n d there (inr is) = inr (record { machine = is.machine; answer = is.answer; took = is.took; made = there is.machine is.made })
 
-answered_by : (L : List Entry) (i : Inst) (n : ℕ) (d : did.Did) (a : Answer) → d.answer ≡ a → IsAnswered L i n d → (a ≡ Failed) ⊎ IsMachine L i n (record { n = n; effect = true; answer = a })
-answered_by L i n d a is (inl failed) = inl (sym is ∙ failed)
-answered_by L i n d a is (inr m) = inr (record { machine = m.machine; answer = sym is ∙ m.answer; took = refl; made = m.made })
+-- how a call ended
+abbrev EndedAs : Answer → Type 0
+EndedAs answer = (answer ≡ Failed) ⊎ ((v : ℕ) × (answer ≡ Cid v))
+
+ended_as : (L : List Entry) (i : Inst) (n : ℕ) (d : did.Did) (answer : Answer) → d.answer ≡ answer → IsAnswered L i n d → EndedAs answer
+ended_as L i n d answer is (inl failed) = inl (sym is ∙ failed)
+ended_as L i n d answer is (inr m) = inr (m.machine, sym is ∙ m.answer)
 
 -- call n is open
 pub record OpenCall (moves : List Move) (D L : List Entry) (n : ℕ) : Type 0 where
@@ -143,13 +143,9 @@ apart ms D L n m a b other same =
 abbrev pub Ended-open : (ms : List Move) (D L : List Entry) (n : ℕ) (o : OpenCall ms D L n) → Ended D n o.inst
 Ended-open ms D L n o = record { call = o.call; began = o.began; make = o.make; owner = o.owner; creates = o.creates }
 
-doubt_beside : (ms : List Move) (D L : List Entry) (e : end.End) (o : OpenCall ms D L e.n) (i : Inst) → IsAnswered L o.inst e.n (record { n = e.n; effect = true; answer = e.answer }) → i ≢ o.inst → doubt_of (more D (entries.End e)) i ≡ doubt_of D i
+doubt_beside : (ms : List Move) (D L : List Entry) (e : end.End) (o : OpenCall ms D L e.n) (i : Inst) → EndedAs e.answer → i ≢ o.inst → doubt_of (more D (entries.End e)) i ≡ doubt_of D i
 doubt_beside ms D L e o i (inl failed) other = doubt_of-failed D e o.inst (Ended-open ms D L e.n o) failed i
-doubt_beside ms D L e o i (inr is) other = ⊎_elim (λ same. absurd (other same.0)) (λ beside. beside.1) (doubt_of-created D e o.inst (Ended-open ms D L e.n o) is.machine is.answer i)
-
--- the answer of the call that ends
-pub answer_of_end : (ms : List Move) (D L : List Entry) (e : end.End) (p : EndsCall ms e) (o : OpenCall ms D L e.n) → IsAnswered L o.inst e.n (record { n = e.n; effect = true; answer = e.answer })
-answer_of_end ms D L e p o = answered_by L o.inst e.n p.done e.answer p.answered (o.answered p.done p.performed)
+doubt_beside ms D L e o i (inr cid) other = ⊎_elim (λ same. absurd (other same.0)) (λ beside. beside.1) (doubt_of-created D e o.inst (Ended-open ms D L e.n o) cid.0 cid.1 i)
 
 pub OpenCall-end : (ms : List Move) (D L : List Entry) (e : end.End) (p : EndsCall ms e) (n : ℕ) → ((m : ℕ) → is_open ms m ≡ true → OpenCall ms D L m) → is_open (noting ms (entries.End e)) n ≡ true → OpenCall (noting ms (entries.End e)) (more D (entries.End e)) L n
 OpenCall-end ms D L e p n k is =
@@ -157,7 +153,8 @@ OpenCall-end ms D L e p n k is =
     let o : OpenCall ms D L n = k n before.1 in
     let ends : OpenCall ms D L e.n = k e.n p.is_open in
     let other : o.inst ≢ ends.inst = apart ms D L n e.n o ends (λ same. before.0 (sym same)) in
-    let doubted : doubt_of (more D (entries.End e)) o.inst ≡ doubt_of D o.inst = doubt_beside ms D L e ends o.inst (answer_of_end ms D L e p ends) other in
+    let answer : EndedAs e.answer = ended_as L ends.inst e.n p.done e.answer p.answered (ends.answered p.done p.performed) in
+    let doubted : doubt_of (more D (entries.End e)) o.inst ≡ doubt_of D o.inst = doubt_beside ms D L e ends o.inst answer other in
     OpenCall-kept ms (noting ms (entries.End e)) D (more D (entries.End e)) L L n o (begin_of-stays D (entries.End e) n refl) (make_of-stays D (entries.End e) o.inst refl) doubted (update_of-stays D (entries.End e) o.call.task o.inst refl ∙ o.works) (did_of-stays ms (Note (entries.End e)) n refl) (λ v made. made)
 
 -- ---- the other entries

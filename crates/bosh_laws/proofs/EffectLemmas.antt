@@ -1,11 +1,11 @@
 -- What the creation of an instance's machine does to the cloud.
-use Rattle.std.proofs.Common.{◌≡◌, ℕ, ◌+◌, ◌<◌, ◌≤◌, Bool, true, false, Option, Some, None, List, [], ◌∷◌, ◌++◌, refl, sym, ◌∙◌, ap, subst, arith, inl, inr, append-nil}
+use Rattle.std.proofs.Common.{◌≡◌, ℕ, ◌+◌, Bool, List, [], ◌∷◌, ◌++◌, refl, sym, ◌∙◌, ap, subst, arith, inl, inr, append-nil}
 use Rattle.std.specs.Prelude.{◌≢◌, ◌⊎◌, filter, map, All}
 use Rattle.std.proofs.lemmas.Bool.Decides.{eqb_tells}
 use Rattle.std.proofs.lemmas.List.{map-append}
 use Rattle.std.proofs.lemmas.List.Elements.{All-push}
 use Rattle.std.proofs.lemmas.List.Sums.{sum_by-append}
-use Rattle.bosh_base.proofs.HistoryLemmas.{latest_last, latest_seen_last}
+use Rattle.bosh_base.proofs.HistoryLemmas.{latest_seen_last}
 use Rattle.bosh_base.specs.Cloud as cloud
 use Rattle.bosh_base.specs.Cloud.{vms_created, machines}
 use Rattle.bosh_base.specs.declared.call.Call.TheVariants.{CreateVm}

@@ -1,5 +1,5 @@
 -- What is left where a task is done: no open call, and exactly the goal.
-use Rattle.std.proofs.Common.{◌≡◌, ℕ, ◌+◌, ◌<◌, ◌≤◌, Bool, true, false, Option, Some, None, List, [], ◌∷◌, ◌++◌, refl, sym, ◌∙◌, ap, subst, arith, inl, inr, length}
+use Rattle.std.proofs.Common.{◌≡◌, ℕ, ◌+◌, ◌≤◌, Bool, true, false, Option, Some, None, List, [], ◌∷◌, refl, sym, ◌∙◌, ap, subst, arith, inl, inr, length}
 use Rattle.std.specs.Prelude.{◌≢◌, ◌⊎◌, ◌||◌, if◌then◌else◌, is_some, slice_get, find, filter, map, count_by, All}
 use Rattle.std.specs.Option.{option_map, option_and_then, option_to_list}
 use Rattle.std.proofs.lemmas.List.Elements.{All-head, All-tail, All-get_or}
@@ -15,8 +15,8 @@ use Rattle.bosh_base.specs.declared.inst.Inst.{Inst}
 use Rattle.bosh_base.specs.declared.make.Make.{Make}
 use Rattle.bosh_base.specs.declared.moves.Move.{Move}
 use Rattle.bosh_base.specs.declared.row.Vm.{Vm}
-use Rattle.bosh_history.specs.Exactness.{make_wanted, makes_of, makes_wanted, IsExact}
-use Rattle.bosh_history.specs.Goals.{inst_of, instances, want_of}
+use Rattle.bosh_history.specs.Exactness.{make_wanted, makes_wanted, IsExact}
+use Rattle.bosh_history.specs.Goals.{inst_of, instances}
 use Rattle.bosh_history.specs.Moves.{is_open}
 use Rattle.bosh_history.specs.Permitted.{EndsTask}
 use Rattle.bosh_history.specs.Records.{begin_of, opening_of, update_of, goal_of, make_of, vm_of, doubt_of}
@@ -52,7 +52,7 @@ filter_some : {X : Type 0} (test : X → Bool) (xs : List X) (first : X) → fin
 filter_some test [] first is = absurd cc
 filter_some {X} test (x ∷ xs) first is =
     (elim (test x) as (λ passes. (if passes then Some x else find test xs) ≡ Some first → BeginsWith (if passes then x ∷ filter test xs else filter test xs) first) [
-      true ↦ λ here. (filter test xs, head_is x first (filter test xs) here)
+      | true ↦ λ here. (filter test xs, head_is x first (filter test xs) here)
       | false ↦ λ later. filter_some test xs first later
     ]) is
   where
@@ -85,6 +85,7 @@ found_row P i (r ∷ rs) want all is = found_step P i r rs want (All-head P r.in
     own : (P : Inst → Type 0) (i j : Inst) → P j → ((same_inst i j ≡ true) × (i ≡ j)) ⊎ ((same_inst i j ≡ false) × (i ≢ j)) → same_inst i j ≡ true → P i
     own P i j holds (inl same) is = subst P (sym same.1) holds
     own P i j holds (inr other) is = let clash : false ≡ true = sym other.0 ∙ is in absurd cc
+
     found_step : (P : Inst → Type 0) (i : Inst) (r : row.GoalRow) (rs : List row.GoalRow) (want : row.GoalRow) → P r.inst → find (is_row_of i) (r ∷ rs) ≡ Some want → (find (is_row_of i) rs ≡ Some want → P i) → P i
     found_step P i r rs want holds is later =
         found_by (same_inst i r.inst) refl is
@@ -147,9 +148,9 @@ exactly_its_goal ms D L t p k task goal opened of_task =
     let both : Some task ≡ Some p.task = sym opened ∙ p.opened in
     let same : task ≡ p.task = cc in
     let own : p.task.goal ≡ Some goal = ap (λ (x : task_open.TaskOpen). x.goal) (sym same) ∙ of_task in record {
-  one_for_one = λ i dep. k.made i ∙ goal_left ms D L t p k goal own i dep (row_or_none (find (is_row_of i) goal.rows));
-  belong = k.belong;
-}
+      one_for_one = λ i dep. k.made i ∙ goal_left ms D L t p k goal own i dep (row_or_none (find (is_row_of i) goal.rows));
+      belong = k.belong;
+    }
 
 -- ---- no call of it is open
 

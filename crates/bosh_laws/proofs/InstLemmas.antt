@@ -1,9 +1,9 @@
 -- Instances: what the director knows of each hangs together.
-use Rattle.std.proofs.Common.{◌≡◌, ℕ, ◌+◌, ◌<◌, ◌≤◌, Bool, true, false, Option, Some, None, List, [], ◌∷◌, ◌++◌, refl, sym, ◌∙◌, ap, subst, arith, inl, inr, ⊎_elim}
+use Rattle.std.proofs.Common.{◌≡◌, ℕ, Option, Some, None, List, refl, sym, ◌∙◌, ap, subst, arith, inl, inr, ⊎_elim}
 use Rattle.std.specs.Prelude.{◌≢◌, ◌⊎◌, find}
 use Rattle.std.specs.Option.{option_map, option_and_then}
 use Rattle.std.proofs.lemmas.Bool.Decides.{eqb_tells}
-use Rattle.bosh_base.proofs.HistoryLemmas.{latest_last, latest_seen_last}
+use Rattle.bosh_base.proofs.HistoryLemmas.{latest_last}
 use Rattle.bosh_base.specs.declared.answer.Answer.TheVariants.{Cid, Failed}
 use Rattle.bosh_base.specs.declared.entry.Begin as begin
 use Rattle.bosh_base.specs.declared.entry.End as end
@@ -21,11 +21,11 @@ use Rattle.bosh_base.specs.declared.row.Vm.{Vm}
 use Rattle.bosh_history.specs.Exactness.{make_wanted}
 use Rattle.bosh_history.specs.Goals.{want_of}
 use Rattle.bosh_history.specs.Permitted.{Begins, Opens, EndsUpdate}
-use Rattle.bosh_history.specs.Records.{begins, begin_of, made_from, make_of, vm_told, vm_of, doubt_told, doubt_of, updates, update_of, goal_set, goal_of}
+use Rattle.bosh_history.specs.Records.{begin_of, make_of, vm_of, doubt_of, update_of, goal_set, goal_of}
 use Rattle.bosh_history.specs.Same.{same_inst}
-use Rattle.bosh_roll.specs.declared.upd.Upd.TheVariants.{Todo, Busy, Finished}
+use Rattle.bosh_roll.specs.declared.upd.Upd.TheVariants.{Finished}
 use Rattle.bosh_laws.proofs.QuestionLemmas.{more, update_of-stays, goal_of-stays, begin_of-stays, make_of-stays, vm_of-stays, doubt_of-stays, make_of-begin, doubt_of-begin, vm_of-begin, Ended, vm_of-failed, doubt_of-failed, vm_of-created, doubt_of-created}
-use Rattle.bosh_laws.proofs.SameLemmas.{same_inst_tells, name_tells}
+use Rattle.bosh_laws.proofs.SameLemmas.{same_inst_tells}
 use Rattle.bosh_laws.proofs.TaskLemmas.{goal_of-open}
 
 abbrev owner_of : begin.Begin → Owner
@@ -109,12 +109,12 @@ as_wanted-begin D call p i k m is (inr other) = k.as_wanted m (sym other.1 ∙ i
 pub InstFacts-begin : (D : List Entry) (call : begin.Begin) (p : Begins D call) (i : Inst) → begin_of D call.n ≡ None → InstFacts D i → InstFacts (more D (entries.Begin call)) i
 InstFacts-begin D call p i fresh k =
     let beside : (v : Vm) → vm_of (more D (entries.Begin call)) i ≡ Some v → i ≢ p.inst = λ v is own. grind (arith, vm_of-begin D call i, is, own, p.no_machine) in record {
-  as_wanted = λ m is. wanted-stays D (entries.Begin call) i refl ∙ as_wanted-begin D call p i k m is (make_of-begin D call p i);
-  own_call = λ n is. own_call-begin D call p i k fresh n is (doubt_of-begin D call p i);
-  no_doubt = λ v is. ⊎_elim (λ own. absurd (beside v is own.0)) (λ other. other.1 ∙ k.no_doubt v (sym (vm_of-begin D call i) ∙ is)) (doubt_of-begin D call p i);
-  has_make = λ v is none. ⊎_elim (λ own. absurd (beside v is own.0)) (λ other. k.has_make v (sym (vm_of-begin D call i) ∙ is) (sym other.1 ∙ none)) (make_of-begin D call p i);
-  finished = λ t is none. k.finished t (sym (update_of-stays D (entries.Begin call) t i refl) ∙ is) (sym (vm_of-begin D call i) ∙ none);
-}
+      as_wanted = λ m is. wanted-stays D (entries.Begin call) i refl ∙ as_wanted-begin D call p i k m is (make_of-begin D call p i);
+      own_call = λ n is. own_call-begin D call p i k fresh n is (doubt_of-begin D call p i);
+      no_doubt = λ v is. ⊎_elim (λ own. absurd (beside v is own.0)) (λ other. other.1 ∙ k.no_doubt v (sym (vm_of-begin D call i) ∙ is)) (doubt_of-begin D call p i);
+      has_make = λ v is none. ⊎_elim (λ own. absurd (beside v is own.0)) (λ other. k.has_make v (sym (vm_of-begin D call i) ∙ is) (sym other.1 ∙ none)) (make_of-begin D call p i);
+      finished = λ t is none. k.finished t (sym (update_of-stays D (entries.Begin call) t i refl) ∙ is) (sym (vm_of-begin D call i) ∙ none);
+    }
 
 -- ---- a call ends
 
@@ -126,12 +126,12 @@ InstFacts-has : (D : List Entry) (e : end.End) (inst : Inst) (p : Ended D e.n in
 InstFacts-has D e inst p v is asked k =
     let doubt : doubt_of (more D (entries.End e)) inst ≡ None = grind (arith, doubt_of-created D e inst p v is inst) in
     let vm : vm_of (more D (entries.End e)) inst ≡ Some (record { vm = v; agent = p.call.n }) = grind (arith, vm_of-created D e inst p v is inst) in record {
-  as_wanted = λ m is. wanted-stays D (entries.End e) inst refl ∙ k.as_wanted m (sym (make_of-stays D (entries.End e) inst refl) ∙ is);
-  own_call = λ n is. grind (arith, doubt, is);
-  no_doubt = λ x is. doubt;
-  has_make = λ x is none. grind (arith, make_of-stays D (entries.End e) inst refl, asked, none);
-  finished = λ t is none. grind (arith, vm, none);
-}
+      as_wanted = λ m is. wanted-stays D (entries.End e) inst refl ∙ k.as_wanted m (sym (make_of-stays D (entries.End e) inst refl) ∙ is);
+      own_call = λ n is. grind (arith, doubt, is);
+      no_doubt = λ x is. doubt;
+      has_make = λ x is none. grind (arith, make_of-stays D (entries.End e) inst refl, asked, none);
+      finished = λ t is none. grind (arith, vm, none);
+    }
 
 created_by : (D : List Entry) (e : end.End) (inst : Inst) (p : Ended D e.n inst) (v : ℕ) → e.answer ≡ Cid v → make_of D inst ≡ Some p.make → (i : Inst) → InstFacts D i → ((i ≡ inst) ⊎ (i ≢ inst)) → InstFacts (more D (entries.End e)) i
 created_by D e inst p v is asked i k (inl own) = subst (InstFacts (more D (entries.End e))) (sym own) (InstFacts-has D e inst p v is asked (subst (InstFacts D) own k))

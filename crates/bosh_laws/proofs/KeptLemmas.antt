@@ -1,6 +1,6 @@
 -- What each permitted move keeps.
-use Rattle.std.proofs.Common.{◌≡◌, ℕ, ◌+◌, ◌<◌, ◌≤◌, Bool, true, false, Option, Some, None, List, [], ◌∷◌, ◌++◌, refl, sym, ◌∙◌, ap, subst, arith, inl, inr, ⊎_elim, append-nil}
-use Rattle.std.specs.Prelude.{◌≢◌, ◌⊎◌, All}
+use Rattle.std.proofs.Common.{◌≡◌, ℕ, ◌+◌, ◌≤◌, true, false, Some, None, List, [], ◌∷◌, ◌++◌, refl, sym, ◌∙◌, ap, subst, arith, inl, inr, append-nil}
+use Rattle.std.specs.Prelude.{◌⊎◌, All}
 use Rattle.bosh_base.specs.CallStep.{CallStep}
 use Rattle.bosh_base.specs.Cloud.{machines, vms_created}
 use Rattle.bosh_base.specs.declared.answer.Answer.TheVariants.{Cid, Failed}
@@ -18,15 +18,15 @@ use Rattle.bosh_base.specs.declared.inst.Inst.{Inst}
 use Rattle.bosh_base.specs.declared.make.Make.{Make}
 use Rattle.bosh_base.specs.declared.moves.Did as did
 use Rattle.bosh_base.specs.declared.moves.Move.{Move}
-use Rattle.bosh_base.specs.declared.moves.Move.TheVariants.{Note, Did}
+use Rattle.bosh_base.specs.declared.moves.Move.TheVariants.{Did}
 use Rattle.bosh_cloud.specs.Orderly.{IsOrderly}
 use Rattle.bosh_history.specs.Effects.{effect_of_call}
 use Rattle.bosh_history.specs.Exactness.{HasInstance}
 use Rattle.bosh_history.specs.Moves.{opens_call, is_open, performs, did_of}
 use Rattle.bosh_history.specs.Permitted.{Opens, Begins, BeginsUpdate, EndsUpdate, EndsCall}
-use Rattle.bosh_history.specs.Records.{last_call, begin_of, tasks_opened, opening_of, update_of}
+use Rattle.bosh_history.specs.Records.{begin_of, tasks_opened, opening_of, update_of}
 use Rattle.bosh_roll.specs.declared.upd.Upd.TheVariants.{Busy}
-use Rattle.bosh_laws.proofs.CallLemmas.{noting, IsMade, IsMachine, IsAnswered, OpenCall, Ended-open, OpenCall-begin, OpenCall-end, OpenCall-open, OpenCall-update, OpenCall-updated, OpenCall-done, OpenCall-quiet, OpenCall-did}
+use Rattle.bosh_laws.proofs.CallLemmas.{noting, IsMade, IsAnswered, OpenCall, Ended-open, OpenCall-begin, OpenCall-end, OpenCall-open, OpenCall-update, OpenCall-updated, OpenCall-done, OpenCall-quiet, OpenCall-did}
 use Rattle.bosh_laws.proofs.EffectLemmas.{Creates, IsMade-more, IsMade-new, IsOrderly-more, belong-more}
 use Rattle.bosh_laws.proofs.InstLemmas.{InstFacts, InstFacts-open, InstFacts-begin, InstFacts-failed, InstFacts-created, InstFacts-update, InstFacts-updated, InstFacts-done}
 use Rattle.bosh_laws.proofs.LimitLemmas.{in_flight, in_flight-open, in_flight-begin, in_flight-done, in_flight-stays}
@@ -78,18 +78,18 @@ Kept-open ms D L o p k = record {
 pub Kept-begin : (ms : List Move) (D L : List Entry) (call : begin.Begin) → Begins D call → Kept ms D L → Kept (noting ms (entries.Begin call)) (more D (entries.Begin call)) L
 Kept-begin ms D L call p k =
     let fresh : begin_of D call.n ≡ None = fresh_call D call p.number (k.calls call.n) in record {
-  calls = λ n b is. CallFacts-begin D call p n b (k.calls n b) is;
-  tasks = λ t task is. TaskNumber-stays D (entries.Begin call) t task refl refl (k.tasks t task) is;
-  goals = λ t task goal has is. GoalFacts-stays D (entries.Begin call) t task goal refl (λ dep. refl) (k.goals t task goal has) is;
-  begun = λ t i is. IsBegun-stays D (entries.Begin call) t i refl refl (k.begun t i) is;
-  limited = λ t task goal group has one is. in_flight-stays D (entries.Begin call) t task group.limit refl (λ i. refl) (k.limited t task goal group has one) is;
-  insts = λ i. InstFacts-begin D call p i fresh (k.insts i);
-  open_calls = λ n is. OpenCall-begin ms D L call p n (k.open_calls n) is;
-  orderly = k.orderly;
-  belong = k.belong;
-  made = λ i. made-begin ms D L call p i fresh (k.insts i) (k.made i);
-  present = λ i. machine-begin D L call i (k.present i);
-}
+      calls = λ n b is. CallFacts-begin D call p n b (k.calls n b) is;
+      tasks = λ t task is. TaskNumber-stays D (entries.Begin call) t task refl refl (k.tasks t task) is;
+      goals = λ t task goal has is. GoalFacts-stays D (entries.Begin call) t task goal refl (λ dep. refl) (k.goals t task goal has) is;
+      begun = λ t i is. IsBegun-stays D (entries.Begin call) t i refl refl (k.begun t i) is;
+      limited = λ t task goal group has one is. in_flight-stays D (entries.Begin call) t task group.limit refl (λ i. refl) (k.limited t task goal group has one) is;
+      insts = λ i. InstFacts-begin D call p i fresh (k.insts i);
+      open_calls = λ n is. OpenCall-begin ms D L call p n (k.open_calls n) is;
+      orderly = k.orderly;
+      belong = k.belong;
+      made = λ i. made-begin ms D L call p i fresh (k.insts i) (k.made i);
+      present = λ i. machine-begin D L call i (k.present i);
+    }
 
 -- ---- a call ends
 
@@ -102,33 +102,33 @@ record EndsWell (ms : List Move) (D L : List Entry) (e : end.End) : Type 0 where
 ends_by : (ms : List Move) (D L : List Entry) (e : end.End) (p : EndsCall ms e) (k : Kept ms D L) (o : OpenCall ms D L e.n) → IsAnswered L o.inst e.n p.done → EndsWell ms D L e
 ends_by ms D L e p k o (inl failed) =
     let answer : e.answer ≡ Failed = sym p.answered ∙ failed in record {
-  insts = λ i. InstFacts-failed D e o.inst (Ended-open ms D L e.n o) answer i (k.insts i);
-  made = λ i. made-failed ms D L e o.inst (Ended-open ms D L e.n o) answer i (k.made i);
-  present = λ i. machine-failed D L e o.inst (Ended-open ms D L e.n o) answer i (k.present i);
-}
+      insts = λ i. InstFacts-failed D e o.inst (Ended-open ms D L e.n o) answer i (k.insts i);
+      made = λ i. made-failed ms D L e o.inst (Ended-open ms D L e.n o) answer i (k.made i);
+      present = λ i. machine-failed D L e o.inst (Ended-open ms D L e.n o) answer i (k.present i);
+    }
 ends_by ms D L e p k o (inr m) =
     let answer : e.answer ≡ Cid m.machine = sym p.answered ∙ m.answer in record {
-  insts = λ i. InstFacts-created D e o.inst (Ended-open ms D L e.n o) m.machine answer o.asked i (k.insts i);
-  made = λ i. made-created ms D L e o m.machine answer p.done p.performed m.took i (k.insts i) (k.made i);
-  present = λ i. machine-created ms D L e o m.machine answer (k.calls e.n o.call o.began).own_number m.made i (k.present i);
-}
+      insts = λ i. InstFacts-created D e o.inst (Ended-open ms D L e.n o) m.machine answer o.asked i (k.insts i);
+      made = λ i. made-created ms D L e o m.machine answer p.done p.performed m.took i (k.insts i) (k.made i);
+      present = λ i. machine-created ms D L e o m.machine answer (k.calls e.n o.call o.began).own_number m.made i (k.present i);
+    }
 
 pub Kept-end : (ms : List Move) (D L : List Entry) (e : end.End) → EndsCall ms e → Kept ms D L → Kept (noting ms (entries.End e)) (more D (entries.End e)) L
 Kept-end ms D L e p k =
     let o : OpenCall ms D L e.n = k.open_calls e.n p.is_open in
     let well : EndsWell ms D L e = ends_by ms D L e p k o (o.answered p.done p.performed) in record {
-  calls = λ n b is. CallFacts-stays D (entries.End e) n b refl refl (k.calls n b) is;
-  tasks = λ t task is. TaskNumber-stays D (entries.End e) t task refl refl (k.tasks t task) is;
-  goals = λ t task goal has is. GoalFacts-stays D (entries.End e) t task goal refl (λ dep. refl) (k.goals t task goal has) is;
-  begun = λ t i is. IsBegun-stays D (entries.End e) t i refl refl (k.begun t i) is;
-  limited = λ t task goal group has one is. in_flight-stays D (entries.End e) t task group.limit refl (λ i. refl) (k.limited t task goal group has one) is;
-  insts = well.insts;
-  open_calls = λ n is. OpenCall-end ms D L e p n k.open_calls is;
-  orderly = k.orderly;
-  belong = k.belong;
-  made = well.made;
-  present = well.present;
-}
+      calls = λ n b is. CallFacts-stays D (entries.End e) n b refl refl (k.calls n b) is;
+      tasks = λ t task is. TaskNumber-stays D (entries.End e) t task refl refl (k.tasks t task) is;
+      goals = λ t task goal has is. GoalFacts-stays D (entries.End e) t task goal refl (λ dep. refl) (k.goals t task goal has) is;
+      begun = λ t i is. IsBegun-stays D (entries.End e) t i refl refl (k.begun t i) is;
+      limited = λ t task goal group has one is. in_flight-stays D (entries.End e) t task group.limit refl (λ i. refl) (k.limited t task goal group has one) is;
+      insts = well.insts;
+      open_calls = λ n is. OpenCall-end ms D L e p n k.open_calls is;
+      orderly = k.orderly;
+      belong = k.belong;
+      made = well.made;
+      present = well.present;
+    }
 
 -- ---- an update begins, or is done, or a task is done
 
@@ -233,18 +233,18 @@ with_effect : (ms : List Move) (D L : List Entry) (d : did.Did) → did_of ms d.
 with_effect ms D L d fresh took o answer k =
     let c : Creates (effect_of o.call o.inst) o.inst o.make = Creates-effect o.call o.inst o.make o.owner o.creates in
     let now : (x : OpenCall ms D L d.n) → IsAnswered (L ++ Effect (effect_of o.call o.inst) ∷ []) x.inst d.n d = λ x. answers ms D L d k o.call o.inst o.make c o.began took answer x (same_inst_of ms D L d.n o x) in record {
-  calls = k.calls;
-  tasks = k.tasks;
-  goals = k.goals;
-  begun = k.begun;
-  limited = k.limited;
-  insts = k.insts;
-  open_calls = λ n is. OpenCall-did ms D L (L ++ Effect (effect_of o.call o.inst) ∷ []) d n (λ i m v made. IsMade-more L (effect_of o.call o.inst) o.inst o.make c i m v made) (λ x same. (subst (λ m. (y : OpenCall ms D L m) → IsAnswered (L ++ Effect (effect_of o.call o.inst) ∷ []) y.inst m d) same now) x) (k.open_calls n) is;
-  orderly = IsOrderly-more L (effect_of o.call o.inst) o.inst o.make c k.orderly;
-  belong = belong-more L (effect_of o.call o.inst) o.inst o.make c k.orderly k.belong;
-  made = λ i. made-with ms D L d o fresh took k.orderly i (k.insts i) (k.made i);
-  present = λ i vm is. IsMade-more L (effect_of o.call o.inst) o.inst o.make c i vm.agent vm.vm (k.present i vm is);
-}
+      calls = k.calls;
+      tasks = k.tasks;
+      goals = k.goals;
+      begun = k.begun;
+      limited = k.limited;
+      insts = k.insts;
+      open_calls = λ n is. OpenCall-did ms D L (L ++ Effect (effect_of o.call o.inst) ∷ []) d n (λ i m v made. IsMade-more L (effect_of o.call o.inst) o.inst o.make c i m v made) (λ x same. (subst (λ m. (y : OpenCall ms D L m) → IsAnswered (L ++ Effect (effect_of o.call o.inst) ∷ []) y.inst m d) same now) x) (k.open_calls n) is;
+      orderly = IsOrderly-more L (effect_of o.call o.inst) o.inst o.make c k.orderly;
+      belong = belong-more L (effect_of o.call o.inst) o.inst o.make c k.orderly k.belong;
+      made = λ i. made-with ms D L d o fresh took k.orderly i (k.insts i) (k.made i);
+      present = λ i vm is. IsMade-more L (effect_of o.call o.inst) o.inst o.make c i vm.agent vm.vm (k.present i vm is);
+    }
 
 -- the step rule at an open call
 step_of : (ms : List Move) (D L : List Entry) (d : did.Did) (o : OpenCall ms D L d.n) (call : begin.Begin) → begin_of D d.n ≡ Some call → CallStep built L call.call d.effect d.answer → ((d.answer ≡ Cid (vms_created L + 1)) × (d.effect ≡ true)) ⊎ (d.answer ≡ Failed)

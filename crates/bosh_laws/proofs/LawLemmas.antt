@@ -1,10 +1,7 @@
 -- The laws of permitted histories.
-use Rattle.std.proofs.Common.{◌≡◌, ℕ, ◌≤◌, List, []}
+use Rattle.std.proofs.Common.{ℕ, List, []}
 use Rattle.bosh_base.specs.declared.entry.Entry.TheVariants as entries
-use Rattle.bosh_base.specs.declared.goal.Goal.{Goal}
-use Rattle.bosh_base.specs.declared.goal.GroupPlan.{GroupPlan}
 use Rattle.bosh_base.specs.declared.inst.Inst.{Inst}
-use Rattle.bosh_base.specs.declared.entry.TaskOpen as task_open
 use Rattle.bosh_base.specs.declared.moves.Move.{Move}
 use Rattle.bosh_base.specs.declared.moves.Move.TheVariants.{Note}
 use Rattle.bosh_base.specs.History.{EachAfter}
@@ -13,10 +10,9 @@ use Rattle.bosh_history.specs.Exactness.{LeavesGoal, LeavesGoals}
 use Rattle.bosh_history.specs.Moves.{durable, nothing}
 use Rattle.bosh_history.specs.Permitted.{IsPermitted, IsRun}
 use Rattle.bosh_history.specs.Safety.{IsSafe, IsWithinLimit, BeginsBeforeFailure, EndsWithoutCalls}
-use Rattle.bosh_history.specs.Ties.{IsMachineOf, IsTied, AreTied}
+use Rattle.bosh_history.specs.Ties.{IsMachineOf, AreTied}
 use Rattle.bosh_laws.proofs.CallLemmas.{IsMade}
 use Rattle.bosh_laws.proofs.ExactLemmas.{exactly_its_goal, no_open_call}
-use Rattle.bosh_laws.proofs.KeptLemmas.{Kept}
 use Rattle.bosh_laws.proofs.RunLemmas.{HangsTogether, at_the_end, at_each_move, at_each_moment}
 
 -- ---- safety
@@ -42,10 +38,10 @@ IsMachineOf-made ms i made = record { there = made.there; creation = made.creati
 pub AreTied-run : (ms : List Move) → IsRun nothing ms → AreTied nothing ms
 AreTied-run ms run i =
     let k : HangsTogether ms = at_the_end ms run in record {
-  made = k.made i;
-  machine = λ vm is. IsMachineOf-made ms i (k.present i vm is);
-  no_doubt = λ vm is. (k.insts i).no_doubt vm is;
-}
+      made = k.made i;
+      machine = λ vm is. IsMachineOf-made ms i (k.present i vm is);
+      no_doubt = λ vm is. (k.insts i).no_doubt vm is;
+    }
 
 -- ---- ends of tasks
 

@@ -1,5 +1,5 @@
 -- How many instances are in flight.
-use Rattle.std.proofs.Common.{◌≡◌, ℕ, ◌+◌, ◌<◌, ◌≤◌, Bool, true, false, Option, Some, None, List, [], ◌∷◌, ◌++◌, refl, sym, ◌∙◌, ap, subst, arith, inl, inr}
+use Rattle.std.proofs.Common.{◌≡◌, ℕ, ◌+◌, ◌<◌, ◌≤◌, Bool, Some, None, List, [], ◌∷◌, refl, sym, ◌∙◌, ap, subst, arith, inl, inr}
 use Rattle.std.specs.Prelude.{◌≢◌, ◌⊎◌, if◌then◌else◌, count_by, map}
 use Rattle.std.proofs.Math.Path.{fun_ext}
 use Rattle.std.proofs.lemmas.Bool.Decides.{eqb_tells}
@@ -12,13 +12,12 @@ use Rattle.bosh_base.specs.declared.entry.Entry.TheVariants as entries
 use Rattle.bosh_base.specs.declared.goal.Goal.{Goal}
 use Rattle.bosh_base.specs.declared.goal.GroupPlan.{GroupPlan}
 use Rattle.bosh_base.specs.declared.inst.Inst.{Inst}
-use Rattle.bosh_history.specs.Goals.{instances}
-use Rattle.bosh_history.specs.Permitted.{Opens, BeginsUpdate}
+use Rattle.bosh_history.specs.Permitted.{BeginsUpdate}
 use Rattle.bosh_history.specs.Records.{opens, opening_of, updates, update_of}
 use Rattle.bosh_history.specs.Same.{same_inst}
 use Rattle.bosh_roll.specs.Upd.{is_busy}
 use Rattle.bosh_roll.specs.declared.upd.Upd.{Upd}
-use Rattle.bosh_roll.specs.declared.upd.Upd.TheVariants.{Todo, Busy, Finished}
+use Rattle.bosh_roll.specs.declared.upd.Upd.TheVariants.{Todo, Busy}
 use Rattle.bosh_laws.proofs.QuestionLemmas.{more, update_of-stays, opening_of-stays}
 use Rattle.bosh_laws.proofs.SameLemmas.{same_inst_tells}
 use Rattle.bosh_laws.proofs.TaskLemmas.{TaskNumber, GoalFacts}

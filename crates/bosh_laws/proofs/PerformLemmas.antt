@@ -1,9 +1,8 @@
 -- A call that is open is performed: it fails, or makes the machine that it answers.
-use Rattle.std.proofs.Common.{◌≡◌, ℕ, ◌+◌, ◌<◌, ◌≤◌, Bool, true, false, Option, Some, None, List, [], ◌∷◌, ◌++◌, refl, sym, ◌∙◌, ap, subst, arith, inl, inr, ⊎_elim, append-nil}
-use Rattle.std.specs.Prelude.{◌≢◌, ◌⊎◌, All}
-use Rattle.bosh_base.specs.Call.{method_of}
-use Rattle.bosh_base.specs.CallStep.{CallStep, answer_of, takes_effect}
-use Rattle.bosh_base.specs.Cloud.{vms_created, machines}
+use Rattle.std.proofs.Common.{◌≡◌, ℕ, ◌+◌, Bool, true, false, Some, List, [], ◌∷◌, refl, ◌∙◌, ap, inl, inr}
+use Rattle.std.specs.Prelude.{◌⊎◌}
+use Rattle.bosh_base.specs.CallStep.{CallStep}
+use Rattle.bosh_base.specs.Cloud.{vms_created}
 use Rattle.bosh_base.specs.declared.answer.Answer.TheVariants.{Cid, Failed}
 use Rattle.bosh_base.specs.declared.call.Call.TheVariants.{CreateVm}
 use Rattle.bosh_base.specs.declared.digest.Digest.{Digest}
@@ -14,17 +13,11 @@ use Rattle.bosh_base.specs.declared.entry.Entry.TheVariants.{Effect}
 use Rattle.bosh_base.specs.declared.inst.Inst.{Inst}
 use Rattle.bosh_base.specs.declared.key.KeyWork.{KeyWork}
 use Rattle.bosh_base.specs.declared.make.Make.{Make}
-use Rattle.bosh_base.specs.declared.moves.Did as did
-use Rattle.bosh_base.specs.declared.moves.Move.{Move}
-use Rattle.bosh_base.specs.declared.moves.Move.TheVariants.{Did}
 use Rattle.bosh_base.specs.declared.owner.Owner.TheVariants.{Instance}
-use Rattle.bosh_cloud.specs.Orderly.{IsOrderly}
 use Rattle.bosh_history.specs.Effects.{effect_by, effect_of_call}
-use Rattle.bosh_history.specs.Exactness.{HasInstance}
 use Rattle.bosh_history.specs.Records.{begin_of}
 use Rattle.bosh_history.specs.Same.{instance_of}
-use Rattle.bosh_laws.proofs.CallLemmas.{OpenCall, IsMade, IsMachine, IsAnswered}
-use Rattle.bosh_laws.proofs.EffectLemmas.{Creates, IsMade-more, IsMade-new, IsOrderly-more, belong-more}
+use Rattle.bosh_laws.proofs.EffectLemmas.{Creates}
 
 -- what the step rule says of a creation
 abbrev pub built : KeyWork → List Digest → Digest

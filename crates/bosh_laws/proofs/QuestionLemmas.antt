@@ -1,7 +1,6 @@
 -- What each entry changes of what the director knows of its instances, and of the calls.
-use Rattle.std.proofs.Common.{◌≡◌, ℕ, ◌+◌, ◌≤◌, Bool, true, false, Option, Some, None, List, [], ◌∷◌, ◌++◌, refl, sym, ◌∙◌, ap, subst, arith, add-one}
+use Rattle.std.proofs.Common.{◌≡◌, ℕ, Option, Some, None, List, [], ◌∷◌, ◌++◌, refl, ◌∙◌, ap, arith}
 use Rattle.std.specs.Prelude.{◌≢◌, ◌⊎◌}
-use Rattle.std.proofs.lemmas.Bool.Decides.{eqb_tells}
 use Rattle.bosh_base.proofs.HistoryLemmas.{latest_last, latest_seen_last}
 use Rattle.bosh_base.specs.declared.answer.Answer.TheVariants.{Cid, Failed}
 use Rattle.bosh_base.specs.declared.call.Call.TheVariants.{CreateVm}
@@ -13,7 +12,6 @@ use Rattle.bosh_base.specs.declared.inst.Inst.{Inst}
 use Rattle.bosh_base.specs.declared.make.Make.{Make}
 use Rattle.bosh_base.specs.declared.moves.Move.{Move}
 use Rattle.bosh_base.specs.declared.owner.Owner.TheVariants.{Instance}
-use Rattle.bosh_base.specs.declared.row.Vm.{Vm}
 use Rattle.bosh_roll.specs.declared.upd.Upd.TheVariants.{Todo}
 use Rattle.bosh_base.specs.History.{chosen}
 use Rattle.bosh_history.specs.Moves.{performs, did_of}

@@ -1,10 +1,8 @@
 -- A permitted history hangs together at every moment.
-use Rattle.std.proofs.Common.{◌≡◌, ℕ, ◌+◌, ◌<◌, ◌≤◌, Bool, true, false, Option, Some, None, List, [], ◌∷◌, ◌++◌, refl, sym, ◌∙◌, ap, subst, arith, inl, inr, append-nil, append_assoc}
-use Rattle.std.specs.Prelude.{◌≢◌, ◌⊎◌, All}
+use Rattle.std.proofs.Common.{◌≡◌, List, [], ◌∷◌, ◌++◌, refl, sym, ◌∙◌, ap, subst, append-nil, append_assoc}
 use Rattle.std.specs.List.{filter_map}
 use Rattle.std.proofs.lemmas.List.Elements.{filter_map-append, All-nil}
 use Rattle.bosh_base.proofs.HistoryLemmas.{kept_along, always_along}
-use Rattle.bosh_base.specs.Cloud.{machines}
 use Rattle.bosh_base.specs.History.{EachAfter, Always, AlwaysFrom}
 use Rattle.bosh_base.specs.declared.entry.Entry.{Entry}
 use Rattle.bosh_base.specs.declared.entry.Entry.TheVariants as entries
@@ -44,13 +42,13 @@ HangsTogether ms = Kept ms (durable nothing ms) (effects_of nothing ms)
 after_note : (ms : List Move) (e : Entry) → Kept (ms ++ Note e ∷ []) (durable nothing ms ++ e ∷ []) (effects_of nothing ms) → HangsTogether (ms ++ Note e ∷ [])
 after_note ms e k =
     subst (λ D. Kept (ms ++ Note e ∷ []) D (effects_of nothing (ms ++ Note e ∷ []))) (sym (durable_last ms (Note e)))
-        (subst (Kept (ms ++ Note e ∷ []) (durable nothing ms ++ e ∷ [])) (sym (effects_last ms (Note e) ∙ append-nil (effects_of nothing ms))) k)
+    (subst (Kept (ms ++ Note e ∷ []) (durable nothing ms ++ e ∷ [])) (sym (effects_last ms (Note e) ∙ append-nil (effects_of nothing ms))) k)
 
 -- no entry
 after_move : (ms : List Move) (move : Move) → filter_map noted (move ∷ []) ≡ [] → Kept (ms ++ move ∷ []) (durable nothing ms) (effects_of nothing ms ++ effect_added nothing ms move) → HangsTogether (ms ++ move ∷ [])
 after_move ms move none k =
     subst (λ D. Kept (ms ++ move ∷ []) D (effects_of nothing (ms ++ move ∷ []))) (sym (durable_last ms move ∙ ap (λ last. durable nothing ms ++ last) none ∙ append-nil (durable nothing ms)))
-        (subst (Kept (ms ++ move ∷ []) (durable nothing ms)) (sym (effects_last ms move)) k)
+    (subst (Kept (ms ++ move ∷ []) (durable nothing ms)) (sym (effects_last ms move)) k)
 
 after_note_of : (ms : List Move) (e : Entry) → MayNote nothing ms e → HangsTogether ms → Kept (ms ++ Note e ∷ []) (durable nothing ms ++ e ∷ []) (effects_of nothing ms)
 after_note_of ms (entries.TaskOpen task) may k = Kept-open ms (durable nothing ms) (effects_of nothing ms) task may k

@@ -1,14 +1,12 @@
 -- Which instances and owners are the same.
-use Rattle.std.proofs.Common.{◌≡◌, ℕ, List, Bool, true, false, refl, sym, ◌∙◌, ap, subst, arith, rules}
+use Rattle.std.proofs.Common.{◌≡◌, ℕ, List, true, false, arith, rules}
 use Rattle.std.specs.Prelude.{◌≢◌, ◌⊎◌, ◌==◌}
 use Rattle.std.specs.Bool.{Decides}
 use Rattle.std.specs.Str.{bytes_eq}
 use Rattle.std.proofs.lemmas.Bool.Decides.{Decides-eqb}
 use Rattle.bosh_base.specs.Exact.{Decides-list}
 use Rattle.bosh_base.specs.declared.inst.Inst.{Inst}
-use Rattle.bosh_base.specs.declared.owner.Owner.{Owner}
-use Rattle.bosh_base.specs.declared.owner.Owner.TheVariants.{Instance}
-use Rattle.bosh_history.specs.Same.{same_inst, is_of}
+use Rattle.bosh_history.specs.Same.{same_inst}
 
 pub name_tells : (a b : List ℕ) → ((bytes_eq a b ≡ true) × (a ≡ b)) ⊎ ((bytes_eq a b ≡ false) × (a ≢ b))
 name_tells a b = let d : Decides (bytes_eq a b) (a ≡ b) = Decides-list Decides-eqb a b in grind (arith)

@@ -1,26 +1,20 @@
 -- Tasks: how each was opened, and how far it has come with its instances.
-use Rattle.std.proofs.Common.{◌≡◌, ℕ, ◌+◌, ◌≤◌, Bool, true, false, Option, Some, None, List, [], ◌∷◌, ◌++◌, refl, sym, ◌∙◌, ap, subst, arith, inl, inr}
-use Rattle.std.specs.Prelude.{◌≢◌, ◌⊎◌, slice_get, count_by, map}
-use Rattle.std.specs.Str.{bytes_eq}
+use Rattle.std.proofs.Common.{◌≡◌, ℕ, ◌≤◌, false, Some, None, List, [], ◌∷◌, ◌++◌, refl, sym, ◌∙◌, ap, arith, inl, inr}
+use Rattle.std.specs.Prelude.{◌≢◌, ◌⊎◌, slice_get, count_by}
 use Rattle.std.proofs.lemmas.Bool.Decides.{eqb_tells}
 use Rattle.std.proofs.lemmas.List.Sums.{sum_by-append}
-use Rattle.bosh_base.proofs.HistoryLemmas.{latest_last, latest_seen_last}
-use Rattle.bosh_base.specs.Cloud.{when}
-use Rattle.bosh_base.specs.History.{chosen}
-use Rattle.bosh_base.specs.declared.entry.Begin as begin
-use Rattle.bosh_base.specs.declared.entry.End as end
+use Rattle.bosh_base.proofs.HistoryLemmas.{latest_last}
 use Rattle.bosh_base.specs.declared.entry.TaskOpen as task_open
 use Rattle.bosh_base.specs.declared.entry.Update as update
 use Rattle.bosh_base.specs.declared.entry.Entry.{Entry}
 use Rattle.bosh_base.specs.declared.entry.Entry.TheVariants as entries
 use Rattle.bosh_base.specs.declared.goal.Goal.{Goal}
-use Rattle.bosh_base.specs.declared.goal.GroupPlan.{GroupPlan}
 use Rattle.bosh_base.specs.declared.inst.Inst.{Inst}
-use Rattle.bosh_history.specs.Goals.{IsSound, instances}
-use Rattle.bosh_history.specs.Permitted.{Begins, Opens, BeginsUpdate, EndsUpdate, EndsTask}
-use Rattle.bosh_history.specs.Records.{last_call, begin_of, tasks_opened, opens_task, opens, opening_of, updates, update_of, goal_set, goal_of, vm_of}
+use Rattle.bosh_history.specs.Goals.{instances}
+use Rattle.bosh_history.specs.Permitted.{Opens, BeginsUpdate}
+use Rattle.bosh_history.specs.Records.{tasks_opened, opens_task, opens, opening_of, updates, update_of, goal_set, goal_of}
 use Rattle.bosh_history.specs.Same.{same_inst}
-use Rattle.bosh_roll.specs.declared.upd.Upd.TheVariants.{Todo, Busy, Finished}
+use Rattle.bosh_roll.specs.declared.upd.Upd.TheVariants.{Busy}
 use Rattle.bosh_laws.proofs.QuestionLemmas.{more, update_of-stays, opening_of-stays, goal_of-stays}
 use Rattle.bosh_laws.proofs.SameLemmas.{same_inst_tells, name_tells}
 
@@ -48,8 +42,8 @@ goal_of-open D o p dep = grind (arith, latest_last, name_tells dep p.goal.dep, p
 pub GoalFacts-open : (D : List Entry) (o : task_open.TaskOpen) → (p : Opens D o) → (t : ℕ) (task : task_open.TaskOpen) (goal : Goal) → task.goal ≡ Some goal → (opening_of D t ≡ Some task → GoalFacts D task goal) → opening_of (D ++ entries.TaskOpen o ∷ []) t ≡ Some task → GoalFacts (D ++ entries.TaskOpen o ∷ []) task goal
 GoalFacts-open D o p t task goal has k is = record {
   distinct = λ i.
-    let earlier : opening_of D t ≡ Some task → count_by (same_inst i) (instances goal) ≤ 1 = λ was. (k was).distinct i in
-    grind (arith, latest_last, eqb_tells o.task t, earlier, p.has_goal, p.is_sound.distinct i);
+      let earlier : opening_of D t ≡ Some task → count_by (same_inst i) (instances goal) ≤ 1 = λ was. (k was).distinct i in
+      grind (arith, latest_last, eqb_tells o.task t, earlier, p.has_goal, p.is_sound.distinct i);
   changes_all = grind (arith, latest_last, eqb_tells o.task t, k, p.has_goal, p.changes_all);
   is_current = grind (arith, latest_last, eqb_tells o.task t, k, p.has_goal, p.is_new, goal_of-open D o p goal.dep);
 }

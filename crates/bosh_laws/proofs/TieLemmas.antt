@@ -1,9 +1,9 @@
 -- What is recorded of an instance is what the cloud has of it.
-use Rattle.std.proofs.Common.{◌≡◌, ℕ, ◌+◌, ◌<◌, ◌≤◌, Bool, true, false, Option, Some, None, List, [], ◌∷◌, ◌++◌, refl, sym, ◌∙◌, ap, subst, arith, inl, inr, ⊎_elim}
+use Rattle.std.proofs.Common.{◌≡◌, ℕ, Bool, true, false, Option, Some, None, List, [], ◌∷◌, ◌++◌, refl, sym, ◌∙◌, ap, subst, arith, inl, inr, ⊎_elim}
 use Rattle.std.specs.Prelude.{◌≢◌, ◌⊎◌, ◌||◌, if◌then◌else◌, is_some}
 use Rattle.std.specs.Option.{option_to_list}
 use Rattle.std.proofs.lemmas.Bool.Decides.{eqb_tells}
-use Rattle.bosh_base.proofs.HistoryLemmas.{latest_last, latest_seen_last}
+use Rattle.bosh_base.proofs.HistoryLemmas.{latest_last}
 use Rattle.bosh_base.specs.Cloud.{machines}
 use Rattle.bosh_base.specs.declared.answer.Answer.TheVariants.{Cid, Failed}
 use Rattle.bosh_base.specs.declared.entry.Begin as begin
@@ -24,10 +24,9 @@ use Rattle.bosh_history.specs.Moves.{did_of, performs}
 use Rattle.bosh_history.specs.Permitted.{Begins}
 use Rattle.bosh_history.specs.Records.{begin_of, made_from, make_of, vm_told, vm_of, doubt_told, doubt_of}
 use Rattle.bosh_history.specs.Ties.{had_effect, doubt_took, makes_recorded}
-use Rattle.bosh_laws.proofs.CallLemmas.{noting, OpenCall, IsMade, IsMachine, Ended-open}
-use Rattle.bosh_laws.proofs.EffectLemmas.{Creates, makes_of-more}
+use Rattle.bosh_laws.proofs.CallLemmas.{noting, OpenCall, IsMade, Ended-open}
+use Rattle.bosh_laws.proofs.EffectLemmas.{makes_of-more}
 use Rattle.bosh_laws.proofs.InstLemmas.{InstFacts, caller, same_or_other}
-use Rattle.bosh_laws.proofs.NumberLemmas.{CallFacts}
 use Rattle.bosh_laws.proofs.PerformLemmas.{effect_of, Creates-effect}
 use Rattle.bosh_laws.proofs.QuestionLemmas.{more, none_of, make_of-stays, vm_of-stays, doubt_of-stays, did_of-stays, make_of-begin, doubt_of-begin, vm_of-begin, Ended, vm_of-failed, doubt_of-failed, vm_of-created, doubt_of-created}
 
@@ -162,6 +161,7 @@ did_other ms D d inst whose i n other is = did_of-other ms d n (λ same. other (
   where
     owners : {i j : Inst} → Some (Instance i) ≡ Some (Instance j) → i ≡ j
     owners is = cc
+
     did_of-other : (ms : List Move) (d : did.Did) (n : ℕ) → d.n ≢ n → did_of (ms ++ Did d ∷ []) n ≡ did_of ms n
     did_of-other ms d n other = grind (arith, latest_last, eqb_tells d.n n)
 
