@@ -1,6 +1,7 @@
 pub mod CallLemmas
 pub mod EffectLemmas
 pub mod ExactLemmas
+pub mod ExampleLemmas
 pub mod InstLemmas
 pub mod KeptLemmas
 pub mod LawLemmas
