@@ -1,0 +1,15 @@
+pub mod CallLemmas
+pub mod EffectLemmas
+pub mod ExactLemmas
+pub mod ExampleLemmas
+pub mod InstLemmas
+pub mod KeptLemmas
+pub mod LawLemmas
+pub mod LimitLemmas
+pub mod NumberLemmas
+pub mod PerformLemmas
+pub mod QuestionLemmas
+pub mod RunLemmas
+pub mod SameLemmas
+pub mod TaskLemmas
+pub mod TieLemmas
