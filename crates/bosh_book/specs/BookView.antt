@@ -1,5 +1,6 @@
 -- What contracts see of the book, and what it keeps true.
-use Rattle.std.specs.Prelude.{◌≡◌, ◌≢◌, ℕ, ◌≤◌, Bool, false, Some, None, List, [], Contains, All}
+use Rattle.std.specs.Prelude.{◌≡◌, ◌≢◌, ℕ, ◌≤◌, ◌==◌, Bool, true, false, Some, None, List, [], All}
+use Rattle.std.specs.List.{list_any}
 use Rattle.bosh_base.specs.declared.call.Call.{Call}
 use Rattle.bosh_base.specs.declared.call.Call.TheVariants.{CreateVm}
 use Rattle.bosh_base.specs.declared.entry.Begin as begin
@@ -27,6 +28,10 @@ pub record PermitView : Type 0 where
   pub dep : List ℕ
   pub call : Call
 
+-- call n is among them
+abbrev pub has_call : List ℕ → ℕ → Bool
+has_call calls n = list_any (λ m. m == n) calls
+
 -- call n began, and makes a machine of an instance, which has no other call in doubt
 pub record IsOpenCall (entries : List Entry) (n : ℕ) : Type 0 where
   pub begin : begin.Begin
@@ -39,10 +44,17 @@ pub record IsOpenCall (entries : List Entry) (n : ℕ) : Type 0 where
   pub in_doubt : doubt_of entries inst ≡ Some n
   pub is_begun : n ≤ last_call entries
 
+-- call n of an instance is open
+pub record IsOwnCall (entries : List Entry) (calls : List ℕ) (i : Inst) (n : ℕ) : Type 0 where
+  pub is_open : has_call calls n ≡ true
+  pub begin : begin.Begin
+  pub began : begin_of entries n ≡ Some begin
+  pub owner : begin.owner ≡ Instance i
+
 -- the open calls are those in doubt, none has failed, and what a task changes is wanted by a goal
 pub record AreOpenCalls (entries : List Entry) (calls : List ℕ) : Type 0 where
-  pub each : (n : ℕ) → Contains calls n → IsOpenCall entries n
-  pub doubts : (i : Inst) (n : ℕ) → doubt_of entries i ≡ Some n → Contains calls n
+  pub each : (n : ℕ) → has_call calls n ≡ true → IsOpenCall entries n
+  pub doubts : (i : Inst) (n : ℕ) → doubt_of entries i ≡ Some n → IsOwnCall entries calls i n
   pub none_failed : (t : ℕ) → has_failed entries t ≡ false
   pub wants : (t : ℕ) (task : task_open.TaskOpen) → opening_of entries t ≡ Some task → All (λ i. want_of entries i ≢ None) task.changed
 
@@ -61,7 +73,7 @@ pub record IsFor (begun : begin.Begin) (permit : PermitView) : Type 0 where
 
 -- a permit is current where its call is open in this book
 pub record IsCurrent {K : Type 0} (book : BookView K) (permit : PermitView) : Type 0 where
-  pub is_open : Contains book.calls permit.n
+  pub is_open : has_call book.calls permit.n ≡ true
   pub begun : begin.Begin
   pub began : begin_of book.entries permit.n ≡ Some begun
   pub is_for : IsFor begun permit
