@@ -1,0 +1,4 @@
+pub mod InstLemmas
+pub mod KnownLemmas
+pub mod TaskLemmas
+pub mod ScanLemmas
