@@ -4,7 +4,7 @@ use Rattle.std.specs.Prelude.{not, ◌&&◌, if◌then◌else◌, All, Any, IsTr
 use Rattle.std.specs.Option.{option_or, option_and_then}
 use Rattle.std.proofs.lemmas.Bool.{false≢true}
 use Rattle.std.proofs.lemmas.List.Elements.{All-weaker, All-map, All-push, All-get_or}
-use Rattle.std.proofs.lemmas.List.{length-map, get_or-map}
+use Rattle.std.proofs.lemmas.List.{length-map, get_or-map, get_or_append_left, length_push}
 use Rattle.bosh_base.specs.Cloud.{when}
 use Rattle.bosh_base.specs.History.{chosen, latest_seen}
 use Rattle.bosh_base.specs.declared.answer.Answer.TheVariants.{Cid}
@@ -74,6 +74,20 @@ other_inst i j table present other =
     let row : Known = present.1 in
     let is : i ≡ row.inst = (same_inst-Decides i row.inst).0 present.4 in
     subst (λ inst. same_inst j inst ≡ false) (sym is) (subst (λ x. same_inst j x.inst ≡ false) present.3 (other present.0 row present.2))
+
+-- one more row, of an instance of which nothing is known
+abbrev pub unknown : Inst → Known
+unknown i = record { inst = i; vm = None; doubt = None }
+
+pub AreKnown-unknown : (entries : List Entry) (i : Inst) (table : List Known) → All (λ known. same_inst i known.inst ≡ false) table → AreKnown entries table → AreKnown entries (table ++ unknown i ∷ [])
+AreKnown-unknown entries i table absent known = record {
+  each = All-push (IsKnown entries) table (unknown i) known.each (record {
+    machine = sym (known.others i absent).no_machine;
+    in_doubt = sym (known.others i absent).no_doubt;
+  });
+  others = λ j other. known.others j (λ k d within.
+    subst (λ row. same_inst j row.inst ≡ false) (get_or_append_left table (unknown i ∷ []) d k within) (other k d (omega (arith, length_push table (unknown i)))));
+}
 
 -- a call began: it is the instance's or it is not
 begins_of : (i j : Inst) (b : begin.Begin) (same : Bool) → b.owner ≡ Instance i → leaves_doubt b.call ≡ true → same_inst j i ≡ same → (is_of j b.owner && leaves_doubt b.call) ≡ same

@@ -1,12 +1,12 @@
 -- What the entries tell of tasks, as the records keep it.
 use Prim.Native.Nat.{zero, suc}
-use Rattle.std.proofs.Common.{◌≡◌, ℕ, ◌+◌, ◌-◌, ◌<◌, ◌≤◌, Bool, true, false, Option, Some, None, List, [], ◌∷◌, ◌++◌, map, length, set, arith, refl, sym, ap, ◌∙◌, subst, inl, inr}
+use Rattle.std.proofs.Common.{◌≡◌, ℕ, ◌+◌, ◌-◌, ◌<◌, ◌≤◌, Bool, true, false, Option, Some, None, List, [], ◌∷◌, ◌++◌, map, length, set, get_or, arith, refl, sym, ap, ◌∙◌, subst, inl, inr}
 use Rattle.std.specs.Prelude.{◌≢◌, ◌&&◌, ◌==◌, ◌⊎◌, if◌then◌else◌, slice_get, count_by}
 use Rattle.std.proofs.Math.Path.{fun_ext}
 use Rattle.std.proofs.lemmas.Bool.{false≢true, eq-eqb, ne_eqb, cases_eq}
 use Rattle.std.proofs.lemmas.List.{length-set, length_push}
 use Rattle.std.proofs.lemmas.List.Sums.{sum_by_push}
-use Rattle.std.proofs.lemmas.Option.{slice_get_within}
+use Rattle.std.proofs.lemmas.Option.{slice_get_within, slice_get_read}
 use Rattle.bosh_base.specs.Cloud.{when}
 use Rattle.bosh_base.specs.History.{chosen, latest}
 use Rattle.bosh_base.specs.declared.entry.Entry.{Entry}
@@ -219,3 +219,85 @@ update_of-set entries x u state i same sets is =
     let it : is_of_inst u.task i u ≡ same = (λ k. eq-eqb u.task u.task refl k && same_inst-sym i u.inst k) ∙ is in
     latest_last (updates u.task i) Todo entries x ∙ ap (λ told. chosen told (update_of entries u.task i)) (sets u.task i ∙ ap (λ test. when test state) it)
     ∙ elim same as (λ test. chosen (when test state) (update_of entries u.task i) ≡ (if test then state else update_of entries u.task i)) [ true ↦ refl | false ↦ refl ]
+
+IsProgress-marked : (entries : List Entry) (x : Entry) (u : update.Update) (state : Upd) (states : List Upd) (progress : Progress) → opens u.task x ≡ None → opens_or_ends u.task x ≡ None → sets_state x u state → (p : IsProgress entries u.task progress)
+    → states ≡ map (set_state u.inst state (update_of entries u.task)) p.task.changed → IsProgress (entries ++ x ∷ []) u.task (record progress { roll = record progress.roll { states = states } })
+IsProgress-marked entries x u state states progress no_opening no_end sets p is =
+    let now : update_of (entries ++ x ∷ []) p.task.task ≡ set_state u.inst state (update_of entries u.task) =
+    ap (update_of (entries ++ x ∷ [])) p.number ∙ fun_ext (λ i. update_of-set entries x u state i (same_inst u.inst i) sets refl) in
+    let rolls : record progress.roll { states = states } ≡ roll_of (entries ++ x ∷ []) p.task p.group = λ k. record {
+      canaries = (p.roll k).canaries;
+      limit = (p.roll k).limit;
+      states = (is ∙ ap (λ each. map each p.task.changed) (sym now)) k;
+    } in
+    record {
+      task = p.task;
+      stands = slice_get-append entries (x ∷ []) progress.opened_at (TaskOpen p.task) p.stands;
+      number = p.number;
+      opened = opening_of-kept entries x u.task no_opening ∙ p.opened;
+      goal = p.goal;
+      has_goal = p.has_goal;
+      group = p.group;
+      one_group = p.one_group;
+      roll = rolls;
+      openness = p.openness ∙ sym (is_task_open-kept entries x u.task no_end);
+    }
+
+-- other tasks do not notice
+IsSilent-update : (x : Entry) (u : update.Update) (state : Upd) → ((t : ℕ) → opens t x ≡ None) → ((t : ℕ) → opens_or_ends t x ≡ None) → sets_state x u state → tells_others_nothing x u.task
+IsSilent-update x u state openings ends sets t other = record {
+  of_its_opening = openings t;
+  of_its_updates = λ i. sets t i ∙ ap (λ test. when (test && same_inst i u.inst) state) (ne_eqb u.task t (λ is. other (sym is)));
+  of_its_end = ends t;
+}
+
+-- the task at a place
+at_place : (entries : List Entry) (t : ℕ) (tasks : List Progress) (progress : Progress) → IsRecorded entries t → AreTasks entries tasks → progress ≡ get_or tasks (t - 1) progress → IsProgress entries t progress
+at_place entries t tasks progress recorded table is =
+    let stands : slice_get tasks (t - 1) ≡ Some progress = slice_get_read tasks (length tasks) (t - 1) progress refl (omega (arith, recorded.0, recorded.1, table.all)) is in
+    subst (λ n. IsProgress entries n progress) (omega (arith, recorded.0)) (table.each (t - 1) progress stands)
+
+pub AreTasks-marked : (entries : List Entry) (x : Entry) (u : update.Update) (state : Upd) (tasks : List Progress) (progress : Progress) (states : List Upd) → opens_task x ≡ false → ((t : ℕ) → opens t x ≡ None) → ((t : ℕ) → opens_or_ends t x ≡ None) → sets_state x u state
+    → IsRecorded entries u.task → progress ≡ get_or tasks (u.task - 1) progress
+    → ((task : task_open.TaskOpen) → opening_of entries u.task ≡ Some task → states ≡ map (set_state u.inst state (update_of entries u.task)) task.changed)
+    → AreTasks entries tasks → AreTasks (entries ++ x ∷ []) (set tasks (u.task - 1) (record progress { roll = record progress.roll { states = states } }))
+AreTasks-marked entries x u state tasks progress states no_opening openings ends sets recorded at marked table =
+    let p : IsProgress entries u.task progress = at_place entries u.task tasks progress recorded table at in
+    AreTasks-set entries x u.task tasks (record progress { roll = record progress.roll { states = states } }) no_opening (IsSilent-update x u state openings ends sets) recorded
+    (IsProgress-marked entries x u state states progress (openings u.task) (ends u.task) sets p (marked p.task p.opened)) table
+
+-- ---- a task is done
+
+IsSilent-end : (t other : ℕ) → other ≢ t → IsSilent (TaskDone t) other
+IsSilent-end t other is_other = record {
+  of_its_opening = refl;
+  of_its_updates = λ i. refl;
+  of_its_end = ap (λ test. when test false) (ne_eqb t other (λ is. is_other (sym is)));
+}
+
+IsProgress-ended : (entries : List Entry) (t : ℕ) (progress : Progress) → IsProgress entries t progress → IsProgress (entries ++ TaskDone t ∷ []) t (record progress { is_open = false })
+IsProgress-ended entries t progress p =
+    let x : Entry = TaskDone t in
+    let rolls : roll_of entries p.task p.group ≡ roll_of (entries ++ x ∷ []) p.task p.group = λ k. record {
+      canaries = p.group.canaries;
+      limit = p.group.limit;
+      states = map (sym (update_of-kept entries x p.task.task (λ i. refl)) k) p.task.changed;
+    } in
+    record {
+      task = p.task;
+      stands = slice_get-append entries (x ∷ []) progress.opened_at (TaskOpen p.task) p.stands;
+      number = p.number;
+      opened = opening_of-kept entries x t refl ∙ p.opened;
+      goal = p.goal;
+      has_goal = p.has_goal;
+      group = p.group;
+      one_group = p.one_group;
+      roll = p.roll ∙ rolls;
+      openness = sym (latest_last (opens_or_ends t) false entries x ∙ ap (λ test. chosen (when test false) (is_task_open entries t)) (eq-eqb t t refl));
+    }
+
+pub AreTasks-ended : (entries : List Entry) (t : ℕ) (tasks : List Progress) (progress : Progress) → IsRecorded entries t → progress ≡ get_or tasks (t - 1) progress
+    → AreTasks entries tasks → AreTasks (entries ++ TaskDone t ∷ []) (set tasks (t - 1) (record progress { is_open = false }))
+AreTasks-ended entries t tasks progress recorded at table =
+    AreTasks-set entries (TaskDone t) t tasks (record progress { is_open = false }) refl (IsSilent-end t) recorded
+    (IsProgress-ended entries t progress (at_place entries t tasks progress recorded table at)) table
