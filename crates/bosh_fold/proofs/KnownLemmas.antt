@@ -1,9 +1,9 @@
 -- What the entries tell of instances, as the records keep it.
 use Rattle.std.proofs.Common.{◌≡◌, ℕ, Bool, true, false, Option, Some, None, List, [], ◌∷◌, ◌++◌, map, length, get_or, arith, refl, sym, ap, ◌∙◌, subst}
-use Rattle.std.specs.Prelude.{not, ◌&&◌, if◌then◌else◌, All, Any, IsTrue}
+use Rattle.std.specs.Prelude.{not, ◌&&◌, if◌then◌else◌, All, Any, IsTrue, Contains}
 use Rattle.std.specs.Option.{option_or, option_and_then}
 use Rattle.std.proofs.lemmas.Bool.{false≢true}
-use Rattle.std.proofs.lemmas.List.Elements.{All-weaker, All-map, All-push, All-get_or}
+use Rattle.std.proofs.lemmas.List.Elements.{All-weaker, All-map, All-push, All-contains}
 use Rattle.std.proofs.lemmas.List.{length-map, get_or-map, get_or_append_left, length_push}
 use Rattle.bosh_base.specs.Cloud.{when}
 use Rattle.bosh_base.specs.History.{chosen, latest_seen}
@@ -178,3 +178,8 @@ AreKnown-answered entries e table ends present known =
     AreKnown-changed entries (End e) ends.inst (answered ends.inst (Some (vm_made ends))) table (answered-inst ends.inst (Some (vm_made ends)))
     (λ row k. IsKnown-answered entries e ends row (same_inst ends.inst row.inst) refl k)
     (λ j other. IsSilent-end entries e ends j other) present known
+
+-- ---- what was found in the table
+
+pub found_tells : (entries : List Entry) (i : Inst) (table : List Known) (known : Known) → AreKnown entries table → Contains table known → IsTrue (same_inst i known.inst) → IsKnown entries known × (known.inst ≡ i)
+found_tells entries i table known are_known stands is = (All-contains (IsKnown entries) table known are_known.each stands, sym ((same_inst-Decides i known.inst).0 is))

@@ -6,7 +6,7 @@ use Rattle.std.proofs.Math.Path.{fun_ext}
 use Rattle.std.proofs.lemmas.Bool.{false≢true, eq-eqb, ne_eqb, cases_eq}
 use Rattle.std.proofs.lemmas.List.{length-set, length_push}
 use Rattle.std.proofs.lemmas.List.Sums.{sum_by_push}
-use Rattle.std.proofs.lemmas.Option.{slice_get_within, slice_get_read}
+use Rattle.std.proofs.lemmas.Option.{slice_get_within, slice_get_read, same_Some}
 use Rattle.bosh_base.specs.Cloud.{when}
 use Rattle.bosh_base.specs.History.{chosen, latest}
 use Rattle.bosh_base.specs.declared.entry.Entry.{Entry}
@@ -121,6 +121,22 @@ AreTasks-silent entries x tasks no_opening openings states ends table =
 -- an entry that is about one task alone
 abbrev tells_others_nothing : Entry → ℕ → Type 0
 tells_others_nothing x t = (other : ℕ) → other ≢ t → IsSilent x other
+
+-- the task at a place
+pub at_place : (entries : List Entry) (t : ℕ) (tasks : List Progress) (progress : Progress) → IsRecorded entries t → AreTasks entries tasks → progress ≡ get_or tasks (t - 1) progress → IsProgress entries t progress
+at_place entries t tasks progress recorded table is =
+    let stands : slice_get tasks (t - 1) ≡ Some progress = slice_get_read tasks (length tasks) (t - 1) progress refl (omega (arith, recorded.0, recorded.1, table.all)) is in
+    subst (λ n. IsProgress entries n progress) (omega (arith, recorded.0)) (table.each (t - 1) progress stands)
+
+-- it is the one that the entries tell of
+pub the_opening : (entries : List Entry) (t : ℕ) (progress : Progress) (p : IsProgress entries t progress) (opened : task_open.TaskOpen) → opening_of entries t ≡ Some opened → p.task ≡ opened
+the_opening entries t progress p opened is = same_Some p.task opened (sym p.opened ∙ is)
+
+pub the_group : (entries : List Entry) (t : ℕ) (progress : Progress) (p : IsProgress entries t progress) (opened : task_open.TaskOpen) (goal : Goal) (group : GroupPlan) → opening_of entries t ≡ Some opened → opened.goal ≡ Some goal → goal.groups ≡ group ∷ [] → p.group ≡ group
+the_group entries t progress p opened goal group is has_goal one_group =
+    let same : p.goal ≡ goal = same_Some p.goal goal (sym p.has_goal ∙ ap (λ task. task.goal) (the_opening entries t progress p opened is) ∙ has_goal) in
+    let one : p.group ∷ [] ≡ group ∷ [] = sym p.one_group ∙ ap (λ g. g.groups) same ∙ one_group in
+    cc
 
 -- ---- a task is opened
 
@@ -250,12 +266,6 @@ IsSilent-update x u state openings ends sets t other = record {
   of_its_updates = λ i. sets t i ∙ ap (λ test. when (test && same_inst i u.inst) state) (ne_eqb u.task t (λ is. other (sym is)));
   of_its_end = ends t;
 }
-
--- the task at a place
-at_place : (entries : List Entry) (t : ℕ) (tasks : List Progress) (progress : Progress) → IsRecorded entries t → AreTasks entries tasks → progress ≡ get_or tasks (t - 1) progress → IsProgress entries t progress
-at_place entries t tasks progress recorded table is =
-    let stands : slice_get tasks (t - 1) ≡ Some progress = slice_get_read tasks (length tasks) (t - 1) progress refl (omega (arith, recorded.0, recorded.1, table.all)) is in
-    subst (λ n. IsProgress entries n progress) (omega (arith, recorded.0)) (table.each (t - 1) progress stands)
 
 pub AreTasks-marked : (entries : List Entry) (x : Entry) (u : update.Update) (state : Upd) (tasks : List Progress) (progress : Progress) (states : List Upd) → opens_task x ≡ false → ((t : ℕ) → opens t x ≡ None) → ((t : ℕ) → opens_or_ends t x ≡ None) → sets_state x u state
     → IsRecorded entries u.task → progress ≡ get_or tasks (u.task - 1) progress
