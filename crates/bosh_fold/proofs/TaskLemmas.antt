@@ -138,6 +138,12 @@ the_group entries t progress p opened goal group is has_goal one_group =
     let one : p.group ∷ [] ≡ group ∷ [] = sym p.one_group ∙ ap (λ g. g.groups) same ∙ one_group in
     cc
 
+-- the states are those of its instances
+pub states_of : (entries : List Entry) (t : ℕ) (progress : Progress) (p : IsProgress entries t progress) (opened : task_open.TaskOpen) → opening_of entries t ≡ Some opened → progress.roll.states ≡ map (update_of entries t) opened.changed
+states_of entries t progress p opened is =
+    let same : p.task ≡ opened = the_opening entries t progress p opened is in
+    ap (λ roll. roll.states) p.roll ∙ (λ i. map (update_of entries (p.number i)) (same i).changed)
+
 -- ---- a task is opened
 
 -- it has waiting instances alone, and is open
