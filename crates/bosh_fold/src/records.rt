@@ -123,14 +123,14 @@ impl Records {
     pub fn vm_of(&self, inst: &Inst) -> Option<Vm>
         ensures { result ≡ vm_of self.now inst.now }
     {
-        known::find(&self.table, inst).and_then(|known| known.vm)
+        known::find(&self.table, inst)?.vm
     }
 
     /// The number of the call of an instance whose effect is in doubt.
     pub fn doubt_of(&self, inst: &Inst) -> Option<u64>
         ensures { result ≡ doubt_of self.now inst.now }
     {
-        known::find(&self.table, inst).and_then(|known| known.doubt)
+        known::find(&self.table, inst)?.doubt
     }
 
     /// Adds an entry that may be noted, or the end of a call that began.
