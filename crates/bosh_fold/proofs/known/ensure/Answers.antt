@@ -1,5 +1,5 @@
-use Rattle.std.proofs.Common.{◌≡◌, [], ◌∷◌, ◌++◌, None, false, sym, subst, arith}
-use Rattle.std.specs.Prelude.{All, Any, IsTrue}
+use Rattle.std.proofs.Common.{◌≡◌, None, false, sym, subst, arith}
+use Rattle.std.specs.Prelude.{All, IsTrue}
 use Rattle.std.proofs.lemmas.List.Quantifiers.{Any-push}
 use Rattle.bosh_history.specs.Same.{same_inst}
 use Rattle.bosh_fold.specs.declared.known.Known.{Known}
