@@ -1,5 +1,5 @@
 -- Which instances are the same.
-use Rattle.std.proofs.Common.{◌≡◌, Bool, true, Decides, ap, sym, refl}
+use Rattle.std.proofs.Common.{◌≡◌, true, Decides, ap, sym, refl}
 use Rattle.std.proofs.lemmas.Bool.Decides.{same_from_decides, Decides-like, Decides-and, Decides-eqb}
 use Rattle.std.proofs.lemmas.Slice.Eq.{bytes_eq-Decides}
 use Rattle.bosh_base.specs.declared.inst.Inst.{Inst}

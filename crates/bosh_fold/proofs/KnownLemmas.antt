@@ -1,14 +1,11 @@
 -- What the entries tell of instances, as the records keep it.
-use Rattle.std.proofs.Common.{◌≡◌, ℕ, Bool, true, false, Option, Some, None, List, [], ◌∷◌, ◌++◌, map, length, get_or, arith, refl, sym, ap, ◌∙◌, subst}
+use Rattle.std.proofs.Common.{◌≡◌, ℕ, Bool, true, false, Option, Some, None, List, [], ◌∷◌, ◌++◌, map, get_or, arith, refl, sym, ap, ◌∙◌, subst}
 use Rattle.std.specs.Prelude.{not, ◌&&◌, if◌then◌else◌, All, Any, IsTrue, Contains}
 use Rattle.std.specs.Option.{option_or, option_and_then}
-use Rattle.std.proofs.lemmas.Bool.{false≢true}
 use Rattle.std.proofs.lemmas.List.Elements.{All-weaker, All-map, All-push, All-contains}
 use Rattle.std.proofs.lemmas.List.{length-map, get_or-map, get_or_append_left, length_push}
 use Rattle.bosh_base.specs.Cloud.{when}
-use Rattle.bosh_base.specs.History.{chosen, latest_seen}
-use Rattle.bosh_base.specs.declared.answer.Answer.TheVariants.{Cid}
-use Rattle.bosh_base.specs.declared.call.Call.TheVariants.{CreateVm}
+use Rattle.bosh_base.specs.History.{chosen}
 use Rattle.bosh_base.specs.declared.entry.Begin as begin
 use Rattle.bosh_base.specs.declared.entry.End as end
 use Rattle.bosh_base.specs.declared.entry.Entry.{Entry}
@@ -22,7 +19,7 @@ use Rattle.bosh_history.specs.Same.{same_inst, is_of}
 use Rattle.bosh_fold.specs.Addable.{EndsCreation}
 use Rattle.bosh_fold.specs.Tables.{begun, answered, IsKnown, IsUnknown, AreKnown}
 use Rattle.bosh_fold.specs.declared.known.Known.{Known}
-use Rattle.bosh_fold.proofs.InstLemmas.{same_inst-Decides, same_inst-sym, same_inst-refl}
+use Rattle.bosh_fold.proofs.InstLemmas.{same_inst-Decides, same_inst-sym}
 
 -- ---- one more entry
 
@@ -86,7 +83,7 @@ AreKnown-unknown entries i table absent known = record {
     in_doubt = sym (known.others i absent).no_doubt;
   });
   others = λ j other. known.others j (λ k d within.
-    subst (λ row. same_inst j row.inst ≡ false) (get_or_append_left table (unknown i ∷ []) d k within) (other k d (omega (arith, length_push table (unknown i)))));
+      subst (λ row. same_inst j row.inst ≡ false) (get_or_append_left table (unknown i ∷ []) d k within) (other k d (omega (arith, length_push table (unknown i)))));
 }
 
 -- a call began: it is the instance's or it is not
@@ -129,8 +126,8 @@ AreKnown-changed : (entries : List Entry) (x : Entry) (i : Inst) (f : Known → 
 AreKnown-changed entries x i f table keeps known_then silent present known = record {
   each = All-map (IsKnown (entries ++ x ∷ [])) f table (All-weaker (IsKnown entries) (λ row. IsKnown (entries ++ x ∷ []) (f row)) known_then table known.each);
   others = λ j other.
-    let before : All (λ known. same_inst j known.inst ≡ false) table = others_before f j table keeps other in
-    IsUnknown-kept entries x j (silent j (other_inst i j table present before)) (known.others j before);
+      let before : All (λ known. same_inst j known.inst ≡ false) table = others_before f j table keeps other in
+      IsUnknown-kept entries x j (silent j (other_inst i j table present before)) (known.others j before);
 }
 
 -- a call of an instance began, whose effect is in doubt

@@ -1,5 +1,5 @@
 -- The tables after one more entry.
-use Rattle.std.proofs.Common.{◌≡◌, ℕ, Bool, true, false, Option, Some, List, [], ◌∷◌, ◌++◌, map, length, set, get_or, take, drop, append-nil, arith, refl, sym, ap, ◌∙◌, subst}
+use Rattle.std.proofs.Common.{◌≡◌, ℕ, true, false, Some, List, [], ◌∷◌, ◌++◌, map, length, set, get_or, take, drop, append-nil, arith, refl, sym, ap, ◌∙◌, subst}
 use Rattle.std.specs.Prelude.{◌+◌, ◌-◌, None, Any, IsTrue}
 use Rattle.std.proofs.lemmas.List.{drop_all, take_all}
 use Rattle.std.proofs.lemmas.Option.{same_Some}
@@ -13,15 +13,14 @@ use Rattle.bosh_base.specs.declared.entry.Entry.TheVariants.{TaskOpen, Begin, En
 use Rattle.bosh_base.specs.declared.entry.TaskOpen as task_open
 use Rattle.bosh_base.specs.declared.entry.Update as update
 use Rattle.bosh_base.specs.declared.inst.Inst.{Inst}
-use Rattle.bosh_base.specs.declared.row.Vm.{Vm}
 use Rattle.bosh_base.proofs.HistoryLemmas.{latest_last}
-use Rattle.bosh_history.specs.Permitted.{Opens, Begins, BeginsUpdate, EndsUpdate, EndsTask}
+use Rattle.bosh_history.specs.Permitted.{Opens, Begins}
 use Rattle.bosh_history.specs.Records.{call_number, last_call, begin_of, leaves_doubt, tasks_opened, is_task_open, opening_of, update_of}
 use Rattle.bosh_history.specs.Same.{same_inst}
 use Rattle.bosh_roll.specs.declared.upd.Upd.{Upd}
 use Rattle.bosh_roll.specs.declared.upd.Upd.TheVariants.{Todo, Busy, Finished}
 use Rattle.bosh_fold.specs.Addable.{EndsCreation}
-use Rattle.bosh_fold.specs.Tables.{begun, answered, set_state, IsRecorded, AreTasks, AreKnown, AreTables}
+use Rattle.bosh_fold.specs.Tables.{begun, answered, set_state, IsRecorded, AreKnown, AreTables}
 use Rattle.bosh_fold.specs.declared.known.Known.{Known}
 use Rattle.bosh_fold.specs.declared.progress.Progress.{Progress}
 use Rattle.bosh_fold.proofs.KnownLemmas.{AreKnown-silent, AreKnown-begun, AreKnown-answered, vm_made}
@@ -87,7 +86,7 @@ pub AreTables-begun_update : (entries seen : List Entry) (call : ℕ) (tasks : L
 AreTables-begun_update entries seen call tasks table u progress states is recorded at marked tables = record {
   last = last_call-kept entries (UpdBegin u) call refl tables.last;
   by_number = AreTasks-marked entries (UpdBegin u) u Busy tasks progress states refl (λ t. refl) (λ t. refl) (λ t i. refl) recorded at
-  (subst (λ all. (task : task_open.TaskOpen) → opening_of all u.task ≡ Some task → states ≡ map (set_state u.inst Busy (update_of all u.task)) task.changed) (sym is) marked) tables.by_number;
+      (subst (λ all. (task : task_open.TaskOpen) → opening_of all u.task ≡ Some task → states ≡ map (set_state u.inst Busy (update_of all u.task)) task.changed) (sym is) marked) tables.by_number;
   instances = AreKnown-silent entries (UpdBegin u) table (λ i. refl) (λ i. refl) tables.instances;
 }
 
@@ -98,7 +97,7 @@ pub AreTables-ended_update : (entries seen : List Entry) (call : ℕ) (tasks : L
 AreTables-ended_update entries seen call tasks table u progress states is recorded at marked tables = record {
   last = last_call-kept entries (UpdDone u) call refl tables.last;
   by_number = AreTasks-marked entries (UpdDone u) u Finished tasks progress states refl (λ t. refl) (λ t. refl) (λ t i. refl) recorded at
-  (subst (λ all. (task : task_open.TaskOpen) → opening_of all u.task ≡ Some task → states ≡ map (set_state u.inst Finished (update_of all u.task)) task.changed) (sym is) marked) tables.by_number;
+      (subst (λ all. (task : task_open.TaskOpen) → opening_of all u.task ≡ Some task → states ≡ map (set_state u.inst Finished (update_of all u.task)) task.changed) (sym is) marked) tables.by_number;
   instances = AreKnown-silent entries (UpdDone u) table (λ i. refl) (λ i. refl) tables.instances;
 }
 

@@ -1,16 +1,16 @@
 -- What the entries tell of tasks, as the records keep it.
 use Prim.Native.Nat.{zero, suc}
-use Rattle.std.proofs.Common.{◌≡◌, ℕ, ◌+◌, ◌-◌, ◌<◌, ◌≤◌, Bool, true, false, Option, Some, None, List, [], ◌∷◌, ◌++◌, map, length, set, get_or, arith, refl, sym, ap, ◌∙◌, subst, inl, inr}
-use Rattle.std.specs.Prelude.{◌≢◌, ◌&&◌, ◌==◌, ◌⊎◌, if◌then◌else◌, slice_get, count_by}
+use Rattle.std.proofs.Common.{◌≡◌, ℕ, ◌+◌, ◌-◌, ◌<◌, Bool, true, false, Some, None, List, [], ◌∷◌, ◌++◌, map, length, set, get_or, arith, refl, sym, ap, ◌∙◌, subst, inl, inr}
+use Rattle.std.specs.Prelude.{◌≢◌, ◌&&◌, ◌==◌, ◌⊎◌, if◌then◌else◌, slice_get}
 use Rattle.std.proofs.Math.Path.{fun_ext}
-use Rattle.std.proofs.lemmas.Bool.{false≢true, eq-eqb, ne_eqb, cases_eq}
+use Rattle.std.proofs.lemmas.Bool.{eq-eqb, ne_eqb, cases_eq}
 use Rattle.std.proofs.lemmas.List.{length-set, length_push}
 use Rattle.std.proofs.lemmas.List.Sums.{sum_by_push}
 use Rattle.std.proofs.lemmas.Option.{slice_get_within, slice_get_read, same_Some}
 use Rattle.bosh_base.specs.Cloud.{when}
-use Rattle.bosh_base.specs.History.{chosen, latest}
+use Rattle.bosh_base.specs.History.{chosen}
 use Rattle.bosh_base.specs.declared.entry.Entry.{Entry}
-use Rattle.bosh_base.specs.declared.entry.Entry.TheVariants.{TaskOpen, UpdBegin, UpdDone, TaskDone}
+use Rattle.bosh_base.specs.declared.entry.Entry.TheVariants.{TaskOpen, TaskDone}
 use Rattle.bosh_base.specs.declared.entry.TaskOpen as task_open
 use Rattle.bosh_base.specs.declared.entry.Update as update
 use Rattle.bosh_base.specs.declared.goal.Goal.{Goal}
@@ -20,9 +20,8 @@ use Rattle.bosh_base.proofs.HistoryLemmas.{latest_last}
 use Rattle.bosh_history.specs.Goals.{roll_of}
 use Rattle.bosh_history.specs.Records.{opens_task, tasks_opened, opens, opening_of, opens_or_ends, is_task_open, is_of_inst, updates, update_of}
 use Rattle.bosh_history.specs.Same.{same_inst}
-use Rattle.bosh_roll.specs.declared.group_roll.GroupRoll.{GroupRoll}
 use Rattle.bosh_roll.specs.declared.upd.Upd.{Upd}
-use Rattle.bosh_roll.specs.declared.upd.Upd.TheVariants.{Todo, Busy, Finished}
+use Rattle.bosh_roll.specs.declared.upd.Upd.TheVariants.{Todo}
 use Rattle.bosh_fold.specs.Tables.{set_state, IsProgress, IsRecorded, AreTasks}
 use Rattle.bosh_fold.specs.declared.progress.Progress.{Progress}
 use Rattle.bosh_fold.proofs.InstLemmas.{same_inst-sym}
@@ -183,8 +182,8 @@ IsSilent-opening o t other =
 -- a task that is open after the opening is the new one, or was open before
 open_after : (entries : List Entry) (o : task_open.TaskOpen) (t : ℕ) → is_task_open (entries ++ TaskOpen o ∷ []) t ≡ true → (o.task ≡ t) ⊎ (is_task_open entries t ≡ true)
 open_after entries o t now = elim (cases_eq o.task t) [
-  inl is ↦ inl is |
-  inr other ↦ inr (sym (is_task_open-kept entries (TaskOpen o) t (IsSilent-opening o t (λ is. other (sym is))).of_its_end) ∙ now)
+  | inl is ↦ inl is
+  | inr other ↦ inr (sym (is_task_open-kept entries (TaskOpen o) t (IsSilent-opening o t (λ is. other (sym is))).of_its_end) ∙ now)
 ]
 
 pub AreTasks-opened : (entries : List Entry) (o : task_open.TaskOpen) (tasks : List Progress) (goal : Goal) (group : GroupPlan) (progress : Progress) → o.task ≡ tasks_opened entries + 1 → o.goal ≡ Some goal → goal.groups ≡ group ∷ [] → progress.opened_at ≡ length entries → progress.is_open ≡ true
@@ -194,19 +193,19 @@ AreTasks-opened entries o tasks goal group progress number has_goal one_group pl
     let more : tasks_opened after ≡ tasks_opened entries + 1 = tasks_opened-more entries o in
     let new : IsProgress after o.task progress = IsProgress-opened entries o goal group progress has_goal one_group place is_open roll in
     let old : (k : ℕ) (p : Progress) → slice_get tasks k ≡ Some p → IsProgress after (k + 1) p = λ k p stands.
-      let within : k < length tasks = slice_get_within tasks k p stands in
-      IsProgress-kept entries (TaskOpen o) (k + 1) p (IsSilent-opening o (k + 1) (λ is. omega (arith, table.all))) (table.each k p stands) in
+    let within : k < length tasks = slice_get_within tasks k p stands in
+    IsProgress-kept entries (TaskOpen o) (k + 1) p (IsSilent-opening o (k + 1) (λ is. omega (arith, table.all))) (table.each k p stands) in
     record {
       all = length_push tasks progress ∙ ap (λ n. n + 1) table.all ∙ sym more;
       each = λ k p stands. elim (slice_get-push tasks progress k p stands) [
-        inl before ↦ old k p before |
-        inr last ↦
-          let at : o.task ≡ k + 1 = number ∙ ap (λ n. n + 1) (sym table.all ∙ sym last.0) in
-          subst (λ q. IsProgress after (k + 1) q) (sym last.1) (subst (λ t. IsProgress after t progress) at new)
+        | inl before ↦ old k p before
+        | inr last ↦
+            let at : o.task ≡ k + 1 = number ∙ ap (λ n. n + 1) (sym table.all ∙ sym last.0) in
+            subst (λ q. IsProgress after (k + 1) q) (sym last.1) (subst (λ t. IsProgress after t progress) at new)
       ];
       no_others = λ t now. elim (open_after entries o t now) [
-        inl is ↦ (omega (arith, number), omega (arith, number, more)) |
-        inr before ↦ ((table.no_others t before).0, omega (arith, more, (table.no_others t before).1))
+        | inl is ↦ (omega (arith, number), omega (arith, number, more))
+        | inr before ↦ ((table.no_others t before).0, omega (arith, more, (table.no_others t before).1))
       ];
     }
 
@@ -220,14 +219,14 @@ AreTasks-set entries x t tasks progress no_opening others recorded new table =
     record {
       all = length-set tasks (t - 1) progress ∙ table.all ∙ sym (tasks_opened-kept entries x no_opening);
       each = λ k p stands. elim (slice_get-set tasks (t - 1) progress k p stands) [
-        inl now ↦
-          let at : t ≡ k + 1 = omega (arith, now.0, recorded.0) in
-          subst (λ q. IsProgress after (k + 1) q) (sym now.1) (subst (λ n. IsProgress after n progress) at new) |
-        inr other ↦ IsProgress-kept entries x (k + 1) p (others (k + 1) (λ is. other.0 (omega (arith, is)))) (table.each k p other.1)
+        | inl now ↦
+            let at : t ≡ k + 1 = omega (arith, now.0, recorded.0) in
+            subst (λ q. IsProgress after (k + 1) q) (sym now.1) (subst (λ n. IsProgress after n progress) at new)
+        | inr other ↦ IsProgress-kept entries x (k + 1) p (others (k + 1) (λ is. other.0 (omega (arith, is)))) (table.each k p other.1)
       ];
       no_others = λ u now. elim (cases_eq u t) [
-        inl is ↦ IsRecorded-kept entries x u no_opening (subst (IsRecorded entries) (sym is) recorded) |
-        inr other ↦ IsRecorded-kept entries x u no_opening (table.no_others u (sym (is_task_open-kept entries x u (others u other).of_its_end) ∙ now))
+        | inl is ↦ IsRecorded-kept entries x u no_opening (subst (IsRecorded entries) (sym is) recorded)
+        | inr other ↦ IsRecorded-kept entries x u no_opening (table.no_others u (sym (is_task_open-kept entries x u (others u other).of_its_end) ∙ now))
       ];
     }
 

@@ -1,5 +1,5 @@
 -- Which entries can be added to the records.
-use Rattle.std.specs.Prelude.{◌≡◌, ℕ, Some, None, List}
+use Rattle.std.specs.Prelude.{◌≡◌, ℕ, Some, List}
 use Rattle.bosh_base.specs.declared.answer.Answer.TheVariants.{Cid}
 use Rattle.bosh_base.specs.declared.call.Call.TheVariants.{CreateVm}
 use Rattle.bosh_base.specs.declared.entry.Begin as begin

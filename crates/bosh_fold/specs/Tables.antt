@@ -1,5 +1,5 @@
 -- The tables in which the records keep what their entries tell.
-use Rattle.std.specs.Prelude.{◌≡◌, ℕ, ◌+◌, ◌≤◌, Bool, true, false, ◌&&◌, Option, Some, None, List, [], ◌∷◌, slice_get, length, if◌then◌else◌, All}
+use Rattle.std.specs.Prelude.{◌≡◌, ℕ, ◌+◌, ◌≤◌, true, false, Option, Some, None, List, [], ◌∷◌, slice_get, length, if◌then◌else◌, All}
 use Rattle.std.specs.Option.{option_or}
 use Rattle.bosh_base.specs.declared.row.Vm.{Vm}
 use Rattle.bosh_base.specs.declared.entry.Entry.{Entry}

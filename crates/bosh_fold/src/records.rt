@@ -11,10 +11,9 @@ ghost use Rattle.bosh_history.specs.Records.{last_call, begin_of, tasks_opened, 
 ghost use Rattle.bosh_fold.specs.Addable.{IsAddable, EndsCreation};
 ghost use Rattle.bosh_fold.specs.Tables.{IsRecorded, set_state};
 
-use crate::FoldFault;
 use crate::known::{self, Known};
 use crate::progress::{self, Progress};
-use crate::scan;
+use crate::{FoldFault, scan};
 use bosh_base::{
     Answer, Begin, Call, Copyable, End, Entry, Goal, Inst, Name, Owner, Seq, TaskOpen, Update, Vm,
 };

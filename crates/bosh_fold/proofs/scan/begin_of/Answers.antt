@@ -1,10 +1,8 @@
-use Rattle.std.proofs.Common.{Some, None, sym, ap, ◌∙◌}
+use Rattle.std.proofs.Common.{None, sym, ap, ◌∙◌}
 use Rattle.std.specs.Option.{option_copied}
 use Rattle.bosh_base.specs.History.{chosen}
-use Rattle.bosh_history.specs.Records.{begins, begin_of}
-use Rattle.std.proofs.Common.{take}
+use Rattle.bosh_history.specs.Records.{begins}
 use Rattle.bosh_fold.proofs.ScanLemmas.{latest_more, found_first}
-use Rattle.bosh_fold.proofs.TaskLemmas.{AreTasks-ended}
 use Rattle.bosh_fold.proofs.scan.begin_of.Goals as goal
 
 pub loop-entry-preserved : goal.loop-entry-preserved

@@ -1,4 +1,4 @@
-use Rattle.std.proofs.Common.{sym, arith}
+use Rattle.std.proofs.Common.{arith}
 use Rattle.bosh_fold.specs.Tables.{IsRecorded}
 use Rattle.bosh_fold.proofs.TableLemmas.{recorded, AreTables-ended}
 use Rattle.bosh_fold.proofs.records.Records.end_task.Goals as goal

@@ -1,4 +1,4 @@
-use Rattle.std.proofs.Common.{◌≡◌, sym, subst, ◌∙◌}
+use Rattle.std.proofs.Common.{sym, subst, ◌∙◌}
 use Rattle.bosh_history.specs.Records.{is_task_open}
 use Rattle.bosh_fold.specs.Tables.{IsRecorded, IsProgress}
 use Rattle.bosh_fold.proofs.TaskLemmas.{at_place}

@@ -1,8 +1,7 @@
-use Rattle.std.proofs.Common.{◌≡◌, Some, List, map, length, sym, ap, ◌∙◌, subst}
+use Rattle.std.proofs.Common.{◌≡◌, map, length, sym, ap, ◌∙◌, subst}
 use Rattle.std.specs.Prelude.{IfOk}
 use Rattle.std.proofs.lemmas.List.{length-map}
 use Rattle.std.proofs.lemmas.Option.{same_Some}
-use Rattle.bosh_base.specs.declared.entry.TaskOpen as task_open
 use Rattle.bosh_history.specs.Records.{opening_of, update_of}
 use Rattle.bosh_fold.specs.Tables.{IsRecorded, IsProgress, set_state}
 use Rattle.bosh_fold.proofs.TaskLemmas.{at_place, states_of}

@@ -1,4 +1,4 @@
-use Rattle.std.proofs.Common.{◌≡◌, length, sym, ◌∙◌, arith}
+use Rattle.std.proofs.Common.{◌≡◌, length, arith}
 use Rattle.bosh_fold.proofs.TableLemmas.{AreTables-opened}
 use Rattle.bosh_fold.proofs.records.Records.open_task.Goals as goal
 

@@ -1,6 +1,4 @@
 use Rattle.std.proofs.Common.{◌≡◌, Some, sym, subst, ◌∙◌}
-use Rattle.bosh_base.specs.declared.entry.TaskOpen as task_open
-use Rattle.bosh_base.specs.declared.goal.GroupPlan.{GroupPlan}
 use Rattle.bosh_history.specs.Goals.{roll_of}
 use Rattle.bosh_history.specs.Records.{opening_of}
 use Rattle.bosh_fold.specs.Tables.{IsRecorded, IsProgress}

@@ -1,4 +1,4 @@
-use Rattle.std.proofs.Common.{◌≡◌, sym, subst, ap, ◌∙◌}
+use Rattle.std.proofs.Common.{◌≡◌, subst, ◌∙◌}
 use Rattle.std.specs.Prelude.{Contains}
 use Rattle.bosh_history.specs.Records.{vm_of}
 use Rattle.bosh_fold.specs.Tables.{IsKnown}
