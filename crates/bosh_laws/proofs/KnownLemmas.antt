@@ -14,18 +14,18 @@ use Rattle.bosh_history.specs.Permitted.{Opens, Begins, BeginsUpdate, EndsUpdate
 use Rattle.bosh_history.specs.Records.{call_number, begins, begin_of, opens_task, opens, tasks_opened, opening_of, updates, update_of, goal_set, make_of}
 use Rattle.bosh_roll.specs.declared.upd.Upd.TheVariants.{Busy}
 use Rattle.bosh_laws.proofs.InstLemmas.{InstFacts, InstFacts-open, InstFacts-begin, InstFacts-failed, InstFacts-created, InstFacts-update, InstFacts-updated, InstFacts-done}
-use Rattle.bosh_laws.proofs.LimitLemmas.{in_flight, in_flight-open, in_flight-begin, in_flight-done, in_flight-stays}
+use Rattle.bosh_laws.proofs.LimitLemmas.{IsLimited, in_flight, in_flight-open, in_flight-begin, in_flight-done, in_flight-stays}
 use Rattle.bosh_laws.proofs.Moments.{more}
-use Rattle.bosh_laws.proofs.NumberLemmas.{CallFacts, CallFacts-begin, CallFacts-stays, fresh_call}
+use Rattle.bosh_laws.proofs.NumberLemmas.{CallNumbered, CallFacts, CallFacts-begin, CallFacts-stays, fresh_call}
 use Rattle.bosh_laws.proofs.QuestionLemmas.{Ended}
-use Rattle.bosh_laws.proofs.TaskLemmas.{TaskNumber, TaskNumber-open, TaskNumber-stays, GoalFacts, GoalFacts-open, GoalFacts-stays, IsBegun, IsBegun-open, IsBegun-stays, IsBegun-begin, IsBegun-done}
+use Rattle.bosh_laws.proofs.TaskLemmas.{TaskNumbered, HasGoal, BegunWhereBusy, TaskNumber, TaskNumber-open, TaskNumber-stays, GoalFacts, GoalFacts-open, GoalFacts-stays, IsBegun, IsBegun-open, IsBegun-stays, IsBegun-begin, IsBegun-done}
 
 pub record KnownFacts (known : List Entry) : Type 0 where
-  pub calls : (n : ℕ) (b : begin.Begin) → begin_of known n ≡ Some b → CallFacts known n b
-  pub tasks : (t : ℕ) (task : task_open.TaskOpen) → opening_of known t ≡ Some task → TaskNumber known t task
-  pub goals : (t : ℕ) (task : task_open.TaskOpen) (goal : Goal) → task.goal ≡ Some goal → opening_of known t ≡ Some task → GoalFacts known task goal
-  pub begun : (t : ℕ) (i : Inst) → update_of known t i ≡ Busy → IsBegun known t i
-  pub limited : (t : ℕ) (task : task_open.TaskOpen) (goal : Goal) (group : GroupPlan) → task.goal ≡ Some goal → goal.groups ≡ group ∷ [] → opening_of known t ≡ Some task → in_flight known task ≤ group.limit
+  pub calls : (n : ℕ) (b : begin.Begin) → CallNumbered known n b
+  pub tasks : (t : ℕ) (task : task_open.TaskOpen) → TaskNumbered known t task
+  pub goals : (t : ℕ) (task : task_open.TaskOpen) (goal : Goal) → task.goal ≡ Some goal → HasGoal known t task goal
+  pub begun : (t : ℕ) (i : Inst) → BegunWhereBusy known t i
+  pub limited : (t : ℕ) (task : task_open.TaskOpen) (goal : Goal) (group : GroupPlan) → task.goal ≡ Some goal → goal.groups ≡ group ∷ [] → IsLimited known t task group.limit
   pub insts : (i : Inst) → InstFacts known i
 
 -- a task at work was counted

@@ -21,11 +21,15 @@ use Rattle.bosh_roll.specs.declared.upd.Upd.TheVariants.{Todo, Busy}
 use Rattle.bosh_laws.proofs.Moments.{more}
 use Rattle.bosh_laws.proofs.QuestionLemmas.{update_of-stays, opening_of-stays}
 use Rattle.bosh_laws.proofs.SameLemmas.{same_inst_tells}
-use Rattle.bosh_laws.proofs.TaskLemmas.{TaskNumber, GoalFacts}
+use Rattle.bosh_laws.proofs.TaskLemmas.{TaskNumber, TaskNumbered, GoalFacts, HasGoal}
 
 -- how many of the task's instances are in flight
 abbrev pub in_flight : List Entry → task_open.TaskOpen → ℕ
 in_flight known task = count_by is_busy (map (update_of known task.task) task.changed)
+
+-- .. are within the limit, if it was opened
+abbrev pub IsLimited : List Entry → ℕ → task_open.TaskOpen → ℕ → Type 0
+IsLimited known t task limit = opening_of known t ≡ Some task → in_flight known task ≤ limit
 
 -- ---- counts
 
@@ -90,10 +94,11 @@ others_wait known o t other i = grind (arith, latest_last, eqb_tells o.task t)
 le_of_zero : {n limit : ℕ} → n ≡ 0 → n ≤ limit
 le_of_zero is = omega arith
 
+-- one number is another or not
 same_or_not : (n m : ℕ) → (n ≡ m) ⊎ (n ≢ m)
 same_or_not n m = grind (arith, eqb_tells n m)
 
-open_by : (known : List Entry) (o : task_open.TaskOpen) (t : ℕ) (task : task_open.TaskOpen) (limit : ℕ) → ((opening_of known t ≡ Some task) → TaskNumber known t task) → (opening_of known t ≡ Some task → in_flight known task ≤ limit) → ((o ≡ task) ⊎ ((o.task ≢ t) × (opening_of known t ≡ Some task))) → in_flight (more known (entries.TaskOpen o)) task ≤ limit
+open_by : (known : List Entry) (o : task_open.TaskOpen) (t : ℕ) (task : task_open.TaskOpen) (limit : ℕ) → TaskNumbered known t task → IsLimited known t task limit → ((o ≡ task) ⊎ ((o.task ≢ t) × (opening_of known t ≡ Some task))) → in_flight (more known (entries.TaskOpen o)) task ≤ limit
 open_by known o t task limit number k (inl it) =
     let all : (i : Inst) → update_of (more known (entries.TaskOpen o)) o.task i ≡ Todo = opened_waits known o in
     subst (λ x. in_flight (more known (entries.TaskOpen o)) x ≤ limit) it (le_of_zero (none_busy (update_of (more known (entries.TaskOpen o)) o.task) all o.changed))
@@ -105,7 +110,7 @@ open_by known o t task limit number k (inr was) =
 opened_before : (known : List Entry) (o : task_open.TaskOpen) (t : ℕ) (task : task_open.TaskOpen) → opening_of (more known (entries.TaskOpen o)) t ≡ Some task → (o ≡ task) ⊎ ((o.task ≢ t) × (opening_of known t ≡ Some task))
 opened_before known o t task is = grind (arith, latest_last, eqb_tells o.task t, is)
 
-pub in_flight-open : (known : List Entry) (o : task_open.TaskOpen) (t : ℕ) (task : task_open.TaskOpen) (limit : ℕ) → ((opening_of known t ≡ Some task) → TaskNumber known t task) → (opening_of known t ≡ Some task → in_flight known task ≤ limit) → opening_of (more known (entries.TaskOpen o)) t ≡ Some task → in_flight (more known (entries.TaskOpen o)) task ≤ limit
+pub in_flight-open : (known : List Entry) (o : task_open.TaskOpen) (t : ℕ) (task : task_open.TaskOpen) (limit : ℕ) → TaskNumbered known t task → IsLimited known t task limit → IsLimited (more known (entries.TaskOpen o)) t task limit
 in_flight-open known o t task limit number k is = open_by known o t task limit number k (opened_before known o t task is)
 
 -- ---- an update begins: one more is in flight, where it is of the task
@@ -138,7 +143,7 @@ its_limit known u p task goal group opened has one =
     let room : in_flight known p.task < p.group.limit = p.may_begin.below_limit in
     omega arith
 
-pub in_flight-begin : (known : List Entry) (u : update.Update) (p : BeginsUpdate known u) (t : ℕ) (task : task_open.TaskOpen) (goal : Goal) (group : GroupPlan) → task.goal ≡ Some goal → goal.groups ≡ group ∷ [] → (opening_of known t ≡ Some task → TaskNumber known t task) → (opening_of known t ≡ Some task → GoalFacts known task goal) → (opening_of known t ≡ Some task → in_flight known task ≤ group.limit) → opening_of (more known (entries.UpdBegin u)) t ≡ Some task → in_flight (more known (entries.UpdBegin u)) task ≤ group.limit
+pub in_flight-begin : (known : List Entry) (u : update.Update) (p : BeginsUpdate known u) (t : ℕ) (task : task_open.TaskOpen) (goal : Goal) (group : GroupPlan) → task.goal ≡ Some goal → goal.groups ≡ group ∷ [] → TaskNumbered known t task → HasGoal known t task goal → IsLimited known t task group.limit → IsLimited (more known (entries.UpdBegin u)) t task group.limit
 in_flight-begin known u p t task goal group has one number facts k is =
     let was : opening_of known t ≡ Some task = sym (opening_of-stays known (entries.UpdBegin u) t refl) ∙ is in
     let f : GoalFacts known task goal = facts was in
@@ -151,7 +156,7 @@ in_flight-begin known u p t task goal group has one number facts k is =
 done_one : (known : List Entry) (u : update.Update) (t : ℕ) (i : Inst) → update_of (more known (entries.UpdDone u)) t i ≡ Busy → update_of known t i ≡ Busy
 done_one known u t i is = grind (arith, latest_last, is)
 
-pub in_flight-done : (known : List Entry) (u : update.Update) (t : ℕ) (task : task_open.TaskOpen) (limit : ℕ) → (opening_of known t ≡ Some task → in_flight known task ≤ limit) → opening_of (more known (entries.UpdDone u)) t ≡ Some task → in_flight (more known (entries.UpdDone u)) task ≤ limit
+pub in_flight-done : (known : List Entry) (u : update.Update) (t : ℕ) (task : task_open.TaskOpen) (limit : ℕ) → IsLimited known t task limit → IsLimited (more known (entries.UpdDone u)) t task limit
 in_flight-done known u t task limit k is =
     let before : in_flight known task ≤ limit = k (sym (opening_of-stays known (entries.UpdDone u) t refl) ∙ is) in
     let fewer : in_flight (more known (entries.UpdDone u)) task ≤ in_flight known task = calmer (update_of known task.task) (update_of (more known (entries.UpdDone u)) task.task) (done_one known u task.task) task.changed in
@@ -159,6 +164,6 @@ in_flight-done known u t task limit k is =
 
 -- ---- another entry moves no instance
 
-pub in_flight-stays : (known : List Entry) (e : Entry) (t : ℕ) (task : task_open.TaskOpen) (limit : ℕ) → opens t e ≡ None → ((i : Inst) → updates task.task i e ≡ None) → (opening_of known t ≡ Some task → in_flight known task ≤ limit) → opening_of (more known e) t ≡ Some task → in_flight (more known e) task ≤ limit
+pub in_flight-stays : (known : List Entry) (e : Entry) (t : ℕ) (task : task_open.TaskOpen) (limit : ℕ) → opens t e ≡ None → ((i : Inst) → updates task.task i e ≡ None) → IsLimited known t task limit → IsLimited (more known e) t task limit
 in_flight-stays known e t task limit opens_none moves_none k is =
     subst (λ count. count ≤ limit) (sym (same_busy (update_of (more known e) task.task) (update_of known task.task) (λ i. update_of-stays known e task.task i (moves_none i)) task.changed)) (k (sym (opening_of-stays known e t opens_none) ∙ is))

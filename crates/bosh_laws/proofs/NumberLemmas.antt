@@ -16,14 +16,18 @@ pub record CallFacts (known : List Entry) (n : ℕ) (b : begin.Begin) : Type 0 w
   pub own_number : b.n ≡ n
   pub begun : n ≤ last_call known
 
-pub CallFacts-begin : (known : List Entry) (call : begin.Begin) → Begins known call → (n : ℕ) (b : begin.Begin) → (begin_of known n ≡ Some b → CallFacts known n b) → begin_of (known ++ entries.Begin call ∷ []) n ≡ Some b → CallFacts (known ++ entries.Begin call ∷ []) n b
+-- a call that began has its number
+abbrev pub CallNumbered : List Entry → ℕ → begin.Begin → Type 0
+CallNumbered known n b = begin_of known n ≡ Some b → CallFacts known n b
+
+pub CallFacts-begin : (known : List Entry) (call : begin.Begin) → Begins known call → (n : ℕ) (b : begin.Begin) → CallNumbered known n b → CallNumbered (more known (entries.Begin call)) n b
 CallFacts-begin known call p n b k is = record {
   own_number = grind (arith, latest_last, eqb_tells call.n n, p.number);
   begun = grind (arith, latest_last, eqb_tells call.n n, p.number);
 }
 
 -- another entry begins no call
-pub CallFacts-stays : (known : List Entry) (e : Entry) (n : ℕ) (b : begin.Begin) → begins n e ≡ None → call_number e ≡ None → (begin_of known n ≡ Some b → CallFacts known n b) → begin_of (more known e) n ≡ Some b → CallFacts (more known e) n b
+pub CallFacts-stays : (known : List Entry) (e : Entry) (n : ℕ) (b : begin.Begin) → begins n e ≡ None → call_number e ≡ None → CallNumbered known n b → CallNumbered (more known e) n b
 CallFacts-stays known e n b none numbers_none k is =
     let was : CallFacts known n b = k (sym (begin_of-stays known e n none) ∙ is) in
     let last : last_call (more known e) ≡ last_call known = latest_last call_number 0 known e ∙ ap (λ said. chosen said (last_call known)) numbers_none in
