@@ -79,7 +79,10 @@ abbrev pub WhereOpen : Moment → ℕ → Type 0
 WhereOpen m n = is_open m.moves n ≡ true → OpenCall m n
 
 -- what it rests on stays
-OpenCall-kept : (m after : Moment) (n : ℕ) (o : OpenCall m n) → begin_of after.known n ≡ begin_of m.known n → make_of after.known o.inst ≡ make_of m.known o.inst → doubt_of after.known o.inst ≡ doubt_of m.known o.inst → update_of after.known o.call.task o.inst ≡ Busy → ((d : did.Did) → did_of after.moves n ≡ Some d → IsAnswered after.effects o.inst n d) → OpenCall after n
+OpenCall-kept : (m after : Moment) (n : ℕ) (o : OpenCall m n) → begin_of after.known n ≡ begin_of m.known n →
+    make_of after.known o.inst ≡ make_of m.known o.inst → doubt_of after.known o.inst ≡ doubt_of m.known o.inst →
+    update_of after.known o.call.task o.inst ≡ Busy → ((d : did.Did) → did_of after.moves n ≡ Some d → IsAnswered after.effects o.inst n d) →
+    OpenCall after n
 OpenCall-kept m after n o began asked doubted works answered = record {
   call = o.call;
   inst = o.inst;
@@ -94,7 +97,8 @@ OpenCall-kept m after n o began asked doubted works answered = record {
 }
 
 -- an entry that begins no call and says nothing of the instance's make and doubt
-OpenCall-stays : (m : Moment) (e : Entry) (n : ℕ) (o : OpenCall m n) → begins n e ≡ None → made_from o.inst e ≡ None → doubt_told o.inst m.known e ≡ None → performs n (Note e) ≡ None → update_of (more m.known e) o.call.task o.inst ≡ Busy → OpenCall (noting m e) n
+OpenCall-stays : (m : Moment) (e : Entry) (n : ℕ) (o : OpenCall m n) → begins n e ≡ None → made_from o.inst e ≡ None →
+    doubt_told o.inst m.known e ≡ None → performs n (Note e) ≡ None → update_of (more m.known e) o.call.task o.inst ≡ Busy → OpenCall (noting m e) n
 OpenCall-stays m e n o begins_none makes_none doubts_none performs_none works =
     OpenCall-kept m (noting m e) n o (begin_of-stays m.known e n begins_none) (make_of-stays m.known e o.inst makes_none) (doubt_of-stays m.known e o.inst doubts_none) works
     (λ d is. o.answered d (sym (did_of-stays m.moves (Note e) n performs_none) ∙ is))
@@ -173,7 +177,8 @@ OpenCall-end m e p n k is =
 -- ---- the other entries
 
 -- a task opens: its number is new
-pub OpenCall-open : (m : Moment) (task : task_open.TaskOpen) (p : Opens m.known task) (n : ℕ) → ((t : ℕ) (i : Inst) → update_of m.known t i ≡ Busy → t ≤ tasks_opened m.known) → WhereOpen m n → WhereOpen (noting m (entries.TaskOpen task)) n
+pub OpenCall-open : (m : Moment) (task : task_open.TaskOpen) (p : Opens m.known task) (n : ℕ) →
+    ((t : ℕ) (i : Inst) → update_of m.known t i ≡ Busy → t ≤ tasks_opened m.known) → WhereOpen m n → WhereOpen (noting m (entries.TaskOpen task)) n
 OpenCall-open m task p n counted k is =
     let o : OpenCall m n = k (was_open m.moves (Note (entries.TaskOpen task)) n refl is) in
     let below : o.call.task ≤ tasks_opened m.known = counted o.call.task o.inst o.works in
@@ -209,11 +214,15 @@ OpenCall-passing m move n opens_none performs_none k is =
 did_before : (moves : List Move) (d : did.Did) (n : ℕ) (x : did.Did) → did_of (moves ++ Did d ∷ []) n ≡ Some x → ((d.n ≡ n) × (d ≡ x)) ⊎ (did_of moves n ≡ Some x)
 did_before moves d n x is = grind (arith, latest_last, eqb_tells d.n n, is)
 
-answered_by : (effects after : List Entry) (moves : List Move) (i : Inst) (n : ℕ) (d x : did.Did) → ((v : ℕ) → IsMade effects i n v → IsMade after i n v) → (d.n ≡ n → IsAnswered after i n d) → (did_of moves n ≡ Some x → IsAnswered effects i n x) → ((d.n ≡ n) × (d ≡ x)) ⊎ (did_of moves n ≡ Some x) → IsAnswered after i n x
+answered_by : (effects after : List Entry) (moves : List Move) (i : Inst) (n : ℕ) (d x : did.Did) →
+    ((v : ℕ) → IsMade effects i n v → IsMade after i n v) → (d.n ≡ n → IsAnswered after i n d) →
+    (did_of moves n ≡ Some x → IsAnswered effects i n x) → ((d.n ≡ n) × (d ≡ x)) ⊎ (did_of moves n ≡ Some x) → IsAnswered after i n x
 answered_by effects after moves i n d x there now before (inl it) = subst (IsAnswered after i n) it.1 (now it.0)
 answered_by effects after moves i n d x there now before (inr was) = IsAnswered-kept effects after i n x there (before was)
 
-pub OpenCall-performing : (m : Moment) (d : did.Did) (effects : List Entry) (n : ℕ) → ((i : Inst) (k v : ℕ) → IsMade m.effects i k v → IsMade effects i k v) → ((o : OpenCall m n) → d.n ≡ n → IsAnswered effects o.inst n d) → WhereOpen m n → WhereOpen (performing m d effects) n
+pub OpenCall-performing : (m : Moment) (d : did.Did) (effects : List Entry) (n : ℕ) →
+    ((i : Inst) (k v : ℕ) → IsMade m.effects i k v → IsMade effects i k v) → ((o : OpenCall m n) → d.n ≡ n → IsAnswered effects o.inst n d) →
+    WhereOpen m n → WhereOpen (performing m d effects) n
 OpenCall-performing m d effects n there now k is =
     let o : OpenCall m n = k (was_open m.moves (Did d) n refl is) in
     OpenCall-kept m (performing m d effects) n o refl refl refl o.works

@@ -42,7 +42,8 @@ pub IsOrderly-more : (effects : List Entry) (e : effect.Effect) (inst : Inst) (m
 IsOrderly-more effects e inst make c orderly = (adds effects e inst make c orderly).stays_orderly
 
 -- the machines belong to instances as before
-pub belong-more : (effects : List Entry) (e : effect.Effect) (inst : Inst) (make : Make) → Creates e inst make → IsOrderly effects → All HasInstance (machines effects) → All HasInstance (machines (more effects (Effect e)))
+pub belong-more : (effects : List Entry) (e : effect.Effect) (inst : Inst) (make : Make) → Creates e inst make → IsOrderly effects →
+    All HasInstance (machines effects) → All HasInstance (machines (more effects (Effect e)))
 belong-more effects e inst make c orderly all =
     let new : HasInstance (next_machine effects e make) = (inst, c.owner, c.dep) in
     subst (All HasInstance) (sym (adds effects e inst make c orderly).one_more_machine) (All-push HasInstance (machines effects) (next_machine effects e make) all new)
@@ -58,11 +59,14 @@ makes_of-last vms m i = ap (map make_of_machine) (filter-append (λ vm. is_of i 
 makes_new : (v : ℕ) (e : effect.Effect) (inst : Inst) (make : Make) → Creates e inst make → (i : Inst) → WhereSame i inst (makes_of (new_machine v e make ∷ []) i ≡ make ∷ []) (makes_of (new_machine v e make ∷ []) i ≡ [])
 makes_new v e inst make c i = grind (arith, same_inst_tells i inst, c.owner)
 
-makes_with : (effects : List Entry) (e : effect.Effect) (inst : Inst) (make : Make) (i : Inst) (new : List Make) → makes_in (more effects (Effect e)) i ≡ makes_in effects i ++ new → WhereSame i inst (new ≡ make ∷ []) (new ≡ []) → WhereSame i inst (makes_in (more effects (Effect e)) i ≡ makes_in effects i ++ make ∷ []) (makes_in (more effects (Effect e)) i ≡ makes_in effects i)
+makes_with : (effects : List Entry) (e : effect.Effect) (inst : Inst) (make : Make) (i : Inst) (new : List Make) →
+    makes_in (more effects (Effect e)) i ≡ makes_in effects i ++ new → WhereSame i inst (new ≡ make ∷ []) (new ≡ []) →
+    WhereSame i inst (makes_in (more effects (Effect e)) i ≡ makes_in effects i ++ make ∷ []) (makes_in (more effects (Effect e)) i ≡ makes_in effects i)
 makes_with effects e inst make i new all (inl own) = inl (own.0, all ∙ ap (λ rest. makes_in effects i ++ rest) own.1)
 makes_with effects e inst make i new all (inr other) = inr (other.0, all ∙ ap (λ rest. makes_in effects i ++ rest) other.1 ∙ append-nil (makes_in effects i))
 
-pub makes_of-more : (effects : List Entry) (e : effect.Effect) (inst : Inst) (make : Make) → Creates e inst make → IsOrderly effects → (i : Inst) → WhereSame i inst (makes_in (more effects (Effect e)) i ≡ makes_in effects i ++ make ∷ []) (makes_in (more effects (Effect e)) i ≡ makes_in effects i)
+pub makes_of-more : (effects : List Entry) (e : effect.Effect) (inst : Inst) (make : Make) → Creates e inst make → IsOrderly effects → (i : Inst) →
+    WhereSame i inst (makes_in (more effects (Effect e)) i ≡ makes_in effects i ++ make ∷ []) (makes_in (more effects (Effect e)) i ≡ makes_in effects i)
 makes_of-more effects e inst make c orderly i =
     let m : Machine = next_machine effects e make in
     makes_with effects e inst make i (makes_of (m ∷ []) i) (ap (λ vms. makes_of vms i) (adds effects e inst make c orderly).one_more_machine ∙ makes_of-last (machines effects) m i) (makes_new (vms_created effects + 1) e inst make c i)

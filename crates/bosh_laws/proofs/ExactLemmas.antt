@@ -120,7 +120,9 @@ lacks moves known i goal facts current none =
     clash known i m none some = let differ : None ≡ Some m = sym none ∙ some in cc
 
 -- one that it has
-has : (moves : List Move) (known : List Entry) (t : ℕ) (i : Inst) (goal : Goal) (want : row.GoalRow) → InstFacts known i → goal_of known i.dep ≡ Some goal → find (is_row_of i) goal.rows ≡ Some want → count_by (is_row_of i) goal.rows ≤ 1 → update_of known t i ≡ Finished → makes_recorded known moves i ≡ makes_wanted goal i
+has : (moves : List Move) (known : List Entry) (t : ℕ) (i : Inst) (goal : Goal) (want : row.GoalRow) → InstFacts known i →
+    goal_of known i.dep ≡ Some goal → find (is_row_of i) goal.rows ≡ Some want → count_by (is_row_of i) goal.rows ≤ 1 →
+    update_of known t i ≡ Finished → makes_recorded known moves i ≡ makes_wanted goal i
 has moves known t i goal want facts current is one done =
     let vm : (v : Vm) × (vm_of known i ≡ Some v) = some_of (vm_of known i) (facts.finished t done) in
     let make : (m : Make) × (make_of known i ≡ Some m) = some_of (make_of known i) (facts.has_make vm.0 vm.1) in
@@ -135,7 +137,9 @@ row_or_none None = inl refl
 row_or_none (Some a) = inr (a, refl)
 
 -- each instance of the deployment has what the goal wants of it
-goal_left : (m : Moment) (t : ℕ) (p : EndsTask m.known t) → Kept m → (goal : Goal) → p.task.goal ≡ Some goal → (i : Inst) → i.dep ≡ goal.dep → (find (is_row_of i) goal.rows ≡ None) ⊎ ((want : row.GoalRow) × (find (is_row_of i) goal.rows ≡ Some want)) → makes_recorded m.known m.moves i ≡ makes_wanted goal i
+goal_left : (m : Moment) (t : ℕ) (p : EndsTask m.known t) → Kept m → (goal : Goal) → p.task.goal ≡ Some goal → (i : Inst) → i.dep ≡ goal.dep →
+    (find (is_row_of i) goal.rows ≡ None) ⊎ ((want : row.GoalRow) × (find (is_row_of i) goal.rows ≡ Some want)) →
+    makes_recorded m.known m.moves i ≡ makes_wanted goal i
 goal_left m t p k goal of_task i dep (inl none) =
     let facts : GoalFacts m.known p.task goal = k.director.goals t p.task goal of_task p.opened in
     lacks m.moves m.known i goal (k.director.insts i) (ap (goal_of m.known) dep ∙ facts.is_current) none

@@ -50,7 +50,9 @@ pub record InstFacts (known : List Entry) (i : Inst) : Type 0 where
 
 -- ---- an entry that says nothing of it
 
-InstFacts-same : (known after : List Entry) (i : Inst) → InstFacts known i → make_of after i ≡ make_of known i → wanted after i ≡ wanted known i → doubt_of after i ≡ doubt_of known i → ((n : ℕ) → caller known n ≡ Some (Instance i) → begin_of after n ≡ begin_of known n) → vm_of after i ≡ vm_of known i → ((t : ℕ) → update_of after t i ≡ Finished → vm_of known i ≢ None) → InstFacts after i
+InstFacts-same : (known after : List Entry) (i : Inst) → InstFacts known i → make_of after i ≡ make_of known i → wanted after i ≡ wanted known i →
+    doubt_of after i ≡ doubt_of known i → ((n : ℕ) → caller known n ≡ Some (Instance i) → begin_of after n ≡ begin_of known n) →
+    vm_of after i ≡ vm_of known i → ((t : ℕ) → update_of after t i ≡ Finished → vm_of known i ≢ None) → InstFacts after i
 InstFacts-same known after i k make want doubt begin vm done = record {
   as_wanted = λ m is. want ∙ k.as_wanted m (sym make ∙ is);
   own_call = λ n is. let own : caller known n ≡ Some (Instance i) = k.own_call n (sym doubt ∙ is) in ap (option_map owner_of) (begin n own) ∙ own;
@@ -66,14 +68,18 @@ wanted_by i goal = option_map make_wanted (option_and_then (λ (g : Goal). find 
 wanted-stays : (known : List Entry) (e : Entry) (i : Inst) → goal_set i.dep e ≡ None → wanted (more known e) i ≡ wanted known i
 wanted-stays known e i none = ap (wanted_by i) (goal_of-stays known e i.dep none)
 
-InstFacts-stays : (known : List Entry) (e : Entry) (i : Inst) → InstFacts known i → made_from i e ≡ None → goal_set i.dep e ≡ None → doubt_told i known e ≡ None → ((n : ℕ) → begins n e ≡ None) → vm_told i known e ≡ None → ((t : ℕ) → update_of (more known e) t i ≡ Finished → vm_of known i ≢ None) → InstFacts (more known e) i
+InstFacts-stays : (known : List Entry) (e : Entry) (i : Inst) → InstFacts known i → made_from i e ≡ None → goal_set i.dep e ≡ None →
+    doubt_told i known e ≡ None → ((n : ℕ) → begins n e ≡ None) → vm_told i known e ≡ None →
+    ((t : ℕ) → update_of (more known e) t i ≡ Finished → vm_of known i ≢ None) → InstFacts (more known e) i
 InstFacts-stays known e i k makes_none sets_none doubts_none begins_none vms_none done =
     InstFacts-same known (more known e) i k (make_of-stays known e i makes_none) (wanted-stays known e i sets_none) (doubt_of-stays known e i doubts_none) (λ n own. begin_of-stays known e n (begins_none n)) (vm_of-stays known e i vms_none) done
 
 -- ---- a task opens
 
 -- a goal that is set anew is of a deployment that had none, so of no instance that has a make
-wanted-open : (known : List Entry) (o : task_open.TaskOpen) (p : Opens known o) (i : Inst) (m : Make) → wanted known i ≡ Some m → WhereSame i.dep p.goal.dep (goal_of (more known (entries.TaskOpen o)) i.dep ≡ Some p.goal) (goal_of (more known (entries.TaskOpen o)) i.dep ≡ goal_of known i.dep) → wanted (more known (entries.TaskOpen o)) i ≡ Some m
+wanted-open : (known : List Entry) (o : task_open.TaskOpen) (p : Opens known o) (i : Inst) (m : Make) → wanted known i ≡ Some m →
+    WhereSame i.dep p.goal.dep (goal_of (more known (entries.TaskOpen o)) i.dep ≡ Some p.goal) (goal_of (more known (entries.TaskOpen o)) i.dep ≡ goal_of known i.dep) →
+    wanted (more known (entries.TaskOpen o)) i ≡ Some m
 wanted-open known o p i m is (inl own) =
     let clash : None ≡ Some m = sym (ap (wanted_by i) (ap (goal_of known) own.0 ∙ p.is_new)) ∙ is in
     absurd cc
@@ -131,7 +137,8 @@ InstFacts-begin known call p i fresh k = begin_by known call p i fresh k (same_o
 -- ---- a call ends
 
 -- where it says nothing of the instance's doubt and machine
-InstFacts-end : (known : List Entry) (e : end.End) (i : Inst) → InstFacts known i → doubt_of (more known (entries.End e)) i ≡ doubt_of known i → vm_of (more known (entries.End e)) i ≡ vm_of known i → InstFacts (more known (entries.End e)) i
+InstFacts-end : (known : List Entry) (e : end.End) (i : Inst) → InstFacts known i → doubt_of (more known (entries.End e)) i ≡ doubt_of known i →
+    vm_of (more known (entries.End e)) i ≡ vm_of known i → InstFacts (more known (entries.End e)) i
 InstFacts-end known e i k doubt vm =
     InstFacts-same known (more known (entries.End e)) i k (make_of-stays known (entries.End e) i refl) (wanted-stays known (entries.End e) i refl) doubt (λ n own. begin_of-stays known (entries.End e) n refl) vm
     (λ t is. k.finished t (sym (update_of-stays known (entries.End e) t i refl) ∙ is))
@@ -140,7 +147,8 @@ pub InstFacts-failed : (known : List Entry) (e : end.End) (inst : Inst) (p : End
 InstFacts-failed known e inst p failed i k = InstFacts-end known e i k (doubt_of-failed known e inst p failed i) (vm_of-failed known e inst p failed i)
 
 -- the instance has its machine
-InstFacts-has : (known : List Entry) (e : end.End) (inst : Inst) (p : Ended known e.n inst) (v : ℕ) → e.answer ≡ Cid v → make_of known inst ≡ Some p.make → InstFacts known inst → InstFacts (more known (entries.End e)) inst
+InstFacts-has : (known : List Entry) (e : end.End) (inst : Inst) (p : Ended known e.n inst) (v : ℕ) → e.answer ≡ Cid v →
+    make_of known inst ≡ Some p.make → InstFacts known inst → InstFacts (more known (entries.End e)) inst
 InstFacts-has known e inst p v is asked k =
     let make : make_of (more known (entries.End e)) inst ≡ make_of known inst = make_of-stays known (entries.End e) inst refl in
     let doubt : doubt_of (more known (entries.End e)) inst ≡ None = grind (arith, doubt_of-created known e inst p v is inst) in
@@ -153,11 +161,13 @@ InstFacts-has known e inst p v is asked k =
       finished = λ t is none. grind (arith, vm, none);
     }
 
-created_by : (known : List Entry) (e : end.End) (inst : Inst) (p : Ended known e.n inst) (v : ℕ) → e.answer ≡ Cid v → make_of known inst ≡ Some p.make → (i : Inst) → InstFacts known i → (i ≡ inst) ⊎ (i ≢ inst) → InstFacts (more known (entries.End e)) i
+created_by : (known : List Entry) (e : end.End) (inst : Inst) (p : Ended known e.n inst) (v : ℕ) → e.answer ≡ Cid v →
+    make_of known inst ≡ Some p.make → (i : Inst) → InstFacts known i → (i ≡ inst) ⊎ (i ≢ inst) → InstFacts (more known (entries.End e)) i
 created_by known e inst p v is asked i k (inl own) = subst (InstFacts (more known (entries.End e))) (sym own) (InstFacts-has known e inst p v is asked (subst (InstFacts known) own k))
 created_by known e inst p v is asked i k (inr other) = InstFacts-end known e i k (elsewhere other (doubt_of-created known e inst p v is i)) (elsewhere other (vm_of-created known e inst p v is i))
 
-pub InstFacts-created : (known : List Entry) (e : end.End) (inst : Inst) (p : Ended known e.n inst) (v : ℕ) → e.answer ≡ Cid v → make_of known inst ≡ Some p.make → (i : Inst) → InstFacts known i → InstFacts (more known (entries.End e)) i
+pub InstFacts-created : (known : List Entry) (e : end.End) (inst : Inst) (p : Ended known e.n inst) (v : ℕ) → e.answer ≡ Cid v →
+    make_of known inst ≡ Some p.make → (i : Inst) → InstFacts known i → InstFacts (more known (entries.End e)) i
 InstFacts-created known e inst p v is asked i k = created_by known e inst p v is asked i k (same_or_other i inst)
 
 -- ---- updates and ends of tasks

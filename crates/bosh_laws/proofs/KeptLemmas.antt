@@ -56,7 +56,8 @@ Kept-begin m call p k = record {
   belong = k.belong;
 }
 
-ends_by : (m : Moment) (e : end.End) (p : EndsCall m.moves e) → Kept m → (o : OpenCall m e.n) → IsAnswered m.effects o.inst e.n p.done → KnownFacts (more m.known (entries.End e)) × ((i : Inst) → TieFacts (noting m (entries.End e)) i)
+ends_by : (m : Moment) (e : end.End) (p : EndsCall m.moves e) → Kept m → (o : OpenCall m e.n) → IsAnswered m.effects o.inst e.n p.done →
+    KnownFacts (more m.known (entries.End e)) × ((i : Inst) → TieFacts (noting m (entries.End e)) i)
 ends_by m e p k o (inl failed) =
     let answer : e.answer ≡ Failed = sym p.answered ∙ failed in
     (KnownFacts-failed m.known e o.inst (Ended-open m e.n o) answer k.director, λ i. TieFacts-failed m e o answer i (k.ties i))
@@ -128,7 +129,8 @@ without m d not_yet none failed k = record {
 }
 
 -- with its effect, also where it then failed
-took_by : (m : Moment) (d : did.Did) (o : OpenCall m d.n) → o.call.n ≡ d.n → d.effect ≡ true → (d.answer ≡ Cid (vms_created m.effects + 1)) ⊎ (d.answer ≡ Failed) → IsAnswered (more m.effects (Effect (effect_of o))) o.inst d.n d
+took_by : (m : Moment) (d : did.Did) (o : OpenCall m d.n) → o.call.n ≡ d.n → d.effect ≡ true →
+    (d.answer ≡ Cid (vms_created m.effects + 1)) ⊎ (d.answer ≡ Failed) → IsAnswered (more m.effects (Effect (effect_of o))) o.inst d.n d
 took_by m d o number took (inl answer) =
     let new : IsMade (more m.effects (Effect (effect_of o))) o.inst o.call.n (vms_created m.effects + 1) = IsMade-new m.effects (effect_of o) o.inst o.make (Creates-effect o) in
     inr (record { machine = vms_created m.effects + 1; answer = answer; took = took; made = subst (λ n. IsMade (more m.effects (Effect (effect_of o))) o.inst n (vms_created m.effects + 1)) number new })
@@ -142,7 +144,8 @@ one_inst m n a b =
     let owners : Instance a.inst ≡ Instance b.inst = sym a.owner ∙ ap (λ (x : begin.Begin). x.owner) call ∙ b.owner in
     cc
 
-with_effect : (m : Moment) (d : did.Did) → did_of m.moves d.n ≡ None → d.effect ≡ true → (o : OpenCall m d.n) → (d.answer ≡ Cid (vms_created m.effects + 1)) ⊎ (d.answer ≡ Failed) → Kept m → Kept (performing m d (more m.effects (Effect (effect_of o))))
+with_effect : (m : Moment) (d : did.Did) → did_of m.moves d.n ≡ None → d.effect ≡ true → (o : OpenCall m d.n) →
+    (d.answer ≡ Cid (vms_created m.effects + 1)) ⊎ (d.answer ≡ Failed) → Kept m → Kept (performing m d (more m.effects (Effect (effect_of o))))
 with_effect m d not_yet took o answer k =
     let is : IsAnswered (more m.effects (Effect (effect_of o))) o.inst d.n d = took_by m d o (k.director.calls d.n o.call o.began).own_number took answer in
     let its : (x : OpenCall m d.n) → IsAnswered (more m.effects (Effect (effect_of o))) x.inst d.n d = λ x. subst (λ i. IsAnswered (more m.effects (Effect (effect_of o))) i d.n d) (one_inst m d.n o x) is in
@@ -156,7 +159,8 @@ with_effect m d not_yet took o answer k =
     }
 
 -- the step rule at an open call
-step_of : (m : Moment) (d : did.Did) (o : OpenCall m d.n) (call : begin.Begin) → begin_of m.known d.n ≡ Some call → CallStep built m.effects call.call d.effect d.answer → ((d.answer ≡ Cid (vms_created m.effects + 1)) × (d.effect ≡ true)) ⊎ (d.answer ≡ Failed)
+step_of : (m : Moment) (d : did.Did) (o : OpenCall m d.n) (call : begin.Begin) → begin_of m.known d.n ≡ Some call →
+    CallStep built m.effects call.call d.effect d.answer → ((d.answer ≡ Cid (vms_created m.effects + 1)) × (d.effect ≡ true)) ⊎ (d.answer ≡ Failed)
 step_of m d o call began step =
     let both : Some call ≡ Some o.call = sym began ∙ o.began in
     let same : call ≡ o.call = cc in
@@ -169,14 +173,18 @@ answer_with d v is = grind (arith, is)
 answer_without : (d : did.Did) (v : ℕ) → d.effect ≡ false → ((d.answer ≡ Cid v) × (d.effect ≡ true)) ⊎ (d.answer ≡ Failed) → d.answer ≡ Failed
 answer_without d v none is = grind (arith, is)
 
-did_by : (m : Moment) (d : did.Did) (added : List Entry) → did_of m.moves d.n ≡ None → (o : OpenCall m d.n) → ((d.answer ≡ Cid (vms_created m.effects + 1)) × (d.effect ≡ true)) ⊎ (d.answer ≡ Failed) → Kept m → ((d.effect ≡ true) × (added ≡ Effect (effect_of o) ∷ [])) ⊎ ((d.effect ≡ false) × (added ≡ [])) → Kept (performing m d (m.effects ++ added))
+did_by : (m : Moment) (d : did.Did) (added : List Entry) → did_of m.moves d.n ≡ None → (o : OpenCall m d.n) →
+    ((d.answer ≡ Cid (vms_created m.effects + 1)) × (d.effect ≡ true)) ⊎ (d.answer ≡ Failed) → Kept m →
+    ((d.effect ≡ true) × (added ≡ Effect (effect_of o) ∷ [])) ⊎ ((d.effect ≡ false) × (added ≡ [])) → Kept (performing m d (m.effects ++ added))
 did_by m d added not_yet o step k (inl took) =
     subst (λ last. Kept (performing m d (m.effects ++ last))) (sym took.1) (with_effect m d not_yet took.0 o (answer_with d (vms_created m.effects + 1) step) k)
 did_by m d added not_yet o step k (inr none) =
     let same : m.effects ++ added ≡ m.effects = ap (λ last. m.effects ++ last) none.1 ∙ append-nil m.effects in
     subst (λ effects. Kept (performing m d effects)) (sym same) (without m d not_yet none.0 (answer_without d (vms_created m.effects + 1) none.0 step) k)
 
-pub Kept-performing : (m : Moment) (d : did.Did) → is_open m.moves d.n ≡ true → did_of m.moves d.n ≡ None → (call : begin.Begin) → begin_of m.known d.n ≡ Some call → CallStep built m.effects call.call d.effect d.answer → Kept m → Kept (performing m d (m.effects ++ effect_of_call (begin_of m.known d.n) d.effect))
+pub Kept-performing : (m : Moment) (d : did.Did) → is_open m.moves d.n ≡ true → did_of m.moves d.n ≡ None → (call : begin.Begin) →
+    begin_of m.known d.n ≡ Some call → CallStep built m.effects call.call d.effect d.answer → Kept m →
+    Kept (performing m d (m.effects ++ effect_of_call (begin_of m.known d.n) d.effect))
 Kept-performing m d is not_yet call began step k =
     let o : OpenCall m d.n = k.open_calls d.n is in
     did_by m d (effect_of_call (begin_of m.known d.n) d.effect) not_yet o (step_of m d o call began step) k (added m d.n d.effect o)

@@ -38,7 +38,9 @@ fresh known k call p = fresh_call known call p.number (k.calls call.n)
 
 -- ---- an entry on no call, task or update
 
-KnownFacts-stays : (known : List Entry) (e : Entry) → ((n : ℕ) → begins n e ≡ None) → call_number e ≡ None → ((t : ℕ) → opens t e ≡ None) → opens_task e ≡ false → ((dep : List ℕ) → goal_set dep e ≡ None) → ((t : ℕ) (i : Inst) → updates t i e ≡ None) → KnownFacts known → ((i : Inst) → InstFacts (more known e) i) → KnownFacts (more known e)
+KnownFacts-stays : (known : List Entry) (e : Entry) → ((n : ℕ) → begins n e ≡ None) → call_number e ≡ None → ((t : ℕ) → opens t e ≡ None) →
+    opens_task e ≡ false → ((dep : List ℕ) → goal_set dep e ≡ None) → ((t : ℕ) (i : Inst) → updates t i e ≡ None) → KnownFacts known →
+    ((i : Inst) → InstFacts (more known e) i) → KnownFacts (more known e)
 KnownFacts-stays known e begins_none numbers_none opens_none no_task sets_none updates_none k insts = record {
   calls = λ n b is. CallFacts-stays known e n b (begins_none n) numbers_none (k.calls n b) is;
   tasks = λ t task is. TaskNumber-stays known e t task (opens_none t) no_task (k.tasks t task) is;
@@ -74,7 +76,8 @@ pub KnownFacts-failed : (known : List Entry) (e : end.End) (inst : Inst) → End
 KnownFacts-failed known e inst p failed k =
     KnownFacts-stays known (entries.End e) (λ n. refl) refl (λ t. refl) refl (λ dep. refl) (λ t i. refl) k (λ i. InstFacts-failed known e inst p failed i (k.insts i))
 
-pub KnownFacts-created : (known : List Entry) (e : end.End) (inst : Inst) (p : Ended known e.n inst) (v : ℕ) → e.answer ≡ Cid v → make_of known inst ≡ Some p.make → KnownFacts known → KnownFacts (more known (entries.End e))
+pub KnownFacts-created : (known : List Entry) (e : end.End) (inst : Inst) (p : Ended known e.n inst) (v : ℕ) → e.answer ≡ Cid v →
+    make_of known inst ≡ Some p.make → KnownFacts known → KnownFacts (more known (entries.End e))
 KnownFacts-created known e inst p v is asked k =
     KnownFacts-stays known (entries.End e) (λ n. refl) refl (λ t. refl) refl (λ dep. refl) (λ t i. refl) k (λ i. InstFacts-created known e inst p v is asked i (k.insts i))
 

@@ -56,7 +56,9 @@ same_busy f g same xs = ap (λ h. count_by is_busy (map h xs)) (fun_ext same)
 busier_one : (j x : Inst) (before after : Upd) → (after ≡ Busy → (j ≡ x) ⊎ (before ≡ Busy)) → one_if (is_busy after) ≤ one_if (is_busy before) + one_if (same_inst j x)
 busier_one j x before after step = grind (arith, same_inst_tells j x)
 
-busier_step : (f g : Inst → Upd) (j x : Inst) (xs : List Inst) → (g x ≡ Busy → (j ≡ x) ⊎ (f x ≡ Busy)) → count_by is_busy (map g xs) ≤ count_by is_busy (map f xs) + count_by (same_inst j) xs → count_by is_busy (map g (x ∷ xs)) ≤ count_by is_busy (map f (x ∷ xs)) + count_by (same_inst j) (x ∷ xs)
+busier_step : (f g : Inst → Upd) (j x : Inst) (xs : List Inst) → (g x ≡ Busy → (j ≡ x) ⊎ (f x ≡ Busy)) →
+    count_by is_busy (map g xs) ≤ count_by is_busy (map f xs) + count_by (same_inst j) xs →
+    count_by is_busy (map g (x ∷ xs)) ≤ count_by is_busy (map f (x ∷ xs)) + count_by (same_inst j) (x ∷ xs)
 busier_step f g j x xs step rest =
     let one : one_if (is_busy (g x)) ≤ one_if (is_busy (f x)) + one_if (same_inst j x) = busier_one j x (f x) (g x) step in
     let after : count_by is_busy (map g (x ∷ xs)) ≡ one_if (is_busy (g x)) + count_by is_busy (map g xs) = count_by-cons is_busy (g x) (map g xs) in
@@ -98,7 +100,9 @@ le_of_zero is = omega arith
 same_or_not : (n m : ℕ) → (n ≡ m) ⊎ (n ≢ m)
 same_or_not n m = grind (arith, eqb_tells n m)
 
-open_by : (known : List Entry) (o : task_open.TaskOpen) (t : ℕ) (task : task_open.TaskOpen) (limit : ℕ) → TaskNumbered known t task → IsLimited known t task limit → ((o ≡ task) ⊎ ((o.task ≢ t) × (opening_of known t ≡ Some task))) → in_flight (more known (entries.TaskOpen o)) task ≤ limit
+open_by : (known : List Entry) (o : task_open.TaskOpen) (t : ℕ) (task : task_open.TaskOpen) (limit : ℕ) → TaskNumbered known t task →
+    IsLimited known t task limit → ((o ≡ task) ⊎ ((o.task ≢ t) × (opening_of known t ≡ Some task))) →
+    in_flight (more known (entries.TaskOpen o)) task ≤ limit
 open_by known o t task limit number k (inl it) =
     let all : (i : Inst) → update_of (more known (entries.TaskOpen o)) o.task i ≡ Todo = opened_waits known o in
     subst (λ x. in_flight (more known (entries.TaskOpen o)) x ≤ limit) it (le_of_zero (none_busy (update_of (more known (entries.TaskOpen o)) o.task) all o.changed))
@@ -107,10 +111,12 @@ open_by known o t task limit number k (inr was) =
     let same : (i : Inst) → update_of (more known (entries.TaskOpen o)) task.task i ≡ update_of known task.task i = others_wait known o task.task (λ is. was.0 (is ∙ n.own_number)) in
     subst (λ count. count ≤ limit) (sym (same_busy (update_of (more known (entries.TaskOpen o)) task.task) (update_of known task.task) same task.changed)) (k was.1)
 
-opened_before : (known : List Entry) (o : task_open.TaskOpen) (t : ℕ) (task : task_open.TaskOpen) → opening_of (more known (entries.TaskOpen o)) t ≡ Some task → (o ≡ task) ⊎ ((o.task ≢ t) × (opening_of known t ≡ Some task))
+opened_before : (known : List Entry) (o : task_open.TaskOpen) (t : ℕ) (task : task_open.TaskOpen) →
+    opening_of (more known (entries.TaskOpen o)) t ≡ Some task → (o ≡ task) ⊎ ((o.task ≢ t) × (opening_of known t ≡ Some task))
 opened_before known o t task is = grind (arith, latest_last, eqb_tells o.task t, is)
 
-pub in_flight-open : (known : List Entry) (o : task_open.TaskOpen) (t : ℕ) (task : task_open.TaskOpen) (limit : ℕ) → TaskNumbered known t task → IsLimited known t task limit → IsLimited (more known (entries.TaskOpen o)) t task limit
+pub in_flight-open : (known : List Entry) (o : task_open.TaskOpen) (t : ℕ) (task : task_open.TaskOpen) (limit : ℕ) → TaskNumbered known t task →
+    IsLimited known t task limit → IsLimited (more known (entries.TaskOpen o)) t task limit
 in_flight-open known o t task limit number k is = open_by known o t task limit number k (opened_before known o t task is)
 
 -- ---- an update begins: one more is in flight, where it is of the task
@@ -121,7 +127,9 @@ begin_other known u t i other = grind (arith, latest_last, eqb_tells u.task t)
 begin_one : (known : List Entry) (u : update.Update) (t : ℕ) (i : Inst) → update_of (more known (entries.UpdBegin u)) t i ≡ Busy → (u.inst ≡ i) ⊎ (update_of known t i ≡ Busy)
 begin_one known u t i is = grind (arith, latest_last, same_inst_tells i u.inst)
 
-begin_by : (known : List Entry) (u : update.Update) (t : ℕ) (task : task_open.TaskOpen) (limit : ℕ) → TaskNumber known t task → in_flight known task ≤ limit → (u.task ≡ t → (in_flight known task < limit) × (count_by (same_inst u.inst) task.changed ≤ 1)) → ((u.task ≡ t) ⊎ (u.task ≢ t)) → in_flight (more known (entries.UpdBegin u)) task ≤ limit
+begin_by : (known : List Entry) (u : update.Update) (t : ℕ) (task : task_open.TaskOpen) (limit : ℕ) → TaskNumber known t task →
+    in_flight known task ≤ limit → (u.task ≡ t → (in_flight known task < limit) × (count_by (same_inst u.inst) task.changed ≤ 1)) →
+    ((u.task ≡ t) ⊎ (u.task ≢ t)) → in_flight (more known (entries.UpdBegin u)) task ≤ limit
 begin_by known u t task limit number k step (inl it) =
     let room : (in_flight known task < limit) × (count_by (same_inst u.inst) task.changed ≤ 1) = step it in
     let grows : in_flight (more known (entries.UpdBegin u)) task ≤ in_flight known task + count_by (same_inst u.inst) task.changed = busier (update_of known task.task) (update_of (more known (entries.UpdBegin u)) task.task) u.inst (begin_one known u task.task) task.changed in
@@ -130,7 +138,8 @@ begin_by known u t task limit number k step (inr other) =
     subst (λ count. count ≤ limit) (sym (same_busy (update_of (more known (entries.UpdBegin u)) task.task) (update_of known task.task) (λ i. begin_other known u task.task i (λ is. other (is ∙ number.own_number))) task.changed)) k
 
 -- the task of the update, its goal and its group are those of the permission
-its_limit : (known : List Entry) (u : update.Update) (p : BeginsUpdate known u) (task : task_open.TaskOpen) (goal : Goal) (group : GroupPlan) → opening_of known u.task ≡ Some task → task.goal ≡ Some goal → goal.groups ≡ group ∷ [] → in_flight known task < group.limit
+its_limit : (known : List Entry) (u : update.Update) (p : BeginsUpdate known u) (task : task_open.TaskOpen) (goal : Goal) (group : GroupPlan) →
+    opening_of known u.task ≡ Some task → task.goal ≡ Some goal → goal.groups ≡ group ∷ [] → in_flight known task < group.limit
 its_limit known u p task goal group opened has one =
     let tasks : Some p.task ≡ Some task = sym p.opened ∙ opened in
     let same : p.task ≡ task = cc in
@@ -143,7 +152,9 @@ its_limit known u p task goal group opened has one =
     let room : in_flight known p.task < p.group.limit = p.may_begin.below_limit in
     omega arith
 
-pub in_flight-begin : (known : List Entry) (u : update.Update) (p : BeginsUpdate known u) (t : ℕ) (task : task_open.TaskOpen) (goal : Goal) (group : GroupPlan) → task.goal ≡ Some goal → goal.groups ≡ group ∷ [] → TaskNumbered known t task → HasGoal known t task goal → IsLimited known t task group.limit → IsLimited (more known (entries.UpdBegin u)) t task group.limit
+pub in_flight-begin : (known : List Entry) (u : update.Update) (p : BeginsUpdate known u) (t : ℕ) (task : task_open.TaskOpen) (goal : Goal) (group : GroupPlan) →
+    task.goal ≡ Some goal → goal.groups ≡ group ∷ [] → TaskNumbered known t task → HasGoal known t task goal → IsLimited known t task group.limit →
+    IsLimited (more known (entries.UpdBegin u)) t task group.limit
 in_flight-begin known u p t task goal group has one number facts k is =
     let was : opening_of known t ≡ Some task = sym (opening_of-stays known (entries.UpdBegin u) t refl) ∙ is in
     let f : GoalFacts known task goal = facts was in
@@ -164,6 +175,7 @@ in_flight-done known u t task limit k is =
 
 -- ---- another entry moves no instance
 
-pub in_flight-stays : (known : List Entry) (e : Entry) (t : ℕ) (task : task_open.TaskOpen) (limit : ℕ) → opens t e ≡ None → ((i : Inst) → updates task.task i e ≡ None) → IsLimited known t task limit → IsLimited (more known e) t task limit
+pub in_flight-stays : (known : List Entry) (e : Entry) (t : ℕ) (task : task_open.TaskOpen) (limit : ℕ) → opens t e ≡ None →
+    ((i : Inst) → updates task.task i e ≡ None) → IsLimited known t task limit → IsLimited (more known e) t task limit
 in_flight-stays known e t task limit opens_none moves_none k is =
     subst (λ count. count ≤ limit) (sym (same_busy (update_of (more known e) task.task) (update_of known task.task) (λ i. update_of-stays known e task.task i (moves_none i)) task.changed)) (k (sym (opening_of-stays known e t opens_none) ∙ is))

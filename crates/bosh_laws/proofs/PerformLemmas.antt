@@ -24,7 +24,8 @@ abbrev pub built : KeyWork → List Digest → Digest
 built work deps = work.key.fingerprint
 
 -- what the step rule says of a creation
-pub IsStep : (effects : List Entry) (make : Make) (has_effect : Bool) (answer : Answer) → CallStep built effects (CreateVm make []) has_effect answer → ((answer ≡ Cid (vms_created effects + 1)) × (has_effect ≡ true)) ⊎ (answer ≡ Failed)
+pub IsStep : (effects : List Entry) (make : Make) (has_effect : Bool) (answer : Answer) →
+    CallStep built effects (CreateVm make []) has_effect answer → ((answer ≡ Cid (vms_created effects + 1)) × (has_effect ≡ true)) ⊎ (answer ≡ Failed)
 IsStep effects make has_effect answer (inl is) = inl (is.0, is.1)
 IsStep effects make has_effect answer (inr failed) = inr failed.0
 
@@ -36,6 +37,7 @@ pub Creates-effect : {m : Moment} {n : ℕ} (o : OpenCall m n) → Creates (effe
 Creates-effect o = record { owner = o.owner; dep = refl; call = o.creates }
 
 -- what it adds to the effects
-pub added : (m : Moment) (n : ℕ) (has_effect : Bool) (o : OpenCall m n) → ((has_effect ≡ true) × (effect_of_call (begin_of m.known n) has_effect ≡ Effect (effect_of o) ∷ [])) ⊎ ((has_effect ≡ false) × (effect_of_call (begin_of m.known n) has_effect ≡ []))
+pub added : (m : Moment) (n : ℕ) (has_effect : Bool) (o : OpenCall m n) →
+    ((has_effect ≡ true) × (effect_of_call (begin_of m.known n) has_effect ≡ Effect (effect_of o) ∷ [])) ⊎ ((has_effect ≡ false) × (effect_of_call (begin_of m.known n) has_effect ≡ []))
 added m n true o = inl (refl, ap (λ b. effect_of_call b true) o.began ∙ ap (λ owner. effect_by o.call (instance_of owner)) o.owner)
 added m n false o = inr (refl, ap (λ b. effect_of_call b false) o.began)

@@ -50,10 +50,12 @@ pub did_of-stays : (moves : List Move) (move : Move) (n : ℕ) → performs n mo
 did_of-stays moves move n none = latest_last (performs n) None moves move ∙ ap (λ said. chosen said (did_of moves n)) none
 
 -- a permitted call asks for a machine of its instance, and is in doubt
-pub make_of-begin : (known : List Entry) (call : begin.Begin) (p : Begins known call) (i : Inst) → WhereSame i p.inst (make_of (more known (entries.Begin call)) i ≡ Some p.want.make) (make_of (more known (entries.Begin call)) i ≡ make_of known i)
+pub make_of-begin : (known : List Entry) (call : begin.Begin) (p : Begins known call) (i : Inst) →
+    WhereSame i p.inst (make_of (more known (entries.Begin call)) i ≡ Some p.want.make) (make_of (more known (entries.Begin call)) i ≡ make_of known i)
 make_of-begin known call p i = grind (arith, latest_last, same_inst_tells i p.inst, p.owner, p.creates)
 
-pub doubt_of-begin : (known : List Entry) (call : begin.Begin) (p : Begins known call) (i : Inst) → WhereSame i p.inst (doubt_of (more known (entries.Begin call)) i ≡ Some call.n) (doubt_of (more known (entries.Begin call)) i ≡ doubt_of known i)
+pub doubt_of-begin : (known : List Entry) (call : begin.Begin) (p : Begins known call) (i : Inst) →
+    WhereSame i p.inst (doubt_of (more known (entries.Begin call)) i ≡ Some call.n) (doubt_of (more known (entries.Begin call)) i ≡ doubt_of known i)
 doubt_of-begin known call p i = grind (arith, latest_seen_last, same_inst_tells i p.inst, p.owner, p.creates)
 
 pub vm_of-begin : (known : List Entry) (call : begin.Begin) (i : Inst) → vm_of (more known (entries.Begin call)) i ≡ vm_of known i
@@ -75,8 +77,10 @@ pub doubt_of-failed : (known : List Entry) (e : end.End) (inst : Inst) (p : Ende
 doubt_of-failed known e inst p is i = grind (arith, latest_seen_last, same_inst_tells i inst, is, p.began, p.owner)
 
 -- a number is the machine of the instance, and ends the doubt
-pub vm_of-created : (known : List Entry) (e : end.End) (inst : Inst) (p : Ended known e.n inst) (v : ℕ) → e.answer ≡ Cid v → (i : Inst) → WhereSame i inst (vm_of (more known (entries.End e)) i ≡ Some (record { vm = v; agent = p.call.n })) (vm_of (more known (entries.End e)) i ≡ vm_of known i)
+pub vm_of-created : (known : List Entry) (e : end.End) (inst : Inst) (p : Ended known e.n inst) (v : ℕ) → e.answer ≡ Cid v → (i : Inst) →
+    WhereSame i inst (vm_of (more known (entries.End e)) i ≡ Some (record { vm = v; agent = p.call.n })) (vm_of (more known (entries.End e)) i ≡ vm_of known i)
 vm_of-created known e inst p v is i = grind (arith, latest_seen_last, same_inst_tells i inst, is, p.began, p.owner, p.creates)
 
-pub doubt_of-created : (known : List Entry) (e : end.End) (inst : Inst) (p : Ended known e.n inst) (v : ℕ) → e.answer ≡ Cid v → (i : Inst) → WhereSame i inst (doubt_of (more known (entries.End e)) i ≡ None) (doubt_of (more known (entries.End e)) i ≡ doubt_of known i)
+pub doubt_of-created : (known : List Entry) (e : end.End) (inst : Inst) (p : Ended known e.n inst) (v : ℕ) → e.answer ≡ Cid v → (i : Inst) →
+    WhereSame i inst (doubt_of (more known (entries.End e)) i ≡ None) (doubt_of (more known (entries.End e)) i ≡ doubt_of known i)
 doubt_of-created known e inst p v is i = grind (arith, latest_seen_last, same_inst_tells i inst, is, p.began, p.owner, p.creates)

@@ -132,11 +132,15 @@ pub at_the_end : (moves : List Move) → IsRun nothing moves → HangsTogether m
 at_the_end moves run = kept_along (IsPermitted nothing) HangsTogether step [] moves start run
 
 -- what follows at each move
-each_by : (Q : List Move → Move → Type 0) → ((moves : List Move) (move : Move) → HangsTogether moves → IsPermitted nothing moves move → Q moves move) → (before moves : List Move) → HangsTogether before → EachAfter (IsPermitted nothing) before moves → EachAfter Q before moves
+each_by : (Q : List Move → Move → Type 0) →
+    ((moves : List Move) (move : Move) → HangsTogether moves → IsPermitted nothing moves move → Q moves move) → (before moves : List Move) →
+    HangsTogether before → EachAfter (IsPermitted nothing) before moves → EachAfter Q before moves
 each_by Q shows before [] k run = tt
 each_by Q shows before (move ∷ moves) k run = (shows before move k run.0, each_by Q shows (before ++ move ∷ []) moves (step before move k run.0) run.1)
 
-pub at_each_move : (Q : List Move → Move → Type 0) → ((moves : List Move) (move : Move) → HangsTogether moves → IsPermitted nothing moves move → Q moves move) → (moves : List Move) → IsRun nothing moves → EachAfter Q [] moves
+pub at_each_move : (Q : List Move → Move → Type 0) →
+    ((moves : List Move) (move : Move) → HangsTogether moves → IsPermitted nothing moves move → Q moves move) → (moves : List Move) →
+    IsRun nothing moves → EachAfter Q [] moves
 at_each_move Q shows moves run = each_by Q shows [] moves start run
 
 -- what follows at each moment

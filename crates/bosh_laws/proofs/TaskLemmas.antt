@@ -45,10 +45,12 @@ abbrev pub HasGoal : List Entry → ℕ → task_open.TaskOpen → Goal → Type
 HasGoal known t task goal = opening_of known t ≡ Some task → GoalFacts known task goal
 
 -- an opening sets the goal of its deployment
-pub goal_of-open : (known : List Entry) (o : task_open.TaskOpen) → (p : Opens known o) → (dep : List ℕ) → WhereSame dep p.goal.dep (goal_of (more known (entries.TaskOpen o)) dep ≡ Some p.goal) (goal_of (more known (entries.TaskOpen o)) dep ≡ goal_of known dep)
+pub goal_of-open : (known : List Entry) (o : task_open.TaskOpen) → (p : Opens known o) → (dep : List ℕ) →
+    WhereSame dep p.goal.dep (goal_of (more known (entries.TaskOpen o)) dep ≡ Some p.goal) (goal_of (more known (entries.TaskOpen o)) dep ≡ goal_of known dep)
 goal_of-open known o p dep = grind (arith, latest_last, name_tells dep p.goal.dep, p.of_the_deployment, p.has_goal)
 
-pub GoalFacts-open : (known : List Entry) (o : task_open.TaskOpen) → (p : Opens known o) → (t : ℕ) (task : task_open.TaskOpen) (goal : Goal) → task.goal ≡ Some goal → HasGoal known t task goal → HasGoal (more known (entries.TaskOpen o)) t task goal
+pub GoalFacts-open : (known : List Entry) (o : task_open.TaskOpen) → (p : Opens known o) → (t : ℕ) (task : task_open.TaskOpen) (goal : Goal) →
+    task.goal ≡ Some goal → HasGoal known t task goal → HasGoal (more known (entries.TaskOpen o)) t task goal
 GoalFacts-open known o p t task goal has k is = record {
   distinct = λ i.
       let earlier : opening_of known t ≡ Some task → count_by (same_inst i) (instances goal) ≤ 1 = λ was. (k was).distinct i in
@@ -68,7 +70,8 @@ pub record IsBegun (known : List Entry) (t : ℕ) (i : Inst) : Type 0 where
 abbrev pub BegunWhereBusy : List Entry → ℕ → Inst → Type 0
 BegunWhereBusy known t i = update_of known t i ≡ Busy → IsBegun known t i
 
-begun_before_open : (known : List Entry) (o : task_open.TaskOpen) → (t : ℕ) (i : Inst) → update_of (more known (entries.TaskOpen o)) t i ≡ Busy → (update_of known t i ≡ Busy) × ((task : task_open.TaskOpen) → opening_of known t ≡ Some task → opening_of (more known (entries.TaskOpen o)) t ≡ Some task)
+begun_before_open : (known : List Entry) (o : task_open.TaskOpen) → (t : ℕ) (i : Inst) → update_of (more known (entries.TaskOpen o)) t i ≡ Busy →
+    (update_of known t i ≡ Busy) × ((task : task_open.TaskOpen) → opening_of known t ≡ Some task → opening_of (more known (entries.TaskOpen o)) t ≡ Some task)
 begun_before_open known o t i is = grind (arith, latest_last, eqb_tells o.task t)
 
 pub IsBegun-open : (known : List Entry) (o : task_open.TaskOpen) → (t : ℕ) (i : Inst) → BegunWhereBusy known t i → BegunWhereBusy (more known (entries.TaskOpen o)) t i
@@ -84,7 +87,8 @@ TaskNumber-stays known e t task none opens_none k is =
     let count : tasks_opened (more known e) ≡ tasks_opened known = grind (arith, sum_by-append, opens_none) in
     record { own_number = was.own_number; counted = omega arith }
 
-pub GoalFacts-stays : (known : List Entry) (e : Entry) (t : ℕ) (task : task_open.TaskOpen) (goal : Goal) → opens t e ≡ None → ((dep : List ℕ) → goal_set dep e ≡ None) → HasGoal known t task goal → HasGoal (more known e) t task goal
+pub GoalFacts-stays : (known : List Entry) (e : Entry) (t : ℕ) (task : task_open.TaskOpen) (goal : Goal) → opens t e ≡ None →
+    ((dep : List ℕ) → goal_set dep e ≡ None) → HasGoal known t task goal → HasGoal (more known e) t task goal
 GoalFacts-stays known e t task goal none sets_none k is =
     let was : GoalFacts known task goal = k (sym (opening_of-stays known e t none) ∙ is) in
     record { distinct = was.distinct; changes_all = was.changes_all; is_current = goal_of-stays known e goal.dep (sets_none goal.dep) ∙ was.is_current }
@@ -99,7 +103,8 @@ IsBegun-stays known e t i none same k is = IsBegun-same known e t i none (k (sym
 begun_before : (known : List Entry) (u : update.Update) (t : ℕ) (i : Inst) → update_of (more known (entries.UpdBegin u)) t i ≡ Busy → ((u.task ≡ t) × (i ≡ u.inst)) ⊎ (update_of known t i ≡ Busy)
 begun_before known u t i is = grind (arith, latest_last, eqb_tells u.task t, same_inst_tells i u.inst, is)
 
-begun_by : (known : List Entry) (u : update.Update) (p : BeginsUpdate known u) (t : ℕ) (i : Inst) → BegunWhereBusy known t i → ((u.task ≡ t) × (i ≡ u.inst)) ⊎ (update_of known t i ≡ Busy) → IsBegun (more known (entries.UpdBegin u)) t i
+begun_by : (known : List Entry) (u : update.Update) (p : BeginsUpdate known u) (t : ℕ) (i : Inst) → BegunWhereBusy known t i →
+    ((u.task ≡ t) × (i ≡ u.inst)) ⊎ (update_of known t i ≡ Busy) → IsBegun (more known (entries.UpdBegin u)) t i
 begun_by known u p t i k (inl it) = IsBegun-same known (entries.UpdBegin u) t i refl (record { task = p.task; opened = ap (opening_of known) (sym it.0) ∙ p.opened; place = p.place; is_changed = p.is_changed ∙ ap Some (sym it.1) })
 begun_by known u p t i k (inr was) = IsBegun-same known (entries.UpdBegin u) t i refl (k was)
 
