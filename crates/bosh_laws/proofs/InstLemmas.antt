@@ -128,7 +128,8 @@ began_before known call n i fresh is = grind (arith, latest_last, eqb_tells call
 begin_by : (known : List Entry) (call : begin.Begin) (p : Begins known call) (i : Inst) → begin_of known call.n ≡ None → InstFacts known i → (i ≡ p.inst) ⊎ (i ≢ p.inst) → InstFacts (more known (entries.Begin call)) i
 begin_by known call p i fresh k (inl own) = subst (InstFacts (more known (entries.Begin call))) (sym own) (InstFacts-asks known call p (subst (InstFacts known) own k))
 begin_by known call p i fresh k (inr other) =
-    InstFacts-same known (more known (entries.Begin call)) i k (elsewhere other (make_of-begin known call p i)) (wanted-stays known (entries.Begin call) i refl) (elsewhere other (doubt_of-begin known call p i)) (λ n own. began_before known call n i fresh own) (vm_of-begin known call i)
+    InstFacts-same known (more known (entries.Begin call)) i k (elsewhere other (make_of-begin known call p i))
+    (wanted-stays known (entries.Begin call) i refl) (elsewhere other (doubt_of-begin known call p i)) (λ n own. began_before known call n i fresh own) (vm_of-begin known call i)
     (λ t is. k.finished t (sym (update_of-stays known (entries.Begin call) t i refl) ∙ is))
 
 pub InstFacts-begin : (known : List Entry) (call : begin.Begin) (p : Begins known call) (i : Inst) → begin_of known call.n ≡ None → InstFacts known i → InstFacts (more known (entries.Begin call)) i

@@ -11,14 +11,14 @@ use Rattle.bosh_base.specs.declared.goal.Goal.{Goal}
 use Rattle.bosh_base.specs.declared.goal.GroupPlan.{GroupPlan}
 use Rattle.bosh_base.specs.declared.inst.Inst.{Inst}
 use Rattle.bosh_history.specs.Permitted.{Opens, Begins, BeginsUpdate, EndsUpdate}
-use Rattle.bosh_history.specs.Records.{call_number, begins, begin_of, opens_task, opens, tasks_opened, opening_of, updates, update_of, goal_set, make_of}
+use Rattle.bosh_history.specs.Records.{call_number, begins, begin_of, opens_task, opens, tasks_opened, updates, update_of, goal_set, make_of}
 use Rattle.bosh_roll.specs.declared.upd.Upd.TheVariants.{Busy}
 use Rattle.bosh_laws.proofs.InstLemmas.{InstFacts, InstFacts-open, InstFacts-begin, InstFacts-failed, InstFacts-created, InstFacts-update, InstFacts-updated, InstFacts-done}
-use Rattle.bosh_laws.proofs.LimitLemmas.{IsLimited, in_flight, in_flight-open, in_flight-begin, in_flight-done, in_flight-stays}
+use Rattle.bosh_laws.proofs.LimitLemmas.{IsLimited, in_flight-open, in_flight-begin, in_flight-done, in_flight-stays}
 use Rattle.bosh_laws.proofs.Moments.{more}
-use Rattle.bosh_laws.proofs.NumberLemmas.{CallNumbered, CallFacts, CallFacts-begin, CallFacts-stays, fresh_call}
+use Rattle.bosh_laws.proofs.NumberLemmas.{CallNumbered, CallFacts-begin, CallFacts-stays, fresh_call}
 use Rattle.bosh_laws.proofs.QuestionLemmas.{Ended}
-use Rattle.bosh_laws.proofs.TaskLemmas.{TaskNumbered, HasGoal, BegunWhereBusy, TaskNumber, TaskNumber-open, TaskNumber-stays, GoalFacts, GoalFacts-open, GoalFacts-stays, IsBegun, IsBegun-open, IsBegun-stays, IsBegun-begin, IsBegun-done}
+use Rattle.bosh_laws.proofs.TaskLemmas.{TaskNumbered, HasGoal, BegunWhereBusy, TaskNumber-open, TaskNumber-stays, GoalFacts-open, GoalFacts-stays, IsBegun, IsBegun-open, IsBegun-stays, IsBegun-begin, IsBegun-done}
 
 pub record KnownFacts (known : List Entry) : Type 0 where
   pub calls : (n : ℕ) (b : begin.Begin) → CallNumbered known n b

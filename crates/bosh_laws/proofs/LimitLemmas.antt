@@ -132,7 +132,8 @@ begin_by : (known : List Entry) (u : update.Update) (t : ℕ) (task : task_open.
     ((u.task ≡ t) ⊎ (u.task ≢ t)) → in_flight (more known (entries.UpdBegin u)) task ≤ limit
 begin_by known u t task limit number k step (inl it) =
     let room : (in_flight known task < limit) × (count_by (same_inst u.inst) task.changed ≤ 1) = step it in
-    let grows : in_flight (more known (entries.UpdBegin u)) task ≤ in_flight known task + count_by (same_inst u.inst) task.changed = busier (update_of known task.task) (update_of (more known (entries.UpdBegin u)) task.task) u.inst (begin_one known u task.task) task.changed in
+    let grows : in_flight (more known (entries.UpdBegin u)) task ≤ in_flight known task + count_by (same_inst u.inst) task.changed =
+    busier (update_of known task.task) (update_of (more known (entries.UpdBegin u)) task.task) u.inst (begin_one known u task.task) task.changed in
     omega arith
 begin_by known u t task limit number k step (inr other) =
     subst (λ count. count ≤ limit) (sym (same_busy (update_of (more known (entries.UpdBegin u)) task.task) (update_of known task.task) (λ i. begin_other known u task.task i (λ is. other (is ∙ number.own_number))) task.changed)) k

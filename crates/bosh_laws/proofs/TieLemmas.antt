@@ -126,7 +126,8 @@ TieFacts-has m e o d is answer did number facts k =
     let vm : vm_of (more m.known (entries.End e)) o.inst ≡ Some (record { vm = is.machine; agent = o.call.n }) = grind (arith, vm_of-created m.known e o.inst (Ended-open m e.n o) is.machine answer o.inst) in
     let took : doubt_took m.moves (doubt_of m.known o.inst) ≡ true = ap (doubt_took m.moves) o.doubted ∙ ap had_effect did ∙ is.took in
     let before : makes_recorded m.known m.moves o.inst ≡ option_to_list (make_of m.known o.inst) = λ j. recorded (no_machine m.known o.inst e.n facts o.doubted j) (took j) (make_of m.known o.inst) in
-    let after : makes_recorded (more m.known (entries.End e)) (noting m (entries.End e)).moves o.inst ≡ option_to_list (make_of m.known o.inst) = λ j. recorded (vm j) (doubt_took (noting m (entries.End e)).moves (doubt_of (more m.known (entries.End e)) o.inst)) (make j) in
+    let after : makes_recorded (more m.known (entries.End e)) (noting m (entries.End e)).moves o.inst ≡ option_to_list (make_of m.known o.inst) =
+    λ j. recorded (vm j) (doubt_took (noting m (entries.End e)).moves (doubt_of (more m.known (entries.End e)) o.inst)) (make j) in
     let made : IsMade m.effects o.inst o.call.n is.machine = subst (λ n. IsMade m.effects o.inst n is.machine) (sym number) is.made in
     record {
       made = k.made ∙ before ∙ sym after;
@@ -193,7 +194,8 @@ made_by : (m : Moment) (d : did.Did) (o : OpenCall m d.n) → did_of m.moves d.n
     WhereSame i o.inst (makes_in (more m.effects (Effect (effect_of o))) i ≡ makes_in m.effects i ++ o.make ∷ []) (makes_in (more m.effects (Effect (effect_of o))) i ≡ makes_in m.effects i) →
     TieFacts (performing m d (more m.effects (Effect (effect_of o)))) i
 made_by m d o fresh took i facts k (inl own) =
-    let grows : makes_in (more m.effects (Effect (effect_of o))) o.inst ≡ makes_in m.effects o.inst ++ o.make ∷ [] = subst (λ j. makes_in (more m.effects (Effect (effect_of o))) j ≡ makes_in m.effects j ++ o.make ∷ []) own.0 own.1 in
+    let grows : makes_in (more m.effects (Effect (effect_of o))) o.inst ≡ makes_in m.effects o.inst ++ o.make ∷ [] =
+    subst (λ j. makes_in (more m.effects (Effect (effect_of o))) j ≡ makes_in m.effects j ++ o.make ∷ []) own.0 own.1 in
     subst (TieFacts (performing m d (more m.effects (Effect (effect_of o))))) (sym own.0) (TieFacts-makes m d o fresh took (subst (InstFacts m.known) own.0 facts) grows (subst (TieFacts m) own.0 k))
 made_by m d o fresh took i facts k (inr other) =
     TieFacts-same m (performing m d (more m.effects (Effect (effect_of o)))) i k other.1 (λ n v made. IsMade-more m.effects (effect_of o) o.inst o.make (Creates-effect o) i n v made) refl refl refl
