@@ -27,6 +27,7 @@ use Rattle.bosh_laws.proofs.CallLemmas.{OpenCall}
 use Rattle.bosh_laws.proofs.InstLemmas.{InstFacts, wanted}
 use Rattle.bosh_laws.proofs.KeptLemmas.{Kept}
 use Rattle.bosh_laws.proofs.LimitLemmas.{one_if, count_by-cons}
+use Rattle.bosh_laws.proofs.Moments.{Moment}
 use Rattle.bosh_laws.proofs.QuestionLemmas.{none_of}
 use Rattle.bosh_laws.proofs.SameLemmas.{same_inst_tells}
 use Rattle.bosh_laws.proofs.TaskLemmas.{IsBegun, GoalFacts}
@@ -108,47 +109,53 @@ recorded_none : (took : Bool) (vm : Option Vm) → made_of took vm None ≡ []
 recorded_none took vm = grind arith
 
 -- an instance that the goal lacks
-lacks : (ms : List Move) (D : List Entry) (i : Inst) (goal : Goal) → InstFacts D i → goal_of D i.dep ≡ Some goal → find (is_row_of i) goal.rows ≡ None → makes_recorded D ms i ≡ makes_wanted goal i
-lacks ms D i goal facts current none =
-    let unwanted : wanted D i ≡ None = ap (λ g. option_map make_wanted (option_and_then (λ (g : Goal). find (is_row_of i) g.rows) g)) current ∙ ap (option_map make_wanted) none in
-    let no_make : make_of D i ≡ None = none_of (make_of D i) (λ m is. clash D i m unwanted (facts.as_wanted m is)) in
-    let recorded : makes_recorded D ms i ≡ [] = ap (made_of (doubt_took ms (doubt_of D i)) (vm_of D i)) no_make ∙ recorded_none (doubt_took ms (doubt_of D i)) (vm_of D i) in
+lacks : (moves : List Move) (known : List Entry) (i : Inst) (goal : Goal) → InstFacts known i → goal_of known i.dep ≡ Some goal → find (is_row_of i) goal.rows ≡ None → makes_recorded known moves i ≡ makes_wanted goal i
+lacks moves known i goal facts current none =
+    let unwanted : wanted known i ≡ None = ap (λ g. option_map make_wanted (option_and_then (λ (g : Goal). find (is_row_of i) g.rows) g)) current ∙ ap (option_map make_wanted) none in
+    let no_make : make_of known i ≡ None = none_of (make_of known i) (λ m is. clash known i m unwanted (facts.as_wanted m is)) in
+    let recorded : makes_recorded known moves i ≡ [] = ap (made_of (doubt_took moves (doubt_of known i)) (vm_of known i)) no_make ∙ recorded_none (doubt_took moves (doubt_of known i)) (vm_of known i) in
     recorded ∙ sym (ap (map make_wanted) (filter_none (is_row_of i) goal.rows none))
   where
-    clash : (D : List Entry) (i : Inst) (m : Make) → wanted D i ≡ None → wanted D i ≡ Some m → ⊥
-    clash D i m none some = let differ : None ≡ Some m = sym none ∙ some in cc
+    clash : (known : List Entry) (i : Inst) (m : Make) → wanted known i ≡ None → wanted known i ≡ Some m → ⊥
+    clash known i m none some = let differ : None ≡ Some m = sym none ∙ some in cc
 
 -- one that it has
-has : (ms : List Move) (D : List Entry) (t : ℕ) (i : Inst) (goal : Goal) (want : row.GoalRow) → InstFacts D i → goal_of D i.dep ≡ Some goal → find (is_row_of i) goal.rows ≡ Some want → count_by (is_row_of i) goal.rows ≤ 1 → update_of D t i ≡ Finished → makes_recorded D ms i ≡ makes_wanted goal i
-has ms D t i goal want facts current is one done =
-    let vm : (v : Vm) × (vm_of D i ≡ Some v) = some_of (vm_of D i) (facts.finished t done) in
-    let make : (m : Make) × (make_of D i ≡ Some m) = some_of (make_of D i) (facts.has_make vm.0 vm.1) in
-    let wants : wanted D i ≡ Some want.make = ap (λ g. option_map make_wanted (option_and_then (λ (g : Goal). find (is_row_of i) g.rows) g)) current ∙ ap (option_map make_wanted) is in
+has : (moves : List Move) (known : List Entry) (t : ℕ) (i : Inst) (goal : Goal) (want : row.GoalRow) → InstFacts known i →
+    goal_of known i.dep ≡ Some goal → find (is_row_of i) goal.rows ≡ Some want → count_by (is_row_of i) goal.rows ≤ 1 →
+    update_of known t i ≡ Finished → makes_recorded known moves i ≡ makes_wanted goal i
+has moves known t i goal want facts current is one done =
+    let vm : (v : Vm) × (vm_of known i ≡ Some v) = some_of (vm_of known i) (facts.finished t done) in
+    let make : (m : Make) × (make_of known i ≡ Some m) = some_of (make_of known i) (facts.has_make vm.0 vm.1) in
+    let wants : wanted known i ≡ Some want.make = ap (λ g. option_map make_wanted (option_and_then (λ (g : Goal). find (is_row_of i) g.rows) g)) current ∙ ap (option_map make_wanted) is in
     let both : Some want.make ≡ Some make.0 = sym wants ∙ facts.as_wanted make.0 make.1 in
     let same : make.0 ≡ want.make = cc in
-    let recorded : makes_recorded D ms i ≡ make.0 ∷ [] = λ j. made_of (doubt_took ms (doubt_of D i)) (vm.1 j) (make.1 j) in
+    let recorded : makes_recorded known moves i ≡ make.0 ∷ [] = λ j. made_of (doubt_took moves (doubt_of known i)) (vm.1 j) (make.1 j) in
     recorded ∙ ap (λ m. m ∷ []) same ∙ sym (ap (map make_wanted) (filter_one (is_row_of i) goal.rows want is one))
 
 row_or_none : {A : Type 0} (o : Option A) → (o ≡ None) ⊎ ((a : A) × (o ≡ Some a))
 row_or_none None = inl refl
 row_or_none (Some a) = inr (a, refl)
 
-goal_left : (ms : List Move) (D L : List Entry) (t : ℕ) (p : EndsTask D t) (k : Kept ms D L) (goal : Goal) → p.task.goal ≡ Some goal → (i : Inst) → i.dep ≡ goal.dep → (find (is_row_of i) goal.rows ≡ None) ⊎ ((want : row.GoalRow) × (find (is_row_of i) goal.rows ≡ Some want)) → makes_recorded D ms i ≡ makes_wanted goal i
-goal_left ms D L t p k goal of_task i dep (inl none) =
-    let facts : GoalFacts D p.task goal = k.goals t p.task goal of_task p.opened in
-    lacks ms D i goal (k.insts i) (ap (goal_of D) dep ∙ facts.is_current) none
-goal_left ms D L t p k goal of_task i dep (inr want) =
-    let facts : GoalFacts D p.task goal = k.goals t p.task goal of_task p.opened in
+-- each instance of the deployment has what the goal wants of it
+goal_left : (m : Moment) (t : ℕ) (p : EndsTask m.known t) → Kept m → (goal : Goal) → p.task.goal ≡ Some goal → (i : Inst) → i.dep ≡ goal.dep →
+    (find (is_row_of i) goal.rows ≡ None) ⊎ ((want : row.GoalRow) × (find (is_row_of i) goal.rows ≡ Some want)) →
+    makes_recorded m.known m.moves i ≡ makes_wanted goal i
+goal_left m t p k goal of_task i dep (inl none) =
+    let facts : GoalFacts m.known p.task goal = k.director.goals t p.task goal of_task p.opened in
+    lacks m.moves m.known i goal (k.director.insts i) (ap (goal_of m.known) dep ∙ facts.is_current) none
+goal_left m t p k goal of_task i dep (inr want) =
+    let facts : GoalFacts m.known p.task goal = k.director.goals t p.task goal of_task p.opened in
     let one : count_by (is_row_of i) goal.rows ≤ 1 = subst (λ n. n ≤ 1) (count_rows i goal.rows) (facts.distinct i) in
-    let all : All (λ j. update_of D t j ≡ Finished) (instances goal) = subst (All (λ j. update_of D t j ≡ Finished)) facts.changes_all p.all_done in
-    has ms D t i goal want.0 (k.insts i) (ap (goal_of D) dep ∙ facts.is_current) want.1 one (found_row (λ j. update_of D t j ≡ Finished) i goal.rows want.0 all want.1)
+    let all : All (λ j. update_of m.known t j ≡ Finished) (instances goal) = subst (All (λ j. update_of m.known t j ≡ Finished)) facts.changes_all p.all_done in
+    has m.moves m.known t i goal want.0 (k.director.insts i) (ap (goal_of m.known) dep ∙ facts.is_current) want.1 one (found_row (λ j. update_of m.known t j ≡ Finished) i goal.rows want.0 all want.1)
 
-pub exactly_its_goal : (ms : List Move) (D L : List Entry) (t : ℕ) → EndsTask D t → Kept ms D L → (task : task_open.TaskOpen) (goal : Goal) → opening_of D t ≡ Some task → task.goal ≡ Some goal → IsExact (machines L) goal
-exactly_its_goal ms D L t p k task goal opened of_task =
+pub exactly_its_goal : (m : Moment) (t : ℕ) → EndsTask m.known t → Kept m → (task : task_open.TaskOpen) (goal : Goal) → opening_of m.known t ≡ Some task → task.goal ≡ Some goal → IsExact (machines m.effects) goal
+exactly_its_goal m t p k task goal opened of_task =
     let both : Some task ≡ Some p.task = sym opened ∙ p.opened in
     let same : task ≡ p.task = cc in
-    let own : p.task.goal ≡ Some goal = ap (λ (x : task_open.TaskOpen). x.goal) (sym same) ∙ of_task in record {
-      one_for_one = λ i dep. k.made i ∙ goal_left ms D L t p k goal own i dep (row_or_none (find (is_row_of i) goal.rows));
+    let own : p.task.goal ≡ Some goal = ap (λ (x : task_open.TaskOpen). x.goal) (sym same) ∙ of_task in
+    record {
+      one_for_one = λ i dep. (k.ties i).made ∙ goal_left m t p k goal own i dep (row_or_none (find (is_row_of i) goal.rows));
       belong = k.belong;
     }
 
@@ -157,26 +164,28 @@ exactly_its_goal ms D L t p k task goal opened of_task =
 All-slice_get : {X : Type 0} (P : X → Type 0) (xs : List X) (place : ℕ) (x : X) → All P xs → slice_get xs place ≡ Some x → P x
 All-slice_get P xs place x all is = subst P (get_or_from_slice_get xs place x x is) (All-get_or P xs place x (slice_get_within xs place x is) all)
 
-still_at_work : (ms : List Move) (D L : List Entry) (t : ℕ) (p : EndsTask D t) (k : Kept ms D L) (i : Inst) → update_of D t i ≡ Busy → ⊥
-still_at_work ms D L t p k i works =
-    let b : IsBegun D t i = k.begun t i works in
+-- each instance that it works on is finished
+none_at_work : (m : Moment) (t : ℕ) → EndsTask m.known t → Kept m → (i : Inst) → update_of m.known t i ≢ Busy
+none_at_work m t p k i works =
+    let b : IsBegun m.known t i = k.director.begun t i works in
     let both : Some b.task ≡ Some p.task = sym b.opened ∙ p.opened in
     let same : b.task ≡ p.task = cc in
     let changed : slice_get p.task.changed b.place ≡ Some i = ap (λ (x : task_open.TaskOpen). slice_get x.changed b.place) (sym same) ∙ b.is_changed in
-    let done : update_of D t i ≡ Finished = All-slice_get (λ j. update_of D t j ≡ Finished) p.task.changed b.place i p.all_done changed in
+    let done : update_of m.known t i ≡ Finished = All-slice_get (λ j. update_of m.known t j ≡ Finished) p.task.changed b.place i p.all_done changed in
     let clash : Busy ≡ Finished = sym works ∙ done in
     cc
 
-false_of : (test : Bool) → (test ≡ true → ⊥) → test ≡ false
+-- an open call is of an instance at work
+works_by : (m : Moment) (t n : ℕ) (b : begin.Begin) → begin_of m.known n ≡ Some b → b.task ≡ t → (o : OpenCall m n) → update_of m.known t o.inst ≡ Busy
+works_by m t n b began of_task o =
+    let both : Some o.call ≡ Some b = sym o.began ∙ began in
+    let same : o.call ≡ b = cc in
+    let task : o.call.task ≡ t = ap (λ (x : begin.Begin). x.task) same ∙ of_task in
+    ap (λ s. update_of m.known s o.inst) (sym task) ∙ o.works
+
+false_of : (test : Bool) → test ≢ true → test ≡ false
 false_of true never = absurd (never refl)
 false_of false never = refl
 
-pub no_open_call : (ms : List Move) (D L : List Entry) (t : ℕ) → EndsTask D t → Kept ms D L → (n : ℕ) (b : begin.Begin) → begin_of D n ≡ Some b → b.task ≡ t → is_open ms n ≡ false
-no_open_call ms D L t p k n b began of_task = false_of (is_open ms n) (λ is. at_work (k.open_calls n is))
-  where
-    at_work : OpenCall ms D L n → ⊥
-    at_work o =
-        let both : Some o.call ≡ Some b = sym o.began ∙ began in
-        let same : o.call ≡ b = cc in
-        let task : o.call.task ≡ t = ap (λ (x : begin.Begin). x.task) same ∙ of_task in
-        still_at_work ms D L t p k o.inst (ap (λ s. update_of D s o.inst) (sym task) ∙ o.works)
+pub no_open_call : (m : Moment) (t : ℕ) → EndsTask m.known t → Kept m → (n : ℕ) (b : begin.Begin) → begin_of m.known n ≡ Some b → b.task ≡ t → is_open m.moves n ≡ false
+no_open_call m t p k n b began of_task = false_of (is_open m.moves n) (λ is. let o : OpenCall m n = k.open_calls n is in none_at_work m t p k o.inst (works_by m t n b began of_task o))

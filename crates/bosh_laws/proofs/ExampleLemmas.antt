@@ -1,6 +1,6 @@
 -- One instance is deployed.
 use Prim.Native.Nat.{zero, suc}
-use Rattle.std.proofs.Common.{◌≡◌, ℕ, ◌+◌, ◌<◌, ◌≤◌, Bool, true, false, Option, Some, None, List, [], ◌∷◌, ◌++◌, refl, sym, ◌∙◌, ap, subst, arith, map, inl, inr}
+use Rattle.std.proofs.Common.{◌≡◌, ℕ, ◌<◌, true, Some, None, List, [], ◌∷◌, ◌++◌, refl, sym, ap, arith, map, inl, inr}
 use Rattle.std.specs.Prelude.{◌≢◌, ◌⊎◌, take, All}
 use Rattle.std.specs.Str.{bytes_eq}
 use Rattle.std.proofs.lemmas.List.Elements.{All-nil, All-cons}
@@ -20,13 +20,13 @@ use Rattle.bosh_base.specs.declared.moves.Move.{Move}
 use Rattle.bosh_base.specs.declared.moves.Move.TheVariants.{Note, Did}
 use Rattle.bosh_base.specs.declared.owner.Owner.TheVariants.{Instance}
 use Rattle.bosh_base.specs.declared.task.TaskKind.TheVariants.{Deploy}
-use Rattle.bosh_history.specs.Goals.{IsSound, inst_of, want_of, roll_of}
-use Rattle.bosh_history.specs.Moves.{durable, is_open, did_of, nothing}
-use Rattle.bosh_history.specs.Permitted.{Opens, Begins, BeginsUpdate, EndsUpdate, EndsTask, EndsCall, Performs, IsPermitted, IsRun}
-use Rattle.bosh_history.specs.Records.{begin_of, opening_of, update_of, goal_of, vm_of, doubt_of}
+use Rattle.bosh_history.specs.Goals.{IsSound, inst_of, roll_of}
+use Rattle.bosh_history.specs.Moves.{durable, nothing}
+use Rattle.bosh_history.specs.Permitted.{Opens, Begins, BeginsUpdate, EndsUpdate, EndsTask, EndsCall, Performs}
+use Rattle.bosh_history.specs.Records.{update_of}
 use Rattle.bosh_history.specs.Same.{same_inst}
 use Rattle.bosh_roll.specs.GroupRoll.{MayBegin}
-use Rattle.bosh_roll.specs.declared.upd.Upd.TheVariants.{Todo, Busy, Finished, Failed}
+use Rattle.bosh_roll.specs.declared.upd.Upd.TheVariants.{Todo, Finished, Failed}
 use Rattle.bosh_laws.proofs.SameLemmas.{same_inst_decides, name_tells}
 use Rattle.bosh_laws.specs.Example.{CanBeDone}
 

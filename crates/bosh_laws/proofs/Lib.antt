@@ -4,8 +4,10 @@ pub mod ExactLemmas
 pub mod ExampleLemmas
 pub mod InstLemmas
 pub mod KeptLemmas
+pub mod KnownLemmas
 pub mod LawLemmas
 pub mod LimitLemmas
+pub mod Moments
 pub mod NumberLemmas
 pub mod PerformLemmas
 pub mod QuestionLemmas

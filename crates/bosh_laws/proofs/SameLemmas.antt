@@ -1,5 +1,5 @@
 -- Which instances and owners are the same.
-use Rattle.std.proofs.Common.{◌≡◌, ℕ, List, true, false, arith, rules}
+use Rattle.std.proofs.Common.{◌≡◌, ℕ, List, true, false, arith, rules, inl, inr}
 use Rattle.std.specs.Prelude.{◌≢◌, ◌⊎◌, ◌==◌}
 use Rattle.std.specs.Bool.{Decides}
 use Rattle.std.specs.Str.{bytes_eq}
@@ -20,3 +20,14 @@ same_inst_decides a b =
 
 pub same_inst_tells : (a b : Inst) → ((same_inst a b ≡ true) × (a ≡ b)) ⊎ ((same_inst a b ≡ false) × (a ≢ b))
 same_inst_tells a b = let d : Decides (same_inst a b) (a ≡ b) = same_inst_decides a b in grind (arith)
+
+pub same_or_other : (a b : Inst) → (a ≡ b) ⊎ (a ≢ b)
+same_or_other a b = grind (arith, same_inst_tells a b)
+
+-- the first where two are the same, and else the second
+abbrev pub WhereSame : {X : Type 0} → X → X → Type 0 → Type 0 → Type 0
+WhereSame a b Same Other = ((a ≡ b) × Same) ⊎ ((a ≢ b) × Other)
+
+pub elsewhere : {X : Type 0} {a b : X} {Same Other : Type 0} → a ≢ b → WhereSame a b Same Other → Other
+elsewhere other (inl same) = absurd (other same.0)
+elsewhere other (inr it) = it.1

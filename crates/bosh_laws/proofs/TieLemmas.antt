@@ -1,10 +1,9 @@
 -- What is recorded of an instance is what the cloud has of it.
-use Rattle.std.proofs.Common.{◌≡◌, ℕ, Bool, true, false, Option, Some, None, List, [], ◌∷◌, ◌++◌, refl, sym, ◌∙◌, ap, subst, arith, inl, inr, ⊎_elim}
+use Rattle.std.proofs.Common.{◌≡◌, ℕ, Bool, true, false, Option, Some, None, List, [], ◌∷◌, ◌++◌, refl, sym, ◌∙◌, ap, subst, arith, inl, inr}
 use Rattle.std.specs.Prelude.{◌≢◌, ◌⊎◌, ◌||◌, if◌then◌else◌, is_some}
 use Rattle.std.specs.Option.{option_to_list}
 use Rattle.std.proofs.lemmas.Bool.Decides.{eqb_tells}
 use Rattle.bosh_base.proofs.HistoryLemmas.{latest_last}
-use Rattle.bosh_base.specs.Cloud.{machines}
 use Rattle.bosh_base.specs.declared.answer.Answer.TheVariants.{Cid, Failed}
 use Rattle.bosh_base.specs.declared.entry.Begin as begin
 use Rattle.bosh_base.specs.declared.entry.End as end
@@ -19,162 +18,189 @@ use Rattle.bosh_base.specs.declared.moves.Move.TheVariants.{Note, Did}
 use Rattle.bosh_base.specs.declared.owner.Owner.TheVariants.{Instance}
 use Rattle.bosh_base.specs.declared.row.Vm.{Vm}
 use Rattle.bosh_cloud.specs.Orderly.{IsOrderly}
-use Rattle.bosh_history.specs.Exactness.{makes_of}
 use Rattle.bosh_history.specs.Moves.{did_of, performs}
 use Rattle.bosh_history.specs.Permitted.{Begins}
 use Rattle.bosh_history.specs.Records.{begin_of, made_from, make_of, vm_told, vm_of, doubt_told, doubt_of}
 use Rattle.bosh_history.specs.Ties.{had_effect, doubt_took, makes_recorded}
-use Rattle.bosh_laws.proofs.CallLemmas.{noting, OpenCall, IsMade, Ended-open}
-use Rattle.bosh_laws.proofs.EffectLemmas.{makes_of-more}
-use Rattle.bosh_laws.proofs.InstLemmas.{InstFacts, caller, same_or_other}
+use Rattle.bosh_laws.proofs.CallLemmas.{IsMachine, OpenCall, IsMade, Ended-open}
+use Rattle.bosh_laws.proofs.EffectLemmas.{makes_in, IsMade-more, makes_of-more}
+use Rattle.bosh_laws.proofs.InstLemmas.{InstFacts, caller}
+use Rattle.bosh_laws.proofs.Moments.{Moment, more, noting, passing, performing}
 use Rattle.bosh_laws.proofs.PerformLemmas.{effect_of, Creates-effect}
-use Rattle.bosh_laws.proofs.QuestionLemmas.{more, none_of, make_of-stays, vm_of-stays, doubt_of-stays, did_of-stays, make_of-begin, doubt_of-begin, vm_of-begin, Ended, vm_of-failed, doubt_of-failed, vm_of-created, doubt_of-created}
+use Rattle.bosh_laws.proofs.QuestionLemmas.{none_of, make_of-stays, vm_of-stays, doubt_of-stays, did_of-stays, make_of-begin, doubt_of-begin, vm_of-begin, Ended, vm_of-failed, doubt_of-failed, vm_of-created, doubt_of-created}
+use Rattle.bosh_laws.proofs.SameLemmas.{same_or_other, WhereSame, elsewhere}
 
 -- the makes of an instance by its machine, whether its call in doubt took effect, and its make
 abbrev recorded : Option Vm → Bool → Option Make → List Make
 recorded vm took make = if is_some vm || took then option_to_list make else []
 
--- the cloud has of the instance what is recorded
-abbrev pub IsMadeAsRecorded : List Move → List Entry → List Entry → Inst → Type 0
-IsMadeAsRecorded moves D L i = makes_of (machines L) i ≡ makes_recorded D moves i
-
--- its machine was made for it, and is there
-abbrev pub HasItsMachine : List Entry → List Entry → Inst → Type 0
-HasItsMachine D L i = (vm : Vm) → vm_of D i ≡ Some vm → IsMade L i vm.agent vm.vm
+-- the cloud has of the instance what is recorded: its machine was made for it, and is there
+pub record TieFacts (m : Moment) (i : Inst) : Type 0 where
+  pub made : makes_in m.effects i ≡ makes_recorded m.known m.moves i
+  pub machine : (vm : Vm) → vm_of m.known i ≡ Some vm → IsMade m.effects i vm.agent vm.vm
 
 -- ---- nothing is said of the instance
 
-took-same : (ms ns : List Move) (doubt : Option ℕ) → ((n : ℕ) → doubt ≡ Some n → had_effect (did_of ns n) ≡ had_effect (did_of ms n)) → doubt_took ns doubt ≡ doubt_took ms doubt
-took-same ms ns None same = refl
-took-same ms ns (Some n) same = same n refl
+took-same : (moves after : List Move) (doubt : Option ℕ) → ((n : ℕ) → doubt ≡ Some n → had_effect (did_of after n) ≡ had_effect (did_of moves n)) → doubt_took after doubt ≡ doubt_took moves doubt
+took-same moves after None same = refl
+took-same moves after (Some n) same = same n refl
 
-recorded-same : (ms ns : List Move) (D E : List Entry) (i : Inst) → vm_of E i ≡ vm_of D i → doubt_of E i ≡ doubt_of D i → make_of E i ≡ make_of D i → ((n : ℕ) → doubt_of D i ≡ Some n → had_effect (did_of ns n) ≡ had_effect (did_of ms n)) → makes_recorded E ns i ≡ makes_recorded D ms i
-recorded-same ms ns D E i vm doubt make did =
-    let took : doubt_took ns (doubt_of E i) ≡ doubt_took ms (doubt_of D i) = ap (doubt_took ns) doubt ∙ took-same ms ns (doubt_of D i) did in
-    λ j. recorded (vm j) (took j) (make j)
+TieFacts-same : (m after : Moment) (i : Inst) → TieFacts m i → makes_in after.effects i ≡ makes_in m.effects i →
+    ((n v : ℕ) → IsMade m.effects i n v → IsMade after.effects i n v) → vm_of after.known i ≡ vm_of m.known i →
+    doubt_of after.known i ≡ doubt_of m.known i → make_of after.known i ≡ make_of m.known i →
+    ((n : ℕ) → doubt_of m.known i ≡ Some n → had_effect (did_of after.moves n) ≡ had_effect (did_of m.moves n)) → TieFacts after i
+TieFacts-same m after i k makes there vm doubt make did =
+    let took : doubt_took after.moves (doubt_of after.known i) ≡ doubt_took m.moves (doubt_of m.known i) = ap (doubt_took after.moves) doubt ∙ took-same m.moves after.moves (doubt_of m.known i) did in
+    let same : makes_recorded after.known after.moves i ≡ makes_recorded m.known m.moves i = λ j. recorded (vm j) (took j) (make j) in
+    record {
+      made = makes ∙ k.made ∙ sym same;
+      machine = λ v is. there v.agent v.vm (k.machine v (sym vm ∙ is));
+    }
 
-pub made-stays : (ms : List Move) (D L : List Entry) (e : Entry) (i : Inst) → vm_told i D e ≡ None → doubt_told i D e ≡ None → made_from i e ≡ None → ((n : ℕ) → performs n (Note e) ≡ None) → IsMadeAsRecorded ms D L i → IsMadeAsRecorded (noting ms e) (more D e) L i
-made-stays ms D L e i vm doubt make idle k =
-    k ∙ sym (recorded-same ms (noting ms e) D (more D e) i (vm_of-stays D e i vm) (doubt_of-stays D e i doubt) (make_of-stays D e i make) (λ n is. ap had_effect (did_of-stays ms (Note e) n (idle n))))
+pub TieFacts-stays : (m : Moment) (e : Entry) (i : Inst) → vm_told i m.known e ≡ None → doubt_told i m.known e ≡ None → made_from i e ≡ None →
+    ((n : ℕ) → performs n (Note e) ≡ None) → TieFacts m i → TieFacts (noting m e) i
+TieFacts-stays m e i vms_none doubts_none makes_none performs_none k =
+    TieFacts-same m (noting m e) i k refl (λ n v made. made) (vm_of-stays m.known e i vms_none) (doubt_of-stays m.known e i doubts_none) (make_of-stays m.known e i makes_none)
+    (λ n is. ap had_effect (did_of-stays m.moves (Note e) n (performs_none n)))
 
-pub machine-stays : (D L : List Entry) (e : Entry) (i : Inst) → vm_told i D e ≡ None → HasItsMachine D L i → HasItsMachine (more D e) L i
-machine-stays D L e i none k vm is = k vm (sym (vm_of-stays D e i none) ∙ is)
-
-pub made-quiet : (ms : List Move) (D L : List Entry) (move : Move) (i : Inst) → ((n : ℕ) → performs n move ≡ None) → IsMadeAsRecorded ms D L i → IsMadeAsRecorded (ms ++ move ∷ []) D L i
-made-quiet ms D L move i idle k = k ∙ sym (recorded-same ms (ms ++ move ∷ []) D D i refl refl refl (λ n is. ap had_effect (did_of-stays ms move n (idle n))))
+pub TieFacts-passing : (m : Moment) (move : Move) (i : Inst) → ((n : ℕ) → performs n move ≡ None) → TieFacts m i → TieFacts (passing m move) i
+TieFacts-passing m move i performs_none k =
+    TieFacts-same m (passing m move) i k refl (λ n v made. made) refl refl refl (λ n is. ap had_effect (did_of-stays m.moves move n (performs_none n)))
 
 -- ---- a call begins
 
 -- of the instance: nothing is recorded before and after
-made-begins : (ms : List Move) (D L : List Entry) (call : begin.Begin) (p : Begins D call) → IsMadeAsRecorded ms D L p.inst → IsMadeAsRecorded (noting ms (entries.Begin call)) (more D (entries.Begin call)) L p.inst
-made-begins ms D L call p k =
-    let none : makes_recorded D ms p.inst ≡ [] = λ j. recorded (p.no_machine j) (doubt_took ms (p.no_doubt j)) (make_of D p.inst) in
-    let vm : vm_of (more D (entries.Begin call)) p.inst ≡ None = vm_of-begin D call p.inst ∙ p.no_machine in
-    let doubt : doubt_of (more D (entries.Begin call)) p.inst ≡ Some call.n = grind (arith, doubt_of-begin D call p p.inst) in
-    let did : did_of (noting ms (entries.Begin call)) call.n ≡ None = grind (arith, latest_last, eqb_tells call.n call.n) in
-    let took : doubt_took (noting ms (entries.Begin call)) (doubt_of (more D (entries.Begin call)) p.inst) ≡ false = ap (doubt_took (noting ms (entries.Begin call))) doubt ∙ ap had_effect did in
-    let still : makes_recorded (more D (entries.Begin call)) (noting ms (entries.Begin call)) p.inst ≡ [] = λ j. recorded (vm j) (took j) (make_of (more D (entries.Begin call)) p.inst) in
-    k ∙ none ∙ sym still
+TieFacts-asks : (m : Moment) (call : begin.Begin) (p : Begins m.known call) → TieFacts m p.inst → TieFacts (noting m (entries.Begin call)) p.inst
+TieFacts-asks m call p k =
+    let none : makes_recorded m.known m.moves p.inst ≡ [] = λ j. recorded (p.no_machine j) (doubt_took m.moves (p.no_doubt j)) (make_of m.known p.inst) in
+    let vm : vm_of (more m.known (entries.Begin call)) p.inst ≡ None = vm_of-begin m.known call p.inst ∙ p.no_machine in
+    let doubt : doubt_of (more m.known (entries.Begin call)) p.inst ≡ Some call.n = grind (arith, doubt_of-begin m.known call p p.inst) in
+    let did : did_of (noting m (entries.Begin call)).moves call.n ≡ None = grind (arith, latest_last, eqb_tells call.n call.n) in
+    let took : doubt_took (noting m (entries.Begin call)).moves (doubt_of (more m.known (entries.Begin call)) p.inst) ≡ false = ap (doubt_took (noting m (entries.Begin call)).moves) doubt ∙ ap had_effect did in
+    let still_none : makes_recorded (more m.known (entries.Begin call)) (noting m (entries.Begin call)).moves p.inst ≡ [] = λ j. recorded (vm j) (took j) (make_of (more m.known (entries.Begin call)) p.inst) in
+    record {
+      made = k.made ∙ none ∙ sym still_none;
+      machine = λ v is. k.machine v (sym (vm_of-begin m.known call p.inst) ∙ is);
+    }
 
 -- a call in doubt is not the one that begins
-did_beside : (ms : List Move) (D : List Entry) (call : begin.Begin) (n : ℕ) (i : Inst) → begin_of D call.n ≡ None → caller D n ≡ Some (Instance i) → did_of (noting ms (entries.Begin call)) n ≡ did_of ms n
-did_beside ms D call n i fresh is = grind (arith, latest_last, eqb_tells call.n n, fresh, is)
+did_beside : (moves : List Move) (known : List Entry) (call : begin.Begin) (n : ℕ) (i : Inst) → begin_of known call.n ≡ None →
+    caller known n ≡ Some (Instance i) → did_of (moves ++ Note (entries.Begin call) ∷ []) n ≡ did_of moves n
+did_beside moves known call n i fresh is = grind (arith, latest_last, eqb_tells call.n n, fresh, is)
 
-begin_by : (ms : List Move) (D L : List Entry) (call : begin.Begin) (p : Begins D call) (i : Inst) → begin_of D call.n ≡ None → InstFacts D i → IsMadeAsRecorded ms D L i → ((i ≡ p.inst) ⊎ (i ≢ p.inst)) → IsMadeAsRecorded (noting ms (entries.Begin call)) (more D (entries.Begin call)) L i
-begin_by ms D L call p i fresh facts k (inl own) = subst (IsMadeAsRecorded (noting ms (entries.Begin call)) (more D (entries.Begin call)) L) (sym own) (made-begins ms D L call p (subst (IsMadeAsRecorded ms D L) own k))
-begin_by ms D L call p i fresh facts k (inr other) =
-    let doubt : doubt_of (more D (entries.Begin call)) i ≡ doubt_of D i = ⊎_elim (λ own. absurd (other own.0)) (λ beside. beside.1) (doubt_of-begin D call p i) in
-    let make : make_of (more D (entries.Begin call)) i ≡ make_of D i = ⊎_elim (λ own. absurd (other own.0)) (λ beside. beside.1) (make_of-begin D call p i) in
-    k ∙ sym (recorded-same ms (noting ms (entries.Begin call)) D (more D (entries.Begin call)) i (vm_of-begin D call i) doubt make (λ n is. ap had_effect (did_beside ms D call n i fresh (facts.own_call n is))))
+begin_by : (m : Moment) (call : begin.Begin) (p : Begins m.known call) (i : Inst) → begin_of m.known call.n ≡ None → InstFacts m.known i →
+    TieFacts m i → (i ≡ p.inst) ⊎ (i ≢ p.inst) → TieFacts (noting m (entries.Begin call)) i
+begin_by m call p i fresh facts k (inl own) = subst (TieFacts (noting m (entries.Begin call))) (sym own) (TieFacts-asks m call p (subst (TieFacts m) own k))
+begin_by m call p i fresh facts k (inr other) =
+    TieFacts-same m (noting m (entries.Begin call)) i k refl (λ n v made. made) (vm_of-begin m.known call i) (elsewhere other (doubt_of-begin m.known call p i)) (elsewhere other (make_of-begin m.known call p i))
+    (λ n is. ap had_effect (did_beside m.moves m.known call n i fresh (facts.own_call n is)))
 
-pub made-begin : (ms : List Move) (D L : List Entry) (call : begin.Begin) (p : Begins D call) (i : Inst) → begin_of D call.n ≡ None → InstFacts D i → IsMadeAsRecorded ms D L i → IsMadeAsRecorded (noting ms (entries.Begin call)) (more D (entries.Begin call)) L i
-made-begin ms D L call p i fresh facts k = begin_by ms D L call p i fresh facts k (same_or_other i p.inst)
-
-pub machine-begin : (D L : List Entry) (call : begin.Begin) (i : Inst) → HasItsMachine D L i → HasItsMachine (more D (entries.Begin call)) L i
-machine-begin D L call i k vm is = k vm (sym (vm_of-begin D call i) ∙ is)
+pub TieFacts-begin : (m : Moment) (call : begin.Begin) (p : Begins m.known call) (i : Inst) → begin_of m.known call.n ≡ None → InstFacts m.known i → TieFacts m i → TieFacts (noting m (entries.Begin call)) i
+TieFacts-begin m call p i fresh facts k = begin_by m call p i fresh facts k (same_or_other i p.inst)
 
 -- ---- a call ends
 
-pub made-failed : (ms : List Move) (D L : List Entry) (e : end.End) (inst : Inst) (p : Ended D e.n inst) → e.answer ≡ Failed → (i : Inst) → IsMadeAsRecorded ms D L i → IsMadeAsRecorded (noting ms (entries.End e)) (more D (entries.End e)) L i
-made-failed ms D L e inst p failed i k = k ∙ sym (recorded-same ms (noting ms (entries.End e)) D (more D (entries.End e)) i (vm_of-failed D e inst p failed i) (doubt_of-failed D e inst p failed i) (make_of-stays D (entries.End e) i refl) (λ n is. ap had_effect (did_of-stays ms (Note (entries.End e)) n refl)))
+-- where it says nothing of the instance's doubt and machine
+TieFacts-end : (m : Moment) (e : end.End) (i : Inst) → TieFacts m i → vm_of (more m.known (entries.End e)) i ≡ vm_of m.known i →
+    doubt_of (more m.known (entries.End e)) i ≡ doubt_of m.known i → TieFacts (noting m (entries.End e)) i
+TieFacts-end m e i k vm doubt =
+    TieFacts-same m (noting m (entries.End e)) i k refl (λ n v made. made) vm doubt (make_of-stays m.known (entries.End e) i refl) (λ n is. ap had_effect (did_of-stays m.moves (Note (entries.End e)) n refl))
 
-pub machine-failed : (D L : List Entry) (e : end.End) (inst : Inst) (p : Ended D e.n inst) → e.answer ≡ Failed → (i : Inst) → HasItsMachine D L i → HasItsMachine (more D (entries.End e)) L i
-machine-failed D L e inst p failed i k vm is = k vm (sym (vm_of-failed D e inst p failed i) ∙ is)
+pub TieFacts-failed : (m : Moment) (e : end.End) (o : OpenCall m e.n) → e.answer ≡ Failed → (i : Inst) → TieFacts m i → TieFacts (noting m (entries.End e)) i
+TieFacts-failed m e o failed i k =
+    let p : Ended m.known e.n o.inst = Ended-open m e.n o in
+    TieFacts-end m e i k (vm_of-failed m.known e o.inst p failed i) (doubt_of-failed m.known e o.inst p failed i)
 
 -- an instance with a call in doubt has no machine
-pub no_machine : (D : List Entry) (i : Inst) (n : ℕ) → InstFacts D i → doubt_of D i ≡ Some n → vm_of D i ≡ None
-no_machine D i n facts doubted = none_of (vm_of D i) (λ vm is. clash (facts.no_doubt vm is))
+no_machine : (known : List Entry) (i : Inst) (n : ℕ) → InstFacts known i → doubt_of known i ≡ Some n → vm_of known i ≡ None
+no_machine known i n facts doubted = none_of (vm_of known i) (λ vm is. clash (facts.no_doubt vm is))
   where
-    clash : doubt_of D i ≡ None → ⊥
+    clash : doubt_of known i ≡ None → ⊥
     clash none = let differ : None ≡ Some n = sym none ∙ doubted in cc
 
--- what a call in doubt had made is recorded in another way
-made-ends : (ms : List Move) (D L : List Entry) (e : end.End) (o : OpenCall ms D L e.n) (v : ℕ) → e.answer ≡ Cid v → (d : did.Did) → did_of ms e.n ≡ Some d → d.effect ≡ true → InstFacts D o.inst → IsMadeAsRecorded ms D L o.inst → IsMadeAsRecorded (noting ms (entries.End e)) (more D (entries.End e)) L o.inst
-made-ends ms D L e o v answer d did took facts k =
-    let p : Ended D e.n o.inst = Ended-open ms D L e.n o in
-    let before : makes_recorded D ms o.inst ≡ option_to_list (make_of D o.inst) = λ j. recorded (no_machine D o.inst e.n facts o.doubted j) ((ap (doubt_took ms) o.doubted ∙ ap had_effect did ∙ took) j) (make_of D o.inst) in
-    let vm : vm_of (more D (entries.End e)) o.inst ≡ Some (record { vm = v; agent = p.call.n }) = grind (arith, vm_of-created D e o.inst p v answer o.inst) in
-    let after : makes_recorded (more D (entries.End e)) (noting ms (entries.End e)) o.inst ≡ option_to_list (make_of D o.inst) = λ j. recorded (vm j) (doubt_took (noting ms (entries.End e)) (doubt_of (more D (entries.End e)) o.inst)) (make_of-stays D (entries.End e) o.inst refl j) in
-    k ∙ before ∙ sym after
-
-created_by : (ms : List Move) (D L : List Entry) (e : end.End) (o : OpenCall ms D L e.n) (v : ℕ) → e.answer ≡ Cid v → (d : did.Did) → did_of ms e.n ≡ Some d → d.effect ≡ true → (i : Inst) → InstFacts D i → IsMadeAsRecorded ms D L i → ((i ≡ o.inst) ⊎ (i ≢ o.inst)) → IsMadeAsRecorded (noting ms (entries.End e)) (more D (entries.End e)) L i
-created_by ms D L e o v answer d did took i facts k (inl own) = subst (IsMadeAsRecorded (noting ms (entries.End e)) (more D (entries.End e)) L) (sym own) (made-ends ms D L e o v answer d did took (subst (InstFacts D) own facts) (subst (IsMadeAsRecorded ms D L) own k))
-created_by ms D L e o v answer d did took i facts k (inr other) =
-    let p : Ended D e.n o.inst = Ended-open ms D L e.n o in
-    let doubt : doubt_of (more D (entries.End e)) i ≡ doubt_of D i = ⊎_elim (λ own. absurd (other own.0)) (λ beside. beside.1) (doubt_of-created D e o.inst p v answer i) in
-    let vm : vm_of (more D (entries.End e)) i ≡ vm_of D i = ⊎_elim (λ own. absurd (other own.0)) (λ beside. beside.1) (vm_of-created D e o.inst p v answer i) in
-    k ∙ sym (recorded-same ms (noting ms (entries.End e)) D (more D (entries.End e)) i vm doubt (make_of-stays D (entries.End e) i refl) (λ n is. ap had_effect (did_of-stays ms (Note (entries.End e)) n refl)))
-
-pub made-created : (ms : List Move) (D L : List Entry) (e : end.End) (o : OpenCall ms D L e.n) (v : ℕ) → e.answer ≡ Cid v → (d : did.Did) → did_of ms e.n ≡ Some d → d.effect ≡ true → (i : Inst) → InstFacts D i → IsMadeAsRecorded ms D L i → IsMadeAsRecorded (noting ms (entries.End e)) (more D (entries.End e)) L i
-made-created ms D L e o v answer d did took i facts k = created_by ms D L e o v answer d did took i facts k (same_or_other i o.inst)
-
-pub machine-created : (ms : List Move) (D L : List Entry) (e : end.End) (o : OpenCall ms D L e.n) (v : ℕ) → e.answer ≡ Cid v → o.call.n ≡ e.n → IsMade L o.inst e.n v → (i : Inst) → HasItsMachine D L i → HasItsMachine (more D (entries.End e)) L i
-machine-created ms D L e o v answer number made i k vm is = machine_by (vm_of-created D e o.inst (Ended-open ms D L e.n o) v answer i)
+-- what was recorded of a call in doubt is recorded of the machine
+TieFacts-has : (m : Moment) (e : end.End) (o : OpenCall m e.n) (d : did.Did) (is : IsMachine m.effects o.inst e.n d) → e.answer ≡ Cid is.machine →
+    did_of m.moves e.n ≡ Some d → o.call.n ≡ e.n → InstFacts m.known o.inst → TieFacts m o.inst → TieFacts (noting m (entries.End e)) o.inst
+TieFacts-has m e o d is answer did number facts k =
+    let make : make_of (more m.known (entries.End e)) o.inst ≡ make_of m.known o.inst = make_of-stays m.known (entries.End e) o.inst refl in
+    let vm : vm_of (more m.known (entries.End e)) o.inst ≡ Some (record { vm = is.machine; agent = o.call.n }) = grind (arith, vm_of-created m.known e o.inst (Ended-open m e.n o) is.machine answer o.inst) in
+    let took : doubt_took m.moves (doubt_of m.known o.inst) ≡ true = ap (doubt_took m.moves) o.doubted ∙ ap had_effect did ∙ is.took in
+    let before : makes_recorded m.known m.moves o.inst ≡ option_to_list (make_of m.known o.inst) = λ j. recorded (no_machine m.known o.inst e.n facts o.doubted j) (took j) (make_of m.known o.inst) in
+    let after : makes_recorded (more m.known (entries.End e)) (noting m (entries.End e)).moves o.inst ≡ option_to_list (make_of m.known o.inst) =
+    λ j. recorded (vm j) (doubt_took (noting m (entries.End e)).moves (doubt_of (more m.known (entries.End e)) o.inst)) (make j) in
+    let made : IsMade m.effects o.inst o.call.n is.machine = subst (λ n. IsMade m.effects o.inst n is.machine) (sym number) is.made in
+    record {
+      made = k.made ∙ before ∙ sym after;
+      machine = λ v has. subst (λ (x : Vm). IsMade m.effects o.inst x.agent x.vm) (the_one (sym vm ∙ has)) made;
+    }
   where
-    machine_by : ((i ≡ o.inst) × (vm_of (more D (entries.End e)) i ≡ Some (record { vm = v; agent = o.call.n }))) ⊎ ((i ≢ o.inst) × (vm_of (more D (entries.End e)) i ≡ vm_of D i)) → IsMade L i vm.agent vm.vm
-    machine_by (inl own) =
-        let both : Some vm ≡ Some (record { vm = v; agent = o.call.n }) = sym is ∙ own.1 in
-        let same : vm ≡ record { vm = v; agent = o.call.n } = cc in
-        let mine : IsMade L i o.call.n v = subst (λ j. IsMade L j o.call.n v) (sym own.0) (subst (λ n. IsMade L o.inst n v) (sym number) made) in
-        subst (λ (x : Vm). IsMade L i x.agent x.vm) (sym same) mine
-    machine_by (inr other) = k vm (sym other.1 ∙ is)
+    the_one : {a b : Vm} → Some a ≡ Some b → a ≡ b
+    the_one same = cc
+
+created_by : (m : Moment) (e : end.End) (o : OpenCall m e.n) (d : did.Did) (is : IsMachine m.effects o.inst e.n d) → e.answer ≡ Cid is.machine →
+    did_of m.moves e.n ≡ Some d → o.call.n ≡ e.n → (i : Inst) → InstFacts m.known i → TieFacts m i → (i ≡ o.inst) ⊎ (i ≢ o.inst) →
+    TieFacts (noting m (entries.End e)) i
+created_by m e o d is answer did number i facts k (inl own) = subst (TieFacts (noting m (entries.End e))) (sym own) (TieFacts-has m e o d is answer did number (subst (InstFacts m.known) own facts) (subst (TieFacts m) own k))
+created_by m e o d is answer did number i facts k (inr other) =
+    let p : Ended m.known e.n o.inst = Ended-open m e.n o in
+    TieFacts-end m e i k (elsewhere other (vm_of-created m.known e o.inst p is.machine answer i)) (elsewhere other (doubt_of-created m.known e o.inst p is.machine answer i))
+
+pub TieFacts-created : (m : Moment) (e : end.End) (o : OpenCall m e.n) (d : did.Did) (is : IsMachine m.effects o.inst e.n d) →
+    e.answer ≡ Cid is.machine → did_of m.moves e.n ≡ Some d → o.call.n ≡ e.n → (i : Inst) → InstFacts m.known i → TieFacts m i →
+    TieFacts (noting m (entries.End e)) i
+TieFacts-created m e o d is answer did number i facts k = created_by m e o d is answer did number i facts k (same_or_other i o.inst)
 
 -- ---- a call is performed
 
 -- without effect
-pub made-without : (ms : List Move) (D L : List Entry) (d : did.Did) → did_of ms d.n ≡ None → d.effect ≡ false → (i : Inst) → IsMadeAsRecorded ms D L i → IsMadeAsRecorded (ms ++ Did d ∷ []) D L i
-made-without ms D L d fresh none i k = k ∙ sym (recorded-same ms (ms ++ Did d ∷ []) D D i refl refl refl (λ n is. did_without ms d fresh none n))
+did_without : (moves : List Move) (d : did.Did) → did_of moves d.n ≡ None → d.effect ≡ false → (n : ℕ) → had_effect (did_of (moves ++ Did d ∷ []) n) ≡ had_effect (did_of moves n)
+did_without moves d fresh none n = grind (arith, latest_last, eqb_tells d.n n, fresh, none)
+
+pub TieFacts-without : (m : Moment) (d : did.Did) → did_of m.moves d.n ≡ None → d.effect ≡ false → (i : Inst) → TieFacts m i → TieFacts (performing m d m.effects) i
+TieFacts-without m d fresh none i k = TieFacts-same m (performing m d m.effects) i k refl (λ n v made. made) refl refl refl (λ n is. did_without m.moves d fresh none n)
+
+-- with its effect, of the instance: it has the one machine that its call in doubt made
+TieFacts-makes : (m : Moment) (d : did.Did) (o : OpenCall m d.n) → did_of m.moves d.n ≡ None → d.effect ≡ true → InstFacts m.known o.inst →
+    makes_in (more m.effects (Effect (effect_of o))) o.inst ≡ makes_in m.effects o.inst ++ o.make ∷ [] → TieFacts m o.inst →
+    TieFacts (performing m d (more m.effects (Effect (effect_of o)))) o.inst
+TieFacts-makes m d o fresh took facts grows k =
+    let vm : vm_of m.known o.inst ≡ None = no_machine m.known o.inst d.n facts o.doubted in
+    let not_yet : doubt_took m.moves (doubt_of m.known o.inst) ≡ false = ap (doubt_took m.moves) o.doubted ∙ ap had_effect fresh in
+    let none : makes_recorded m.known m.moves o.inst ≡ [] = λ j. recorded (vm j) (not_yet j) (make_of m.known o.inst) in
+    let did : did_of (m.moves ++ Did d ∷ []) d.n ≡ Some d = grind (arith, latest_last, eqb_tells d.n d.n) in
+    let now : doubt_took (m.moves ++ Did d ∷ []) (doubt_of m.known o.inst) ≡ true = ap (doubt_took (m.moves ++ Did d ∷ [])) o.doubted ∙ ap had_effect did ∙ took in
+    let one : makes_recorded m.known (m.moves ++ Did d ∷ []) o.inst ≡ o.make ∷ [] = λ j. recorded (vm j) (now j) (o.asked j) in
+    record {
+      made = grows ∙ ap (λ makes. makes ++ o.make ∷ []) (k.made ∙ none) ∙ sym one;
+      machine = λ v is. grind (arith, vm, is);
+    }
+
+-- of another: its call in doubt is another
+did_other : (moves : List Move) (known : List Entry) (d : did.Did) (inst i : Inst) (n : ℕ) → caller known d.n ≡ Some (Instance inst) →
+    caller known n ≡ Some (Instance i) → i ≢ inst → did_of (moves ++ Did d ∷ []) n ≡ did_of moves n
+did_other moves known d inst i n whose is other = did_of-other (λ same. other (owners (sym is ∙ ap (caller known) (sym same) ∙ whose)))
   where
-    did_without : (ms : List Move) (d : did.Did) → did_of ms d.n ≡ None → d.effect ≡ false → (n : ℕ) → had_effect (did_of (ms ++ Did d ∷ []) n) ≡ had_effect (did_of ms n)
-    did_without ms d fresh none n = grind (arith, latest_last, eqb_tells d.n n, fresh, none)
+    owners : {a b : Inst} → Some (Instance a) ≡ Some (Instance b) → a ≡ b
+    owners same = cc
 
--- with its effect: of the instance itself
-made-did : (ms : List Move) (D L : List Entry) (d : did.Did) (o : OpenCall ms D L d.n) → did_of ms d.n ≡ None → d.effect ≡ true → InstFacts D o.inst → makes_of (machines (L ++ Effect (effect_of o.call o.inst) ∷ [])) o.inst ≡ makes_of (machines L) o.inst ++ o.make ∷ [] → IsMadeAsRecorded ms D L o.inst → IsMadeAsRecorded (ms ++ Did d ∷ []) D (L ++ Effect (effect_of o.call o.inst) ∷ []) o.inst
-made-did ms D L d o fresh took facts grows k =
-    let none : makes_recorded D ms o.inst ≡ [] = λ j. recorded (no_machine D o.inst d.n facts o.doubted j) ((ap (doubt_took ms) o.doubted ∙ ap had_effect fresh) j) (make_of D o.inst) in
-    let did : did_of (ms ++ Did d ∷ []) d.n ≡ Some d = grind (arith, latest_last, eqb_tells d.n d.n) in
-    let one : makes_recorded D (ms ++ Did d ∷ []) o.inst ≡ o.make ∷ [] = λ j. recorded (no_machine D o.inst d.n facts o.doubted j) ((ap (doubt_took (ms ++ Did d ∷ [])) o.doubted ∙ ap had_effect did ∙ took) j) (o.asked j) in
-    grows ∙ ap (λ makes. makes ++ o.make ∷ []) (k ∙ none) ∙ sym one
+    did_of-other : d.n ≢ n → did_of (moves ++ Did d ∷ []) n ≡ did_of moves n
+    did_of-other apart = grind (arith, latest_last, eqb_tells d.n n, apart)
 
-did_other : (ms : List Move) (D : List Entry) (d : did.Did) (inst : Inst) → caller D d.n ≡ Some (Instance inst) → (i : Inst) (n : ℕ) → i ≢ inst → caller D n ≡ Some (Instance i) → did_of (ms ++ Did d ∷ []) n ≡ did_of ms n
-did_other ms D d inst whose i n other is = did_of-other ms d n (λ same. other (owners (sym is ∙ ap (caller D) (sym same) ∙ whose)))
-  where
-    owners : {i j : Inst} → Some (Instance i) ≡ Some (Instance j) → i ≡ j
-    owners is = cc
+caller_of_open : (m : Moment) (n : ℕ) (o : OpenCall m n) → caller m.known n ≡ Some (Instance o.inst)
+caller_of_open m n o = grind (arith, o.began, o.owner)
 
-    did_of-other : (ms : List Move) (d : did.Did) (n : ℕ) → d.n ≢ n → did_of (ms ++ Did d ∷ []) n ≡ did_of ms n
-    did_of-other ms d n other = grind (arith, latest_last, eqb_tells d.n n)
+made_by : (m : Moment) (d : did.Did) (o : OpenCall m d.n) → did_of m.moves d.n ≡ None → d.effect ≡ true → (i : Inst) → InstFacts m.known i →
+    TieFacts m i →
+    WhereSame i o.inst (makes_in (more m.effects (Effect (effect_of o))) i ≡ makes_in m.effects i ++ o.make ∷ []) (makes_in (more m.effects (Effect (effect_of o))) i ≡ makes_in m.effects i) →
+    TieFacts (performing m d (more m.effects (Effect (effect_of o)))) i
+made_by m d o fresh took i facts k (inl own) =
+    let grows : makes_in (more m.effects (Effect (effect_of o))) o.inst ≡ makes_in m.effects o.inst ++ o.make ∷ [] =
+    subst (λ j. makes_in (more m.effects (Effect (effect_of o))) j ≡ makes_in m.effects j ++ o.make ∷ []) own.0 own.1 in
+    subst (TieFacts (performing m d (more m.effects (Effect (effect_of o))))) (sym own.0) (TieFacts-makes m d o fresh took (subst (InstFacts m.known) own.0 facts) grows (subst (TieFacts m) own.0 k))
+made_by m d o fresh took i facts k (inr other) =
+    TieFacts-same m (performing m d (more m.effects (Effect (effect_of o)))) i k other.1 (λ n v made. IsMade-more m.effects (effect_of o) o.inst o.make (Creates-effect o) i n v made) refl refl refl
+    (λ n is. ap had_effect (did_other m.moves m.known d o.inst i n (caller_of_open m d.n o) (facts.own_call n is) other.0))
 
-did_by : (ms : List Move) (D L : List Entry) (d : did.Did) (o : OpenCall ms D L d.n) → did_of ms d.n ≡ None → d.effect ≡ true → (i : Inst) → InstFacts D i → IsMadeAsRecorded ms D L i → ((i ≡ o.inst) × (makes_of (machines (L ++ Effect (effect_of o.call o.inst) ∷ [])) i ≡ makes_of (machines L) i ++ o.make ∷ [])) ⊎ ((i ≢ o.inst) × (makes_of (machines (L ++ Effect (effect_of o.call o.inst) ∷ [])) i ≡ makes_of (machines L) i)) → IsMadeAsRecorded (ms ++ Did d ∷ []) D (L ++ Effect (effect_of o.call o.inst) ∷ []) i
-did_by ms D L d o fresh took i facts k (inl own) =
-    let grows : makes_of (machines (L ++ Effect (effect_of o.call o.inst) ∷ [])) o.inst ≡ makes_of (machines L) o.inst ++ o.make ∷ [] = subst (λ j. makes_of (machines (L ++ Effect (effect_of o.call o.inst) ∷ [])) j ≡ makes_of (machines L) j ++ o.make ∷ []) own.0 own.1 in
-    subst (IsMadeAsRecorded (ms ++ Did d ∷ []) D (L ++ Effect (effect_of o.call o.inst) ∷ [])) (sym own.0) (made-did ms D L d o fresh took (subst (InstFacts D) own.0 facts) grows (subst (IsMadeAsRecorded ms D L) own.0 k))
-did_by ms D L d o fresh took i facts k (inr other) =
-    let whose : caller D d.n ≡ Some (Instance o.inst) = caller_of_open ms D L d.n o in
-    other.1 ∙ k ∙ sym (recorded-same ms (ms ++ Did d ∷ []) D D i refl refl refl (λ n is. ap had_effect (did_other ms D d o.inst whose i n other.0 (facts.own_call n is))))
-  where
-    caller_of_open : (ms : List Move) (D L : List Entry) (n : ℕ) (o : OpenCall ms D L n) → caller D n ≡ Some (Instance o.inst)
-    caller_of_open ms D L n o = grind (arith, o.began, o.owner)
-
-pub made-with : (ms : List Move) (D L : List Entry) (d : did.Did) (o : OpenCall ms D L d.n) → did_of ms d.n ≡ None → d.effect ≡ true → IsOrderly L → (i : Inst) → InstFacts D i → IsMadeAsRecorded ms D L i → IsMadeAsRecorded (ms ++ Did d ∷ []) D (L ++ Effect (effect_of o.call o.inst) ∷ []) i
-made-with ms D L d o fresh took orderly i facts k = did_by ms D L d o fresh took i facts k (makes_of-more L (effect_of o.call o.inst) o.inst o.make (Creates-effect o.call o.inst o.make o.owner o.creates) orderly i)
+pub TieFacts-with : (m : Moment) (d : did.Did) (o : OpenCall m d.n) → did_of m.moves d.n ≡ None → d.effect ≡ true → IsOrderly m.effects → (i : Inst) →
+    InstFacts m.known i → TieFacts m i → TieFacts (performing m d (more m.effects (Effect (effect_of o)))) i
+TieFacts-with m d o fresh took orderly i facts k = made_by m d o fresh took i facts k (makes_of-more m.effects (effect_of o) o.inst o.make (Creates-effect o) orderly i)
