@@ -8,3 +8,4 @@ pub mod Records
 pub mod Safety
 pub mod Same
 pub mod Ties
+pub mod Told

@@ -15,3 +15,4 @@ pub mod RunLemmas
 pub mod SameLemmas
 pub mod TaskLemmas
 pub mod TieLemmas
+pub mod ToldLemmas

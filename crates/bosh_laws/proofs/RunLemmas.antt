@@ -23,7 +23,7 @@ use Rattle.bosh_laws.proofs.PerformLemmas.{built}
 
 -- ---- how the entries and the effects grow
 
-durable_last : (moves : List Move) (move : Move) → durable nothing (moves ++ move ∷ []) ≡ durable nothing moves ++ filter_map noted (move ∷ [])
+pub durable_last : (moves : List Move) (move : Move) → durable nothing (moves ++ move ∷ []) ≡ durable nothing moves ++ filter_map noted (move ∷ [])
 durable_last moves move = filter_map-append noted moves (move ∷ [])
 
 appended_last : {X A : Type 0} (give : List X → X → List A) (before xs : List X) (x : X) → appended give before (xs ++ x ∷ []) ≡ appended give before xs ++ give (before ++ xs) x
@@ -33,7 +33,7 @@ appended_last {X} {A} give before (y ∷ ys) x =
     ∙ sym (append_assoc (give before y) (appended give (before ++ y ∷ []) ys) (give ((before ++ y ∷ []) ++ ys) x))
     ∙ ap (λ (all : List X). (give before y ++ appended give (before ++ y ∷ []) ys) ++ give all x) (append_assoc before (y ∷ []) ys)
 
-effects_last : (moves : List Move) (move : Move) → effects_of nothing (moves ++ move ∷ []) ≡ effects_of nothing moves ++ effect_added nothing moves move
+pub effects_last : (moves : List Move) (move : Move) → effects_of nothing (moves ++ move ∷ []) ≡ effects_of nothing moves ++ effect_added nothing moves move
 effects_last moves move = appended_last (effect_added nothing) [] moves move
 
 -- ---- the invariant on moves

@@ -15,10 +15,9 @@ use Rattle.bosh_book.specs.declared.claim.Claim.{Claim}
 use Rattle.bosh_book.specs.declared.claim.Claim.TheVariants.{Work}
 use Rattle.bosh_book.specs.BookView.{BookView, PermitView, IsCurrent}
 use Rattle.bosh_cloud.specs.CloudView.{CloudView}
-use Rattle.bosh_history.specs.Effects.{effects_of}
 use Rattle.bosh_history.specs.Growing.{HistoryView}
-use Rattle.bosh_history.specs.Moves.{nothing, durable, is_open, did_of, is_halted}
-use Rattle.bosh_history.specs.Permitted.{IsRun}
+use Rattle.bosh_history.specs.Moves.{did_of, is_halted}
+use Rattle.bosh_history.specs.Told.{IsTold}
 use Rattle.bosh_ports.specs.Rigged.{RigState}
 
 -- its book, its cloud, and its moves
@@ -27,14 +26,10 @@ pub record SiteView (K L : Type 0) : Type 0 where
   pub cloud : CloudView L
   pub moves : List Move
 
--- the book and the cloud are what the moves say, and each move was permitted
+-- the book and the cloud are what the moves say, each of which was permitted, and a place is free for a halt
 pub record IsSite {K L : Type 0} (book : BookView (RigState K)) (cloud : CloudView L) (history : HistoryView) : Type 0 where
-  pub is_run : IsRun nothing history.moves
-  pub entries : book.entries ≡ durable nothing history.moves
-  pub effects : cloud.effects ≡ effects_of nothing history.moves
+  pub told : IsTold book.entries book.calls cloud.effects history.moves
   pub halts : is_halted history.moves ≡ book.is_stopped
-  pub calls : (n : ℕ) → (is_open history.moves n ≡ true) ↔ Contains book.calls n
-  pub creates : (n : ℕ) (d : did.Did) → did_of history.moves n ≡ Some d → (vm : ℕ) × (d.answer ≡ Cid vm)
   pub has_place : is_halted history.moves ≡ false → 1 ≤ history.free
 
 -- a call that was performed: its permit, and what it was answered
