@@ -21,8 +21,10 @@ use Rattle.bosh_base.specs.declared.inst.Inst.{Inst}
 use Rattle.bosh_history.specs.Goals.{want_of, instances, inst_of}
 use Rattle.bosh_history.specs.Permitted.{Begins, Opens}
 use Rattle.bosh_history.specs.Records.{last_call, begin_of, opening_of, goal_of, doubt_of, has_failed, vm_of}
-use Rattle.bosh_book.specs.BookView.{has_call, IsOpenCall, IsOwnCall, AreOpenCalls}
-use Rattle.bosh_laws.proofs.QuestionLemmas.{more, Ended, opening_of-stays, goal_of-stays, begin_of-stays, doubt_of-stays, doubt_of-begin, doubt_of-created}
+use Rattle.bosh_book.specs.BookView.{IsOpenCall, IsOwnCall, AreOpenCalls}
+use Rattle.bosh_history.specs.Told.{has_call}
+use Rattle.bosh_laws.proofs.Moments.{more}
+use Rattle.bosh_laws.proofs.QuestionLemmas.{Ended, opening_of-stays, goal_of-stays, begin_of-stays, doubt_of-stays, doubt_of-begin, doubt_of-created}
 use Rattle.bosh_laws.proofs.SameLemmas.{same_inst_tells}
 use Rattle.bosh_laws.proofs.TaskLemmas.{goal_of-open}
 use Rattle.std.specs.List.{AllByRecursion}
@@ -151,6 +153,7 @@ calls-begin D b calls p all = record {
       began = grind (arith, latest_last, eqb_tells b.n n);
       owner = grind (arith, p.owner);
     }
+
     own-old : (i : Inst) (n : ℕ) → IsOwnCall D calls i n → IsOwnCall (more D (entries.Begin b)) (calls ++ b.n ∷ []) i n
     own-old i n own = record {
       is_open = grind (arith, has_call-more calls b.n n, own.is_open);
@@ -158,9 +161,11 @@ calls-begin D b calls p all = record {
       began = grind (arith, latest_last, eqb_tells b.n n, own.began, (all.each n own.is_open).is_begun, p.number);
       owner = own.owner;
     }
+
     own-begun : (i : Inst) (n : ℕ) → ((i ≡ p.inst) × (doubt_of (more D (entries.Begin b)) i ≡ Some b.n)) ⊎ ((i ≢ p.inst) × (doubt_of (more D (entries.Begin b)) i ≡ doubt_of D i)) → doubt_of (more D (entries.Begin b)) i ≡ Some n → IsOwnCall (more D (entries.Begin b)) (calls ++ b.n ∷ []) i n
     own-begun i n (inl it) is = own-new i n it.0 (grind arith)
     own-begun i n (inr other) is = own-old i n (all.doubts i n (sym other.1 ∙ is))
+
     begun-each : (n : ℕ) → (((b.n == n) ≡ true) × (b.n ≡ n)) ⊎ (((b.n == n) ≡ false) × (b.n ≢ n)) → has_call (calls ++ b.n ∷ []) n ≡ true → IsOpenCall (more D (entries.Begin b)) n
     begun-each n (inl same) is = subst (IsOpenCall (more D (entries.Begin b))) same.1 (new-call D b p)
     begun-each n (inr other) is = other-call D b n p (all.each n (grind (arith, has_call-more calls b.n n)))
@@ -209,6 +214,7 @@ calls-end D e v calls is listed all =
   where
     apart : (i : Inst) (n : ℕ) (done : IsOpenCall D e.n) → i ≢ done.inst → IsOwnCall D calls i n → n ≢ e.n
     apart i n done other own same = other (grind (arith, ap (begin_of D) same, own.began, own.owner, done.began, done.owner))
+
     own-left : (i : Inst) (n : ℕ) (done : IsOpenCall D e.n) → i ≢ done.inst → IsOwnCall D calls i n → IsOwnCall (more D (entries.End e)) (without e.n calls) i n
     own-left i n done other own = record {
       is_open = grind (arith, has_call-without calls e.n n, eqb_tells n e.n, own.is_open, apart i n done other own);
@@ -216,6 +222,7 @@ calls-end D e v calls is listed all =
       began = begin_of-stays D (entries.End e) n refl ∙ own.began;
       owner = own.owner;
     }
+
     own-ended : (i : Inst) (n : ℕ) (done : IsOpenCall D e.n) → ((i ≡ done.inst) × (doubt_of (more D (entries.End e)) i ≡ None)) ⊎ ((i ≢ done.inst) × (doubt_of (more D (entries.End e)) i ≡ doubt_of D i)) → doubt_of (more D (entries.End e)) i ≡ Some n → IsOwnCall (more D (entries.End e)) (without e.n calls) i n
     own-ended i n done (inl it) in_doubt = absurd (grind (arith, it.1, in_doubt))
     own-ended i n done (inr other) in_doubt = own-left i n done other.0 (all.doubts i n (sym other.1 ∙ in_doubt))
@@ -233,9 +240,10 @@ found_here i (f ∷ front) rows r is none = found_here i front rows r is (grind 
 
 found_all : (front rows : List row.GoalRow) → AllByRecursion (λ i. find (is_row_of i) (front ++ rows) ≢ None) (map inst_of rows)
 found_all front [] = tt
-found_all front (r ∷ rows) =
-    (found_here r.inst front rows r (grind (arith, same_inst_tells r.inst r.inst)),
-     subst (λ (all : List row.GoalRow). AllByRecursion (λ i. find (is_row_of i) all ≢ None) (map inst_of rows)) (append_assoc front (r ∷ []) rows) (found_all (front ++ r ∷ []) rows))
+found_all front (r ∷ rows) = (
+  found_here r.inst front rows r (grind (arith, same_inst_tells r.inst r.inst)),
+  subst (λ (all : List row.GoalRow). AllByRecursion (λ i. find (is_row_of i) all ≢ None) (map inst_of rows)) (append_assoc front (r ∷ []) rows) (found_all (front ++ r ∷ []) rows),
+)
 
 -- an instance of a sound goal is wanted
 wanted-new : (D : List Entry) (o : task_open.TaskOpen) (p : Opens D o) → All (λ i. want_of (more D (entries.TaskOpen o)) i ≢ None) (instances p.goal)

@@ -1,6 +1,5 @@
 -- What contracts see of the book, and what it keeps true.
-use Rattle.std.specs.Prelude.{◌≡◌, ◌≢◌, ℕ, ◌≤◌, ◌==◌, Bool, true, false, Some, None, List, [], All}
-use Rattle.std.specs.List.{list_any}
+use Rattle.std.specs.Prelude.{◌≡◌, ◌≢◌, ℕ, ◌≤◌, Bool, true, false, Some, None, List, [], All}
 use Rattle.bosh_base.specs.declared.call.Call.{Call}
 use Rattle.bosh_base.specs.declared.call.Call.TheVariants.{CreateVm}
 use Rattle.bosh_base.specs.declared.entry.Begin as begin
@@ -11,14 +10,19 @@ use Rattle.bosh_base.specs.declared.make.Make.{Make}
 use Rattle.bosh_base.specs.declared.owner.Owner.{Owner}
 use Rattle.bosh_base.specs.declared.owner.Owner.TheVariants.{Instance}
 use Rattle.bosh_history.specs.Goals.{want_of}
+use Rattle.bosh_history.specs.Told.{has_call}
 use Rattle.bosh_history.specs.Records.{last_call, begin_of, opening_of, doubt_of, has_failed}
 
--- its store, its entries, the numbers of its open calls, and whether it was stopped
-pub record BookView (K : Type 0) : Type 0 where
-  pub store : K
+-- its entries, the numbers of its open calls, and whether it was stopped
+pub record LedgerView : Type 0 where
   pub entries : List Entry
   pub calls : List ℕ
   pub is_stopped : Bool
+
+-- its store and its ledger
+pub record BookView (K : Type 0) : Type 0 where
+  pub store : K
+  pub ledger : LedgerView
 
 -- what a permit allows: call n of a task, in the name of an owner, for a deployment
 pub record PermitView : Type 0 where
@@ -27,10 +31,6 @@ pub record PermitView : Type 0 where
   pub owner : Owner
   pub dep : List ℕ
   pub call : Call
-
--- call n is among them
-abbrev pub has_call : List ℕ → ℕ → Bool
-has_call calls n = list_any (λ m. m == n) calls
 
 -- call n began, and makes a machine of an instance, which has no other call in doubt
 pub record IsOpenCall (entries : List Entry) (n : ℕ) : Type 0 where
@@ -72,7 +72,7 @@ pub record IsFor (begun : begin.Begin) (permit : PermitView) : Type 0 where
   pub deployment : IsOf permit.owner permit.dep
 
 -- a permit is current where its call is open in this book
-pub record IsCurrent {K : Type 0} (book : BookView K) (permit : PermitView) : Type 0 where
+pub record IsCurrent (book : LedgerView) (permit : PermitView) : Type 0 where
   pub is_open : has_call book.calls permit.n ≡ true
   pub begun : begin.Begin
   pub began : begin_of book.entries permit.n ≡ Some begun

@@ -15,7 +15,7 @@ use Rattle.bosh_base.specs.declared.owner.Owner.TheVariants.{Instance}
 use Rattle.bosh_history.specs.Goals.{want_of, roll_of}
 use Rattle.bosh_history.specs.Permitted.{IsNotable}
 use Rattle.bosh_history.specs.Records.{last_call, opening_of, is_task_open, update_of, vm_of, doubt_of}
-use Rattle.bosh_book.specs.BookView.{BookView, PermitView, IsCurrent}
+use Rattle.bosh_book.specs.BookView.{LedgerView, PermitView, IsCurrent}
 use Rattle.bosh_book.specs.declared.claim.Claim.{Claim}
 use Rattle.bosh_book.specs.declared.claim.Claim.TheVariants.{Work, Wait, Over}
 use Rattle.bosh_book.specs.declared.next.Next.{Next}
@@ -111,7 +111,7 @@ pub record IsCreationAt (before : List Entry) (t k : ℕ) (permit : PermitView) 
   pub creates : permit.call ≡ CreateVm want.make []
 
 -- the call of a permit began: it is what came next, is permitted, and is open now
-pub record IsBegun {K : Type 0} (t worker : ℕ) (old new : BookView K) (permit : PermitView) : Type 0 where
+pub record IsBegun (t worker : ℕ) (old new : LedgerView) (permit : PermitView) : Type 0 where
   pub task : permit.task ≡ t
   pub by_the_rules : IsChosen t old.entries (Begin (begin_by worker permit))
   pub permitted : IsNotable old.entries (Begin (begin_by worker permit))
@@ -119,7 +119,7 @@ pub record IsBegun {K : Type 0} (t worker : ℕ) (old new : BookView K) (permit 
   pub current : IsCurrent new permit
 
 -- what a worker is given: a call whose permit is current; or nothing, while a call is open; or nothing, as nothing is left
-abbrev pub IsGiven : {K : Type 0} → ℕ → BookView K → BookView K → Claim → Type 0
+abbrev pub IsGiven : ℕ → LedgerView → LedgerView → Claim → Type 0
 IsGiven t old new (Work permit) = (permit.task ≡ t) × (new.calls ≡ old.calls ++ permit.n ∷ []) × IsCurrent new permit × (last_call new.entries ≡ permit.n)
 IsGiven t old new Wait = IsChoice new.entries t choices.Wait × (new.calls ≡ old.calls) × (old.calls ≢ [])
 IsGiven t old new Over = IsChoice new.entries t choices.Over × (new.calls ≡ old.calls)

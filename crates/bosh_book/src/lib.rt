@@ -4,6 +4,7 @@
 mod book;
 mod claim;
 mod fault;
+mod ledger;
 mod next;
 mod note;
 mod opened;

@@ -4,7 +4,7 @@ ghost use Rattle.bosh_book.specs.declared.fault.BookFault.{BookFault};
 ghost use Rattle.bosh_fold.specs.Addable.{IsAddable};
 
 use crate::BookFault;
-use bosh_base::{Copyable, CopyFault, Entry, Move};
+use bosh_base::{CopyFault, Copyable, Entry, Move};
 use bosh_fold::Records;
 use bosh_history::History;
 use std::alloc::Global;

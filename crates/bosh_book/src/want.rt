@@ -10,5 +10,5 @@ pub fn want_of<'a>(records: &'a Records, inst: &Inst) -> Option<&'a GoalRow>
     ensures { option_copied result ≡ want_of records.now inst.now }
 {
     let goal = records.goal_of(&inst.dep)?;
-    goal.rows.iter().find(|row| row.inst == *inst)
+    goal.rows.iter().find(|row| *inst == row.inst)
 }
