@@ -1,0 +1,4 @@
+use Rattle.bosh_book.proofs.ledger.Ledger.begin_call.Goals as goal
+
+pub invariant_of-self-2 : goal.invariant_of-self-2
+invariant_of-self-2 c = ?

@@ -1,0 +1,6 @@
+//! Carries tasks to their ends.
+#![tactic(auto)]
+
+mod drive;
+
+pub use drive::drive;

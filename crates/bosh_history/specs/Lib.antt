@@ -1,0 +1,11 @@
+pub mod Effects
+pub mod Exactness
+pub mod Goals
+pub mod Growing
+pub mod Moves
+pub mod Permitted
+pub mod Records
+pub mod Safety
+pub mod Same
+pub mod Ties
+pub mod Told
