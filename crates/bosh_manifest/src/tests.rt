@@ -6,20 +6,20 @@ use std::test::Fail;
 const REFUSED: [&[u8]; 16] = [
     b"",
     b"{",
-    b"{\"name\"",
-    b"{\"name\":\"dep\"}",
-    b" {\"name\":\"dep\",\"instance_groups\":[{\"name\":\"web\",\"instances\":1,\"azs\":[\"z1\"],\"vm_type\":\"small\"}]}",
-    b"{\"name\":\"other\",\"instance_groups\":[{\"name\":\"web\",\"instances\":1,\"azs\":[\"z1\"],\"vm_type\":\"small\"}]}",
-    b"{\"name\":\"dep\",\"instance_groups\":[{\"name\":\"-web\",\"instances\":1,\"azs\":[\"z1\"],\"vm_type\":\"small\"}]}",
-    b"{\"name\":\"dep\",\"instance_groups\":[{\"name\":\"web\",\"instances\":257,\"azs\":[\"z1\"],\"vm_type\":\"small\"}]}",
-    b"{\"name\":\"dep\",\"instance_groups\":[{\"name\":\"web\",\"instances\":1.0,\"azs\":[\"z1\"],\"vm_type\":\"small\"}]}",
-    b"{\"name\":\"dep\",\"instance_groups\":[{\"name\":\"web\",\"instances\":-1,\"azs\":[\"z1\"],\"vm_type\":\"small\"}]}",
-    b"{\"name\":\"dep\",\"instance_groups\":[{\"name\":\"web\",\"instances\":1,\"azs\":[],\"vm_type\":\"small\"}]}",
-    b"{\"name\":\"dep\",\"instance_groups\":[{\"name\":\"web\",\"instances\":1,\"azs\":[\"z1\",2],\"vm_type\":\"small\"}]}",
-    b"{\"name\":\"dep\",\"instance_groups\":[{\"name\":\"web\",\"instances\":1,\"azs\":[\"z1\"]}]}",
-    b"{\"name\":\"dep\",\"instance_groups\":[]}",
-    b"{\"name\":\"dep\",\"instance_groups\":[{\"name\":\"web\",\"instances\":1,\"azs\":[\"z1\"],\"vm_type\":\"small\"},{\"name\":\"web\",\"instances\":1,\"azs\":[\"z1\"],\"vm_type\":\"small\"}]}",
-    b"{\"name\":\"dep\",\"instance_groups\":[{\"name\":\"web\",\"instances\":1,\"azs\":[\"z1\"],\"vm_type\":\"small\"}]} x",
+    br#"{"name""#,
+    br#"{"name":"dep"}"#,
+    br#" {"name":"dep","instance_groups":[{"name":"web","instances":1,"azs":["z1"],"vm_type":"small"}]}"#,
+    br#"{"name":"other","instance_groups":[{"name":"web","instances":1,"azs":["z1"],"vm_type":"small"}]}"#,
+    br#"{"name":"dep","instance_groups":[{"name":"-web","instances":1,"azs":["z1"],"vm_type":"small"}]}"#,
+    br#"{"name":"dep","instance_groups":[{"name":"web","instances":257,"azs":["z1"],"vm_type":"small"}]}"#,
+    br#"{"name":"dep","instance_groups":[{"name":"web","instances":1.0,"azs":["z1"],"vm_type":"small"}]}"#,
+    br#"{"name":"dep","instance_groups":[{"name":"web","instances":-1,"azs":["z1"],"vm_type":"small"}]}"#,
+    br#"{"name":"dep","instance_groups":[{"name":"web","instances":1,"azs":[],"vm_type":"small"}]}"#,
+    br#"{"name":"dep","instance_groups":[{"name":"web","instances":1,"azs":["z1",2],"vm_type":"small"}]}"#,
+    br#"{"name":"dep","instance_groups":[{"name":"web","instances":1,"azs":["z1"]}]}"#,
+    br#"{"name":"dep","instance_groups":[]}"#,
+    br#"{"name":"dep","instance_groups":[{"name":"web","instances":1,"azs":["z1"],"vm_type":"small"},{"name":"web","instances":1,"azs":["z1"],"vm_type":"small"}]}"#,
+    br#"{"name":"dep","instance_groups":[{"name":"web","instances":1,"azs":["z1"],"vm_type":"small"}]} x"#,
 ];
 
 #[test]
@@ -38,7 +38,7 @@ fn refuses(rt: HostRuntime) -> Result<(), Fail> {
 fn reads(rt: HostRuntime) -> Result<(), Fail> {
     let dep = Name::of(rt.alloc(), b"dep").expect(&rt, "a name");
     let text =
-        b"{\"name\":\"dep\",\"update\":{\"canaries\":0.5},\"instance_groups\":[{\"name\":\"web\",\"instances\":256,\"azs\":[\"z1\",\"z2\"],\"vm_type\":\"small\",\"env\":1e3}]}";
+        br#"{"name":"dep","update":{"canaries":0.5},"instance_groups":[{"name":"web","instances":256,"azs":["z1","z2"],"vm_type":"small","env":1e3}]}"#;
     let manifest = read_bare(rt.alloc(), &dep, text).expect(&rt, "a manifest");
     let BareManifest { name, group } = manifest;
     assert!(rt; name.as_bytes() == b"dep".as_slice());
