@@ -133,7 +133,7 @@ impl Records {
         known::find(&self.table, inst)?.doubt
     }
 
-    /// Adds an entry that may be noted, or the end of a call that began.
+    /// Adds an entry that may be noted, or the end of a creation. For want of memory nothing changes.
     pub fn apply(&mut self, entry: Entry) -> Result<(), FoldFault>
         requires { IsAddable self.old entry }
         ensures ok { OnOk result (self.new ≡ self.old ++ entry ∷ []) }
