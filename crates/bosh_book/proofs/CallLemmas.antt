@@ -22,6 +22,7 @@ use Rattle.bosh_history.specs.Goals.{want_of, instances, inst_of}
 use Rattle.bosh_history.specs.Permitted.{Begins, Opens}
 use Rattle.bosh_history.specs.Records.{last_call, begin_of, opening_of, goal_of, doubt_of, has_failed, vm_of}
 use Rattle.bosh_book.specs.BookView.{IsOpenCall, IsOwnCall, AreOpenCalls}
+use Rattle.bosh_fold.specs.Addable.{EndsCreation}
 use Rattle.bosh_history.specs.Told.{has_call}
 use Rattle.bosh_laws.proofs.Moments.{more}
 use Rattle.bosh_laws.proofs.QuestionLemmas.{Ended, opening_of-stays, goal_of-stays, begin_of-stays, doubt_of-stays, doubt_of-begin, doubt_of-created}
@@ -104,7 +105,7 @@ calls-quiet D e calls quiet failed opens goals all = record {
 
 -- ---- a call begins
 
-has_call-more : (calls : List ℕ) (m n : ℕ) → has_call (calls ++ m ∷ []) n ≡ (has_call calls n || m == n)
+pub has_call-more : (calls : List ℕ) (m n : ℕ) → has_call (calls ++ m ∷ []) n ≡ (has_call calls n || m == n)
 has_call-more calls m n = list_any-append (λ k. k == n) calls (m ∷ []) ∙ grind arith
 
 -- the new call is open
@@ -294,3 +295,19 @@ calls-none = record {
   none_failed = λ t. refl;
   wants = λ t task is. absurd (grind (arith, is));
 }
+
+-- the end of an open creation may be added
+pub ends_creation : (D : List Entry) (calls : List ℕ) (n vm : ℕ) → AreOpenCalls D calls → has_call calls n ≡ true → EndsCreation D (record { n = n; answer = Cid vm })
+ends_creation D calls n vm all listed =
+    let call : IsOpenCall D n = all.each n listed in record {
+      call = call.begin;
+      began = call.began;
+      number = call.number;
+      inst = call.inst;
+      owner = call.owner;
+      make = call.make;
+      hint = [];
+      creates = call.creates;
+      vm = vm;
+      answered = refl;
+    }

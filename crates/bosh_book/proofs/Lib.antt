@@ -1,1 +1,7 @@
 pub mod CallLemmas
+pub mod ClaimLemmas
+pub mod CurrentLemmas
+pub mod LeftLemmas
+pub mod NoteLemmas
+pub mod StepLemmas
+pub mod TurnLemmas

@@ -12,9 +12,10 @@ use Rattle.bosh_base.specs.declared.goal.GoalRow.{GoalRow}
 use Rattle.bosh_base.specs.declared.goal.GroupPlan.{GroupPlan}
 use Rattle.bosh_base.specs.declared.inst.Inst.{Inst}
 use Rattle.bosh_base.specs.declared.owner.Owner.TheVariants.{Instance}
+use Rattle.bosh_fold.specs.Tables.{IsDeploy}
 use Rattle.bosh_history.specs.Goals.{want_of, roll_of}
 use Rattle.bosh_history.specs.Permitted.{IsNotable}
-use Rattle.bosh_history.specs.Records.{last_call, opening_of, is_task_open, update_of, vm_of, doubt_of}
+use Rattle.bosh_history.specs.Records.{last_call, opening_of, is_task_open, has_failed, update_of, vm_of, doubt_of}
 use Rattle.bosh_book.specs.BookView.{LedgerView, PermitView, IsCurrent}
 use Rattle.bosh_book.specs.declared.claim.Claim.{Claim}
 use Rattle.bosh_book.specs.declared.claim.Claim.TheVariants.{Work, Wait, Over}
@@ -72,11 +73,21 @@ IsOpenChoice entries task group (choices.BeginUpdate k) = (i : Inst) × IsFirst 
 IsOpenChoice entries task group (choices.Create k) = (i : Inst) × IsFirst entries task group k i × (update_of entries task.task i ≡ Busy) × (vm_of entries i ≡ None)
 IsOpenChoice entries task group (choices.Finish k) = (i : Inst) × IsFirst entries task group k i × (update_of entries task.task i ≡ Busy) × (vm_of entries i ≢ None)
 
+-- a task was opened, with this number and a goal of one group
+pub record IsOpened (entries : List Entry) (t : ℕ) : Type 0 where
+  pub task : task_open.TaskOpen
+  pub opened : opening_of entries t ≡ Some task
+  pub deploys : IsDeploy t task
+
+-- .. and is open, and this comes next
+pub record IsOpenWith (entries : List Entry) (t : ℕ) (next : Next) : Type 0 where
+  pub is_open : is_task_open entries t ≡ true
+  pub opening : IsOpened entries t
+  pub choice : IsOpenChoice entries opening.task opening.deploys.group next
+
 -- what comes next for a task: nothing, where it has ended
 abbrev pub IsChoice : List Entry → ℕ → Next → Type 0
-IsChoice entries t next =
-    ((is_task_open entries t ≡ false) × (next ≡ choices.Over))
-    ⊎ ((is_task_open entries t ≡ true) × ((task : task_open.TaskOpen) (goal : Goal) (group : GroupPlan) → opening_of entries t ≡ Some task → task.goal ≡ Some goal → goal.groups ≡ group ∷ [] → IsOpenChoice entries task group next))
+IsChoice entries t next = ((is_task_open entries t ≡ false) × (next ≡ choices.Over)) ⊎ IsOpenWith entries t next
 
 -- the instance at a place among those that a task changes
 abbrev pub IsAt : List Entry → ℕ → ℕ → Inst → Type 0

@@ -1,3 +1,5 @@
 pub mod Answers
 pub mod BookView
 pub mod Claims
+pub mod Left
+pub mod Turns

@@ -9,6 +9,7 @@ ghost use Rattle.bosh_base.specs.declared.task.TaskEnd.TheVariants.{Finished};
 ghost use Rattle.bosh_book.specs.BookView.{IsCurrent};
 ghost use Rattle.bosh_book.specs.Answers.{Accepts, IfAccepted, IsRefusal, IsSettleRefusal};
 ghost use Rattle.bosh_book.specs.Claims.{AreClaimed, IsAt, IsBegun, IsChoice, IsChosen, IsCreationAt, IsGiven, begin_by};
+ghost use Rattle.bosh_book.specs.Turns.{NotesUpdate};
 ghost use Rattle.bosh_book.specs.declared.next.Next.TheVariants.{BeginUpdate, Create, Finish, Over};
 ghost use Rattle.bosh_book.specs.declared.fault.BookFault.{BookFault};
 ghost use Rattle.bosh_fold.specs.Tables.{IsRecorded};
@@ -16,7 +17,7 @@ ghost use Rattle.bosh_history.specs.Goals.{IsSound};
 ghost use Rattle.bosh_history.specs.Permitted.{Begins, EndsTask, IsNotable, Opens};
 ghost use Rattle.std.specs.List.{filter_map};
 ghost use Rattle.bosh_history.specs.Told.{has_call};
-ghost use Rattle.bosh_history.specs.Records.{call_number, last_call, tasks_opened, is_task_open, opening_of, goal_of};
+ghost use Rattle.bosh_history.specs.Records.{call_number, has_failed, last_call, tasks_opened, is_task_open, opening_of, goal_of};
 
 use crate::next::{Next, choose};
 use crate::note::note;
@@ -50,6 +51,12 @@ fn has_call(calls: &[u64], n: u64) -> bool
     ensures { result ≡ has_call calls.now n }
 {
     calls.iter().any(|call| *call == n)
+}
+
+fn remove_call(calls: &mut Vec<u64>, n: u64)
+    ensures { calls.new.items ≡ filter (λ m. not (m == n)) calls.old.items }
+{
+    calls.retain(|call| *call != n);
 }
 
 impl Model for Ledger {
@@ -173,10 +180,12 @@ impl Ledger {
         }
     }
 
+    // The task and the instance at a place.
     fn update_at(&self, task: u64, place: usize) -> Result<Update, CopyFault>
         requires recorded { IsRecorded self.now.entries task }
         requires at_place { (opening : task_open.TaskOpen) → opening_of self.now.entries task ≡ Some opening → place < length opening.changed }
-        ensures { IfOk result (λ update. (update.task ≡ task) × IsAt self.now.entries task place update.inst) }
+        ensures update { IfOk result (λ update. (update.task ≡ task) × IsAt self.now.entries task place update.inst) }
+        ensures none_failed { has_failed self.now.entries task ≡ false }
     {
         let changed = self.records.opening_of(task).changed.as_slice();
         let inst = changed[place].copy(self.alloc)?;
@@ -193,7 +202,7 @@ impl Ledger {
         requires recorded { IsRecorded self.old.entries task }
         requires chosen { IsChoice self.old.entries task (BeginUpdate place) }
         requires is_open { is_task_open self.old.entries task ≡ true }
-        ensures ok { OnOk result ((entry : Entry) × IsChosen task self.old.entries entry × IsNotable self.old.entries entry × (self.new ≡ record self.old { entries = self.old.entries ++ entry ∷ [] }) × (history.new.moves ≡ history.old.moves ++ Note entry ∷ []) × (1 ≤ history.new.free)) }
+        ensures ok { OnOk result (NotesUpdate task self.old self.new history.old history.new) }
         ensures err { IfErr result (λ fault. (fault ≡ BookFault.Memory) × (self.new ≡ self.old) × (history.new.moves ≡ history.old.moves) × (history.old.free ≤ history.new.free)) }
     {
         let update = self.update_at(task, place)?;
@@ -215,7 +224,7 @@ impl Ledger {
         requires recorded { IsRecorded self.old.entries task }
         requires chosen { IsChoice self.old.entries task (Finish place) }
         requires is_open { is_task_open self.old.entries task ≡ true }
-        ensures ok { OnOk result ((entry : Entry) × IsChosen task self.old.entries entry × IsNotable self.old.entries entry × (self.new ≡ record self.old { entries = self.old.entries ++ entry ∷ [] }) × (history.new.moves ≡ history.old.moves ++ Note entry ∷ []) × (1 ≤ history.new.free)) }
+        ensures ok { OnOk result (NotesUpdate task self.old self.new history.old history.new) }
         ensures err { IfErr result (λ fault. (fault ≡ BookFault.Memory) × (self.new ≡ self.old) × (history.new.moves ≡ history.old.moves) × (history.old.free ≤ history.new.free)) }
     {
         let update = self.update_at(task, place)?;
@@ -230,10 +239,10 @@ impl Ledger {
     // The permit for the creation of the machine of the instance at a place.
     fn permit_at(&self, task: u64, place: usize) -> Result<Permit, CopyFault>
         requires recorded { IsRecorded self.now.entries task }
-        requires chosen { IsChoice self.now.entries task (Create place) }
-        requires is_open { is_task_open self.now.entries task ≡ true }
+        requires at_place { (opening : task_open.TaskOpen) → opening_of self.now.entries task ≡ Some opening → place < length opening.changed }
         requires few { last_call self.now.entries < 2 ^ 62 }
-        ensures { IfOk result (IsCreationAt self.now.entries task place) }
+        ensures permit { IfOk result (IsCreationAt self.now.entries task place) }
+        ensures none_failed { has_failed self.now.entries task ≡ false }
     {
         let n = self.records.last_call() + 1;
         let inst = &self.records.opening_of(task).changed.as_slice()[place];
@@ -313,7 +322,7 @@ impl Ledger {
         match note(self.alloc, &mut self.records, Entry::End(end), history) {
             Err(fault) => Err((permit, Answer::Cid(vm), fault)),
             Ok(()) => {
-                self.calls.retain(|call| *call != n);
+                remove_call(&mut self.calls, n);
                 permit.spend();
                 Ok(())
             }
@@ -343,14 +352,15 @@ impl Ledger {
         if self.is_stopped {
             return Err(BookFault::Stopped);
         }
-        if self.records.is_task_open(task) {
-            note(
-                self.alloc,
-                &mut self.records,
-                Entry::TaskDone(task),
-                history,
-            )?;
+        if !self.records.is_task_open(task) {
+            return Ok(TaskEnd::Finished);
         }
+        note(
+            self.alloc,
+            &mut self.records,
+            Entry::TaskDone(task),
+            history,
+        )?;
         Ok(TaskEnd::Finished)
     }
 }

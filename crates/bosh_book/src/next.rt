@@ -37,7 +37,7 @@ fn is_ready(records: &Records, roll: &GroupRoll, k: usize, inst: &Inst) -> bool
     }
 }
 
-// What is to be done for an instance that is ready.
+// What is to be done for an instance that is ready, by how far its update is.
 fn step_of(records: &Records, state: Upd, k: usize, inst: &Inst) -> Next
     ensures { result ≡ step_of records.now inst.now k state }
 {
@@ -48,6 +48,16 @@ fn step_of(records: &Records, state: Upd, k: usize, inst: &Inst) -> Next
             Some(_) => Next::Finish(k),
         },
     }
+}
+
+// .. for the instance at a place.
+fn step_at(records: &Records, roll: &GroupRoll, changed: &[Inst], k: usize) -> Next
+    requires place { k < length changed.now }
+    requires state { k < length roll.now.states }
+    ensures { (inst : Inst) (state : upd.Upd) → slice_get changed.now k ≡ Some inst → slice_get roll.now.states k ≡ Some state → result ≡ step_of records.now inst k state }
+{
+    let state = roll.states.as_slice()[k];
+    step_of(records, state, k, &changed[k])
 }
 
 // The first place at which something is to be done.
@@ -63,10 +73,10 @@ fn first_ready(records: &Records, roll: &GroupRoll, changed: &[Inst]) -> Option<
     None
 }
 
-fn are_finished(states: &[Upd]) -> bool
-    ensures { IsTrue result ↔ All (λ state. state ≡ upds.Finished) states.now }
+fn is_finished(roll: &GroupRoll) -> bool
+    ensures { IsTrue result ↔ All (λ state. state ≡ upds.Finished) roll.now.states }
 {
-    states.iter().all(|state| *state == Upd::Finished)
+    roll.states.as_slice().iter().all(|state| *state == Upd::Finished)
 }
 
 /// What comes next for a task.
@@ -80,8 +90,8 @@ pub fn choose(records: &Records, task: u64) -> Next
     let roll = records.roll_of(task);
     let changed = records.opening_of(task).changed.as_slice();
     match first_ready(records, roll, changed) {
-        Some(k) => step_of(records, roll.states.as_slice()[k], k, &changed[k]),
-        None if are_finished(roll.states.as_slice()) => Next::Over,
+        Some(k) => step_at(records, roll, changed, k),
+        None if is_finished(roll) => Next::Over,
         None => Next::Wait,
     }
 }

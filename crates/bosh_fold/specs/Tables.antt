@@ -44,6 +44,14 @@ pub record IsProgress (entries : List Entry) (t : ℕ) (progress : Progress) : T
 abbrev pub IsRecorded : List Entry → ℕ → Type 0
 IsRecorded entries t = (1 ≤ t) × (t ≤ tasks_opened entries)
 
+-- the task has this number, and deploys a goal of one group
+pub record IsDeploy (t : ℕ) (task : task_open.TaskOpen) : Type 0 where
+  pub number : task.task ≡ t
+  pub goal : Goal
+  pub has_goal : task.goal ≡ Some goal
+  pub group : GroupPlan
+  pub one_group : goal.groups ≡ group ∷ []
+
 -- each task, by its number
 pub record AreTasks (entries : List Entry) (tasks : List Progress) : Type 0 where
   pub all : length tasks ≡ tasks_opened entries

@@ -9,7 +9,7 @@ ghost use Rattle.bosh_history.specs.Goals.{roll_of};
 ghost use Rattle.bosh_history.specs.Permitted.{Opens, Begins, BeginsUpdate, EndsUpdate, EndsTask};
 ghost use Rattle.bosh_history.specs.Records.{last_call, begin_of, tasks_opened, opening_of, is_task_open, update_of, goal_of, vm_of, doubt_of};
 ghost use Rattle.bosh_fold.specs.Addable.{IsAddable, EndsCreation};
-ghost use Rattle.bosh_fold.specs.Tables.{IsRecorded, set_state};
+ghost use Rattle.bosh_fold.specs.Tables.{IsDeploy, IsRecorded, set_state};
 
 use crate::known::{self, Known};
 use crate::progress::{self, Progress};
@@ -102,7 +102,8 @@ impl Records {
     /// How a task was opened.
     pub fn opening_of(&self, task: u64) -> &TaskOpen
         requires { IsRecorded self.now task }
-        ensures { opening_of self.now task ≡ Some result.now }
+        ensures opening { opening_of self.now task ≡ Some result.now }
+        ensures deploys { IsDeploy task result.now }
     {
         match &self.entries[self.tasks[task as usize - 1].opened_at] {
             Entry::TaskOpen(open) => open,

@@ -2,7 +2,7 @@ use Rattle.std.proofs.Common.{◌≡◌, ◌<◌, Some, length, sym, subst, ap, 
 use Rattle.std.proofs.lemmas.Option.{slice_get_within, get_or_from_slice_get}
 use Rattle.bosh_base.specs.declared.entry.Entry.TheVariants.{TaskOpen}
 use Rattle.bosh_history.specs.Records.{opening_of}
-use Rattle.bosh_fold.specs.Tables.{IsRecorded, IsProgress}
+use Rattle.bosh_fold.specs.Tables.{IsDeploy, IsRecorded, IsProgress}
 use Rattle.bosh_fold.proofs.TaskLemmas.{at_place}
 use Rattle.bosh_fold.proofs.records.Records.opening_of.Goals as goal
 
@@ -21,11 +21,20 @@ unreachable-requires c =
     let p : IsProgress entries c.args.task c.index.result.now = at_place entries c.args.task c.self.inside.tasks.items c.index.result.now recorded c.self.invariant.by_number c.index.ensures in
     c.in_default.not-TaskOpen p.task (c.index-2.ensures ∙ get_or_from_slice_get entries c.index.result.now.opened_at (TaskOpen p.task) c.index-2.result.now p.stands)
 
-pub returns : goal.returns
-returns c =
+pub returns-clause-opening : goal.returns-clause-opening
+returns-clause-opening c =
     let entries = c.self.inside.entries.items in
     let recorded : IsRecorded entries c.args.task = subst (λ entries. IsRecorded entries c.args.task) (sym c.self.view_is) c.requires in
     let p : IsProgress entries c.args.task c.index.result.now = at_place entries c.args.task c.self.inside.tasks.items c.index.result.now recorded c.self.invariant.by_number c.index.ensures in
     let stands : c.index-2.result.now ≡ TaskOpen p.task = c.index-2.ensures ∙ get_or_from_slice_get entries c.index.result.now.opened_at (TaskOpen p.task) c.index-2.result.now p.stands in
     let same : p.task ≡ c.in-TaskOpen.open = cc (stands, c.in-TaskOpen.is) in
     (λ i. opening_of (sym c.self.view_is i) c.args.task) ∙ p.opened ∙ ap Some same
+
+pub returns-clause-deploys : goal.returns-clause-deploys
+returns-clause-deploys c =
+    let entries = c.self.inside.entries.items in
+    let recorded : IsRecorded entries c.args.task = subst (λ entries. IsRecorded entries c.args.task) (sym c.self.view_is) c.requires in
+    let p : IsProgress entries c.args.task c.index.result.now = at_place entries c.args.task c.self.inside.tasks.items c.index.result.now recorded c.self.invariant.by_number c.index.ensures in
+    let stands : c.index-2.result.now ≡ TaskOpen p.task = c.index-2.ensures ∙ get_or_from_slice_get entries c.index.result.now.opened_at (TaskOpen p.task) c.index-2.result.now p.stands in
+    let same : p.task ≡ c.in-TaskOpen.open = cc (stands, c.in-TaskOpen.is) in
+    subst (IsDeploy c.args.task) same (record { number = p.number; goal = p.goal; has_goal = p.has_goal; group = p.group; one_group = p.one_group })
