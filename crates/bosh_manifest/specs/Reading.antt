@@ -5,6 +5,7 @@ use Rattle.bosh_base.specs.declared.name.OfFault.TheVariants as of
 use Rattle.bosh_manifest.specs.declared.fault.ManFault.{ManFault}
 use Rattle.bosh_manifest.specs.declared.fault.ManFault.TheVariants.{NotBare, Memory}
 
+-- the next step, where there is a value so far
 infixl 10 ◌>>=◌
 abbrev pub ◌>>=◌ : {A B : Type 0} → Option A → (A → Option B) → Option B
 None >>= f = None
@@ -22,5 +23,6 @@ ReadsBy view (Ok read) value = value ≡ Some (view read)
 ReadsBy view (Err NotBare) value = value ≡ None
 ReadsBy view (Err Memory) value = Unit {0}
 
+-- the same, where contracts see what is read as it is
 abbrev pub Reads : {A : Type 0} → Result A ManFault → Option A → Type 0
 Reads = ReadsBy (λ read. read)

@@ -12,6 +12,7 @@ use Rattle.bosh_report.specs.Piece.{list_text}
 abbrev pub held_text : HeldDisk → List ℕ
 held_text held = disk_name held.disk ++ (if held.mounted then codes ":mounted" else codes ":attached")
 
+-- whether the jobs of a machine run
 abbrev pub running_text : Bool → List ℕ
 running_text running = if running then codes " running " else codes " stopped "
 

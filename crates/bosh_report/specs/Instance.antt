@@ -6,6 +6,7 @@ use Rattle.bosh_base.specs.declared.reply.Shown.TheVariants.{Doubt, Absent, Runn
 use Rattle.bosh_report.specs.Owner.{addr_text, disk_or_dash, member_text, vm_or_dash}
 use Rattle.bosh_report.specs.Piece.{list_text, or_dash}
 
+-- how an instance stands
 abbrev pub state_text : Shown → List ℕ
 state_text Doubt = codes "doubt"
 state_text Absent = codes "absent"

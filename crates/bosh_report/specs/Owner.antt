@@ -23,9 +23,11 @@ vm_name vm = codes "vm-" ++ decimal vm
 abbrev pub disk_name : ℕ → List ℕ
 disk_name disk = codes "disk-" ++ decimal disk
 
+-- `vm-N`, or `-`
 abbrev pub vm_or_dash : Option ℕ → List ℕ
 vm_or_dash = or_dash vm_name
 
+-- `disk-N`, or `-`
 abbrev pub disk_or_dash : Option ℕ → List ℕ
 disk_or_dash = or_dash disk_name
 

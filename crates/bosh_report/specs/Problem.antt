@@ -12,6 +12,7 @@ use Rattle.bosh_report.specs.Owner.{disk_name, member_text, vm_name}
 abbrev pub member_of : Inst → List ℕ
 member_of inst = member_text inst.group inst.index
 
+-- the fact in which a row and its machine differ
 abbrev pub fact_name : What → List ℕ
 fact_name Spec = codes "spec"
 fact_name Running = codes "running"
