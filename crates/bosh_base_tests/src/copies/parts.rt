@@ -5,6 +5,7 @@ use crate::samples::{
 };
 use bosh_base::{
     Addr, Band, Cause, Count, Digest, Generated, Loss, Method, Role, Shown, State, Vm, What,
+    copy_both,
 };
 use std::test::Fail;
 
@@ -50,7 +51,17 @@ fn copies_keys_and_ties(rt: HostRuntime) -> Result<(), Fail> {
 }
 
 #[test]
-fn copies_what_holds_no_memory(rt: HostRuntime) -> Result<(), Fail> {
+fn copies_two_values(rt: HostRuntime) -> Result<(), Fail> {
+    let alloc = rt.alloc();
+    let first = name(alloc, b"web")?;
+    let second = inst(alloc)?;
+    let both = copy_both(&first, &second, alloc)?;
+    assert!(rt; both.0 == first && both.1 == second);
+    Ok(())
+}
+
+#[test]
+fn copies_numbers(rt: HostRuntime) -> Result<(), Fail> {
     let alloc = rt.alloc();
     let band = Band {
         first: Addr(1),
@@ -66,15 +77,21 @@ fn copies_what_holds_no_memory(rt: HostRuntime) -> Result<(), Fail> {
     assert!(rt; copies(alloc, Addr(1))?);
     assert!(rt; copies(alloc, band)?);
     assert!(rt; copies(alloc, Digest([3; 32]))?);
+    assert!(rt; copies(alloc, Vm { vm: 1, agent: 4 })?);
+    assert!(rt; copies(alloc, generated)?);
+    Ok(())
+}
+
+#[test]
+fn copies_kinds(rt: HostRuntime) -> Result<(), Fail> {
+    let alloc = rt.alloc();
     assert!(rt; copies(alloc, Method::MigrateDisk)?);
     assert!(rt; copies(alloc, Count::Percent(50))?);
     assert!(rt; copies(alloc, State::Detached)?);
     assert!(rt; copies(alloc, Role::Old)?);
-    assert!(rt; copies(alloc, Vm { vm: 1, agent: 4 })?);
     assert!(rt; copies(alloc, Loss { vm: 1, whole: true })?);
     assert!(rt; copies(alloc, Cause::CloudStore)?);
     assert!(rt; copies(alloc, Shown::Stopped)?);
     assert!(rt; copies(alloc, What::Disks)?);
-    assert!(rt; copies(alloc, generated)?);
     Ok(())
 }

@@ -7,13 +7,19 @@ use bosh_base::{
 use std::alloc::Global;
 use std::test::Fail;
 
-fn band(first: u32, last: u32) -> Band {
+/// An address of 10.0.0.0/16, by its last two bytes.
+pub fn addr(place: u16) -> Addr {
+    Addr(167_772_160 | u32::from(place))
+}
+
+fn band(first: u16, last: u16) -> Band {
     Band {
-        first: Addr(first),
-        last: Addr(last),
+        first: addr(first),
+        last: addr(last),
     }
 }
 
+/// The range from 0 to 255 with the gateway 1; 2 to 9 are reserved, and 20 to 29 given by number alone.
 pub fn subnet(alloc: Global) -> Result<Subnet, Fail> {
     let reserved = one(alloc, band(2, 9))?;
     let fixed = one(alloc, band(20, 29))?;
@@ -21,7 +27,7 @@ pub fn subnet(alloc: Global) -> Result<Subnet, Fail> {
     Ok(Subnet {
         net: name(alloc, b"net")?,
         range: band(0, 255),
-        gateway: Some(Addr(1)),
+        gateway: Some(addr(1)),
         reserved,
         fixed,
         azs,
