@@ -1,0 +1,55 @@
+use crate::copies::{copies, copies_parts};
+use crate::samples::entries::answer;
+use crate::samples::inst;
+use crate::samples::records::{
+    built_key, call, compile_row, dep_row, disk, disk_row, doubt, machine, orphan, problem, row,
+    snapshot, task_end, task_row,
+};
+use bosh_base::TaskKind;
+use std::test::Fail;
+
+#[test]
+fn copies_calls(rt: HostRuntime) -> Result<(), Fail> {
+    let alloc = rt.alloc();
+    assert!(rt; copies(alloc, call(alloc)?)?);
+    assert!(rt; copies(alloc, answer(alloc)?)?);
+    assert!(rt; copies_parts(alloc, doubt(alloc)?)?);
+    Ok(())
+}
+
+#[test]
+fn copies_instances(rt: HostRuntime) -> Result<(), Fail> {
+    let alloc = rt.alloc();
+    assert!(rt; copies_parts(alloc, disk_row(alloc)?)?);
+    assert!(rt; copies_parts(alloc, row(alloc)?)?);
+    assert!(rt; copies_parts(alloc, orphan(alloc)?)?);
+    assert!(rt; copies_parts(alloc, problem(alloc)?)?);
+    Ok(())
+}
+
+#[test]
+fn copies_tasks(rt: HostRuntime) -> Result<(), Fail> {
+    let alloc = rt.alloc();
+    assert!(rt; copies(alloc, TaskKind::Recreate(inst(alloc)?))?);
+    assert!(rt; copies(alloc, task_end(alloc)?)?);
+    assert!(rt; copies_parts(alloc, task_row(alloc)?)?);
+    Ok(())
+}
+
+#[test]
+fn copies_snapshots(rt: HostRuntime) -> Result<(), Fail> {
+    let alloc = rt.alloc();
+    assert!(rt; copies_parts(alloc, dep_row(alloc)?)?);
+    assert!(rt; copies_parts(alloc, compile_row(alloc)?)?);
+    assert!(rt; copies_parts(alloc, built_key(alloc)?)?);
+    assert!(rt; copies_parts(alloc, snapshot(alloc)?)?);
+    Ok(())
+}
+
+#[test]
+fn copies_what_the_cloud_has(rt: HostRuntime) -> Result<(), Fail> {
+    let alloc = rt.alloc();
+    assert!(rt; copies_parts(alloc, machine(alloc)?)?);
+    assert!(rt; copies_parts(alloc, disk(alloc)?)?);
+    Ok(())
+}
