@@ -1,11 +1,10 @@
 -- What each entry changes of the open calls.
-use Rattle.std.proofs.Common.{◌≡◌, ℕ, ◌+◌, ◌≤◌, ◌<◌, Bool, true, false, Option, Some, None, List, [], ◌∷◌, ◌++◌, inl, inr, refl, sym, ◌∙◌, ap, subst, arith, append_assoc}
+use Rattle.std.proofs.Common.{◌≡◌, ℕ, ◌≤◌, Bool, true, false, Some, None, List, [], ◌∷◌, ◌++◌, inl, inr, refl, sym, ◌∙◌, ap, subst, arith, append_assoc}
 use Rattle.std.specs.Prelude.{◌≢◌, ◌⊎◌, ◌==◌, not, All, ◌||◌, ◌&&◌, filter, find, map}
 use Rattle.std.specs.Option.{option_and_then}
 use Rattle.std.proofs.Math.Path.{fun_ext}
 use Rattle.bosh_history.specs.Same.{same_inst}
 use Rattle.bosh_base.specs.declared.goal.GoalRow as row
-use Rattle.bosh_base.specs.declared.goal.Goal as goals
 use Rattle.std.proofs.lemmas.List.Folds.{list_any-append}
 use Rattle.std.proofs.lemmas.Bool.Decides.{eqb_tells}
 use Rattle.std.proofs.lemmas.Map.Views.{any-filter_same}
@@ -20,12 +19,12 @@ use Rattle.bosh_base.specs.declared.entry.Update as update
 use Rattle.bosh_base.specs.declared.inst.Inst.{Inst}
 use Rattle.bosh_history.specs.Goals.{want_of, instances, inst_of}
 use Rattle.bosh_history.specs.Permitted.{Begins, Opens}
-use Rattle.bosh_history.specs.Records.{last_call, begin_of, opening_of, goal_of, doubt_of, has_failed, vm_of}
+use Rattle.bosh_history.specs.Records.{last_call, begin_of, opening_of, goal_of, doubt_of, has_failed}
 use Rattle.bosh_book.specs.BookView.{IsOpenCall, IsOwnCall, AreOpenCalls}
 use Rattle.bosh_fold.specs.Addable.{EndsCreation}
 use Rattle.bosh_history.specs.Told.{has_call}
 use Rattle.bosh_laws.proofs.Moments.{more}
-use Rattle.bosh_laws.proofs.QuestionLemmas.{Ended, opening_of-stays, goal_of-stays, begin_of-stays, doubt_of-stays, doubt_of-begin, doubt_of-created}
+use Rattle.bosh_laws.proofs.QuestionLemmas.{Ended, opening_of-stays, goal_of-stays, begin_of-stays, doubt_of-begin, doubt_of-created}
 use Rattle.bosh_laws.proofs.SameLemmas.{same_inst_tells}
 use Rattle.bosh_laws.proofs.TaskLemmas.{goal_of-open}
 use Rattle.std.specs.List.{AllByRecursion}

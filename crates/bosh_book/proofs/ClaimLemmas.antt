@@ -1,6 +1,6 @@
 -- What comes next for a task, as a search through its instances finds it.
-use Rattle.std.proofs.Common.{◌≡◌, ℕ, ◌+◌, ◌<◌, Bool, true, false, Option, Some, None, List, [], ◌∷◌, ◌++◌, inl, inr, refl, sym, ◌∙◌, ap, subst, arith, length, map}
-use Rattle.std.specs.Prelude.{◌≢◌, ◌⊎◌, ◌↔◌, IsTrue, All, slice_get, is_some, option_map}
+use Rattle.std.proofs.Common.{◌≡◌, ℕ, ◌+◌, ◌<◌, Bool, true, false, Option, Some, None, List, [], ◌∷◌, inl, inr, refl, sym, ◌∙◌, ap, subst, arith, length, map}
+use Rattle.std.specs.Prelude.{◌⊎◌, ◌↔◌, IsTrue, All, slice_get, is_some, option_map}
 use Rattle.std.specs.Prelude.{if◌then◌else◌}
 use Rattle.std.proofs.lemmas.List.Elements.{All-map, All-from_recursion, recursion_from_All}
 use Rattle.std.specs.List.{AllByRecursion}
@@ -117,8 +117,10 @@ not_ready_in E roll changed k i told at tells not_so below before j up_to ready 
         let same : r.inst ≡ i = same_Some r.inst i (sym r.at_place ∙ slice_get_read changed (length changed) k i refl below at) in
         let is_so : IsTrue told = (tells r.state r.in_state).1 (subst (λ inst. IsReady E roll k inst r.state) same r.ready) in
         absurd (grind (arith, not_so, is_so))
+
     split : (j < k) ⊎ (j ≡ k)
     split = grind (arith, up_to)
+
     by : (j < k) ⊎ (j ≡ k) → ⊥
     by (inl less) = before j less ready
     by (inr equal) = here (subst (IsReadyIn E roll changed) equal ready)

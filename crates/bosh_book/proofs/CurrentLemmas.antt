@@ -35,14 +35,17 @@ open_creation D calls n b all listed began = let it : (make : Make) × (b.call �
 
 -- a permit is current where it is for the call that began so
 pub current_as : (v : LedgerView) (permit : PermitView) (b : begin.Begin) (told : Bool) → AreOpenCalls v.entries v.calls → has_call v.calls permit.n ≡ true → begin_of v.entries permit.n ≡ Some b → IsTrue told ↔ IsFor b permit → IsTrue told ↔ IsCurrent v permit
-current_as v permit b told all listed began tells = (λ is. record {
+current_as v permit b told all listed began tells = (
+  λ is. record {
     is_open = listed;
     begun = b;
     began = began;
     is_for = tells.0 is;
     make = (creation v.entries v.calls permit.n b all listed began).0;
     creates = sym (tells.0 is).call ∙ (creation v.entries v.calls permit.n b all listed began).1;
-  }, λ current. tells.1 (subst (λ it. IsFor it permit) (same_Some current.begun b (sym current.began ∙ began)) current.is_for))
+  },
+  λ current. tells.1 (subst (λ it. IsFor it permit) (same_Some current.begun b (sym current.began ∙ began)) current.is_for),
+)
 
 -- none is where no call began so
 pub none_current : (v : LedgerView) (permit : PermitView) → begin_of v.entries permit.n ≡ None → IsTrue false ↔ IsCurrent v permit

@@ -1,7 +1,7 @@
 -- Each entry that a claim notes of an update leaves less of its task.
 use Prim.Native.Nat.{zero, suc}
-use Rattle.std.proofs.Common.{◌≡◌, ℕ, ◌+◌, ◌<◌, ◌≤◌, Option, Some, None, List, [], ◌∷◌, ◌++◌, inl, inr, refl, sym, ◌∙◌, ap, subst, arith}
-use Rattle.std.specs.Prelude.{◌≢◌, ◌⊎◌, true, false, slice_get}
+use Rattle.std.proofs.Common.{◌≡◌, ℕ, ◌<◌, ◌≤◌, Some, List, [], ◌∷◌, ◌++◌, refl, sym, ◌∙◌, ap, subst, arith}
+use Rattle.std.specs.Prelude.{true, slice_get}
 use Rattle.std.proofs.lemmas.Bool.Decides.{eqb_tells}
 use Rattle.bosh_base.proofs.HistoryLemmas.{latest_last}
 use Rattle.bosh_base.specs.declared.entry.Entry.{Entry}
@@ -16,8 +16,7 @@ use Rattle.bosh_book.specs.Left.{entries_left, total, left_of, left}
 use Rattle.bosh_history.specs.Records.{opening_of, is_task_open, update_of}
 use Rattle.bosh_laws.proofs.QuestionLemmas.{opening_of-stays}
 use Rattle.bosh_laws.proofs.SameLemmas.{same_inst_tells}
-use Rattle.bosh_roll.specs.declared.upd.Upd.{Upd}
-use Rattle.bosh_roll.specs.declared.upd.Upd.TheVariants.{Todo, Busy, Finished}
+use Rattle.bosh_roll.specs.declared.upd.Upd.TheVariants.{Todo, Busy}
 
 -- no more of any
 no_more : (f g : Inst → ℕ) → ((i : Inst) → g i ≤ f i) → (is : List Inst) → total g is ≤ total f is

@@ -1,5 +1,5 @@
 -- What holds after an entry was to be noted, whatever the answer.
-use Rattle.std.proofs.Common.{◌≡◌, ℕ, List, sym, subst, Some, None, [], refl}
+use Rattle.std.proofs.Common.{◌≡◌, ℕ, List, sym, subst, Some, None, []}
 use Rattle.std.specs.Prelude.{Result, Ok, Err, OnOk, IfErr}
 use Rattle.bosh_base.specs.declared.entry.Entry.{Entry}
 use Rattle.bosh_base.specs.declared.entry.TaskOpen as task_open

@@ -1,29 +1,24 @@
 -- What comes next for a task is permitted.
-use Rattle.std.proofs.Common.{◌≡◌, ℕ, ◌+◌, ◌<◌, Bool, true, false, Option, Some, None, List, [], ◌∷◌, ◌++◌, inl, inr, refl, sym, ◌∙◌, ap, subst, arith, length}
-use Rattle.std.specs.Prelude.{◌≢◌, ◌⊎◌, All, slice_get}
+use Rattle.std.proofs.Common.{◌≡◌, ℕ, ◌<◌, Bool, true, false, Some, None, List, [], ◌∷◌, ◌++◌, inl, inr, refl, sym, ◌∙◌, ap, subst, arith, length}
+use Rattle.std.specs.Prelude.{◌≢◌, ◌⊎◌, All}
 use Rattle.std.proofs.lemmas.Option.{slice_get_within}
-use Rattle.bosh_base.specs.declared.call.Call.TheVariants.{CreateVm}
-use Rattle.bosh_base.specs.declared.entry.Begin as begin
 use Rattle.bosh_base.specs.declared.entry.Entry.{Entry}
 use Rattle.bosh_base.specs.declared.entry.Entry.TheVariants as entries
 use Rattle.bosh_base.specs.declared.entry.TaskOpen as task_open
 use Rattle.bosh_base.specs.declared.entry.Update as update
-use Rattle.bosh_base.specs.declared.goal.GoalRow.{GoalRow}
 use Rattle.bosh_base.specs.declared.goal.GroupPlan.{GroupPlan}
 use Rattle.bosh_base.specs.declared.inst.Inst.{Inst}
-use Rattle.bosh_base.specs.declared.owner.Owner.TheVariants.{Instance}
 use Rattle.bosh_book.specs.BookView.{LedgerView, PermitView, IsOf}
-use Rattle.bosh_book.specs.Claims.{IsReady, IsFirst, IsAllDone, IsOpenChoice, IsChoice, IsAt, IsOpened, IsOpenWith, IsBegun, IsCreationAt, begin_by}
+use Rattle.bosh_book.specs.Claims.{IsReady, IsFirst, IsOpenChoice, IsChoice, IsAt, IsOpened, IsOpenWith, IsBegun, IsCreationAt, begin_by}
 use Rattle.bosh_book.specs.declared.next.Next.{Next}
 use Rattle.bosh_book.specs.declared.next.Next.TheVariants as choices
-use Rattle.bosh_history.specs.Goals.{roll_of, want_of}
+use Rattle.bosh_history.specs.Goals.{roll_of}
 use Rattle.bosh_history.specs.Permitted.{Begins, BeginsUpdate, EndsUpdate, EndsTask}
-use Rattle.bosh_history.specs.Records.{begin_of, last_call, opening_of, is_task_open, has_failed, update_of, vm_of, doubt_of}
+use Rattle.bosh_history.specs.Records.{begin_of, opening_of, is_task_open, has_failed, update_of, vm_of, doubt_of}
 use Rattle.bosh_history.specs.Told.{has_call}
 use Rattle.bosh_base.proofs.HistoryLemmas.{latest_last}
 use Rattle.std.proofs.lemmas.Bool.Decides.{eqb_tells}
 use Rattle.bosh_book.proofs.CallLemmas.{has_call-more}
-use Rattle.bosh_roll.specs.GroupRoll.{MayBegin}
 use Rattle.bosh_roll.specs.declared.upd.Upd.{Upd}
 use Rattle.bosh_roll.specs.declared.upd.Upd.TheVariants.{Todo, Busy, Finished}
 

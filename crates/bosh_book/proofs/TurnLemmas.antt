@@ -1,6 +1,5 @@
 -- What a claim keeps from turn to turn.
-use Rattle.std.proofs.Common.{◌≡◌, ◌<◌, ◌≤◌, ◌^◌, ℕ, Option, Some, None, List, [], ◌∷◌, ◌++◌, true, false, refl, sym, ◌∙◌, ap, subst, arith, map, append_assoc, append-nil}
-use Rattle.std.specs.Prelude.{◌≢◌, ◌⊎◌}
+use Rattle.std.proofs.Common.{◌≡◌, ◌≤◌, ℕ, List, [], ◌∷◌, ◌++◌, refl, sym, ◌∙◌, ap, subst, arith, map, append_assoc, append-nil}
 use Rattle.std.specs.List.{filter_map}
 use Rattle.std.proofs.lemmas.List.{map-append}
 use Rattle.std.proofs.lemmas.List.Elements.{filter_map-append}
@@ -9,9 +8,9 @@ use Rattle.bosh_base.proofs.HistoryLemmas.{latest_last, EachAfter_last}
 use Rattle.bosh_base.specs.declared.entry.Entry.{Entry}
 use Rattle.bosh_base.specs.declared.entry.Entry.TheVariants as entries
 use Rattle.bosh_base.specs.declared.moves.Move.TheVariants.{Note}
-use Rattle.bosh_book.specs.BookView.{LedgerView}
+use Rattle.bosh_book.specs.BookView.{LedgerView, PermitView, IsCurrent}
 use Rattle.bosh_base.specs.declared.entry.Update as update
-use Rattle.bosh_book.specs.Claims.{IsChosen, AreClaimed}
+use Rattle.bosh_book.specs.Claims.{IsChosen, AreClaimed, IsBegun, begin_by}
 use Rattle.bosh_book.specs.Turns.{IsOfUpdate, NotesUpdate}
 use Rattle.bosh_fold.specs.Tables.{IsRecorded}
 use Rattle.bosh_history.specs.Growing.{HistoryView}
@@ -70,3 +69,33 @@ way-more t old now next was history after n way =
       recorded = (way.recorded.0, subst (λ m. t ≤ m) (sym (ap (λ v. tasks_opened v.entries) n.noted ∙ n.of_update.same_tasks now.entries)) way.recorded.1);
       has_place = λ _. n.has_place;
     }
+
+-- ---- what was noted
+
+-- the entries that a claim noted, with the calls that began
+abbrev pub Noted : ℕ → LedgerView → LedgerView → HistoryView → HistoryView → Type 0
+Noted t old new was history = (more : List Entry) × AreClaimed t old.entries more × (new.entries ≡ old.entries ++ more) × (new.calls ≡ old.calls ++ filter_map call_number more) × (history.moves ≡ was.moves ++ map Note more)
+
+-- no call began
+pub noted-way : (t : ℕ) (old now : LedgerView) (was history : HistoryView) → IsUnderWay t old now was history → Noted t old now was history
+noted-way t old now was history way = (way.more, way.claimed, way.entries_are, way.same_calls ∙ sym (ap (λ cs. old.calls ++ cs) way.no_calls ∙ append-nil old.calls), way.moves_are)
+
+-- one began
+pub noted-begun : (t worker : ℕ) (old now new : LedgerView) (was history after : HistoryView) (permit : PermitView) → IsUnderWay t old now was history → IsBegun t worker now new permit → after.moves ≡ history.moves ++ Note (entries.Begin (begin_by worker permit)) ∷ [] → Noted t old new was after
+noted-begun t worker old now new was history after permit way b moves =
+    let e : Entry = entries.Begin (begin_by worker permit) in
+    let calls_noted : filter_map call_number (way.more ++ e ∷ []) ≡ permit.n ∷ [] = filter_map-append call_number way.more (e ∷ []) ∙ ap (λ cs. cs ++ permit.n ∷ []) way.no_calls in (
+      way.more ++ e ∷ [],
+      record {
+        by_the_rules = EachAfter_last (IsChosen t) old.entries way.more e way.claimed.by_the_rules (subst (λ (E : List Entry). IsChosen t E e) way.entries_are b.by_the_rules);
+        permitted = EachAfter_last IsNotable old.entries way.more e way.claimed.permitted (subst (λ (E : List Entry). IsNotable E e) way.entries_are b.permitted);
+      },
+      ap (λ v. v.entries) b.noted ∙ ap (λ E. E ++ e ∷ []) way.entries_are ∙ append_assoc old.entries way.more (e ∷ []),
+      ap (λ v. v.calls) b.noted ∙ ap (λ cs. cs ++ permit.n ∷ []) way.same_calls ∙ ap (λ cs. old.calls ++ cs) (sym calls_noted),
+      moves ∙ ap (λ ms. ms ++ Note e ∷ []) way.moves_are ∙ append_assoc was.moves (map Note way.more) (Note e ∷ []) ∙ ap (λ ms. was.moves ++ ms) (sym (map-append Note way.more (e ∷ []))),
+    )
+
+-- a worker that was given a call
+pub given-begun : (t worker : ℕ) (old now new : LedgerView) (was history : HistoryView) (permit : PermitView) → IsUnderWay t old now was history → IsBegun t worker now new permit → (permit.task ≡ t) × (new.calls ≡ old.calls ++ permit.n ∷ []) × IsCurrent new permit × (last_call new.entries ≡ permit.n)
+given-begun t worker old now new was history permit way b =
+    (b.task, ap (λ v. v.calls) b.noted ∙ ap (λ cs. cs ++ permit.n ∷ []) way.same_calls, b.current, ap (λ v. last_call v.entries) b.noted ∙ grind (arith, latest_last))

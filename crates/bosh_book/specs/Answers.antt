@@ -1,5 +1,5 @@
 -- When the book refuses what it is asked.
-use Rattle.std.specs.Prelude.{◌≡◌, ◌⊎◌, ◌≤◌, ◌<◌, ◌^◌, ℕ, true, false, length, Result, Ok, Err}
+use Rattle.std.specs.Prelude.{◌≡◌, ◌⊎◌, ◌≤◌, ◌<◌, ◌^◌, true, false, length, Result, Ok, Err}
 use Rattle.bosh_book.specs.BookView.{LedgerView}
 use Rattle.bosh_book.specs.declared.fault.BookFault.{BookFault}
 use Rattle.bosh_book.specs.declared.fault.BookFault.TheVariants.{Stopped, Full, Memory}

@@ -1,13 +1,11 @@
 -- What a worker that claims work of a task is given (this project's profile; bosh.io, "Deployment manifest", "update").
-use Rattle.std.specs.Prelude.{◌≡◌, ◌≢◌, ◌⊎◌, ◌<◌, ◌+◌, ℕ, true, false, Option, Some, None, List, [], ◌∷◌, ◌++◌, map, slice_get, All, if◌then◌else◌, is_some}
+use Rattle.std.specs.Prelude.{◌≡◌, ◌≢◌, ◌⊎◌, ◌<◌, ◌+◌, ℕ, true, false, Option, Some, None, List, [], ◌∷◌, ◌++◌, slice_get, All, if◌then◌else◌, is_some}
 use Rattle.bosh_base.specs.History.{EachAfter}
 use Rattle.bosh_base.specs.declared.call.Call.TheVariants.{CreateVm}
 use Rattle.bosh_base.specs.declared.entry.Begin as begin
 use Rattle.bosh_base.specs.declared.entry.Entry.{Entry}
 use Rattle.bosh_base.specs.declared.entry.Entry.TheVariants.{Begin, UpdBegin, UpdDone}
 use Rattle.bosh_base.specs.declared.entry.TaskOpen as task_open
-use Rattle.bosh_base.specs.declared.entry.Update as update
-use Rattle.bosh_base.specs.declared.goal.Goal.{Goal}
 use Rattle.bosh_base.specs.declared.goal.GoalRow.{GoalRow}
 use Rattle.bosh_base.specs.declared.goal.GroupPlan.{GroupPlan}
 use Rattle.bosh_base.specs.declared.inst.Inst.{Inst}
@@ -15,7 +13,7 @@ use Rattle.bosh_base.specs.declared.owner.Owner.TheVariants.{Instance}
 use Rattle.bosh_fold.specs.Tables.{IsDeploy}
 use Rattle.bosh_history.specs.Goals.{want_of, roll_of}
 use Rattle.bosh_history.specs.Permitted.{IsNotable}
-use Rattle.bosh_history.specs.Records.{last_call, opening_of, is_task_open, has_failed, update_of, vm_of, doubt_of}
+use Rattle.bosh_history.specs.Records.{last_call, opening_of, is_task_open, update_of, vm_of, doubt_of}
 use Rattle.bosh_book.specs.BookView.{LedgerView, PermitView, IsCurrent}
 use Rattle.bosh_book.specs.declared.claim.Claim.{Claim}
 use Rattle.bosh_book.specs.declared.claim.Claim.TheVariants.{Work, Wait, Over}
@@ -129,8 +127,8 @@ pub record IsBegun (t worker : ℕ) (old new : LedgerView) (permit : PermitView)
   pub noted : new ≡ record old { entries = old.entries ++ Begin (begin_by worker permit) ∷ []; calls = old.calls ++ permit.n ∷ [] }
   pub current : IsCurrent new permit
 
--- what a worker is given: a call whose permit is current; or nothing, while a call is open; or nothing, as nothing is left
+-- what a worker is given: a call whose permit is current; nothing now, while others wait; or nothing, as nothing is left
 abbrev pub IsGiven : ℕ → LedgerView → LedgerView → Claim → Type 0
 IsGiven t old new (Work permit) = (permit.task ≡ t) × (new.calls ≡ old.calls ++ permit.n ∷ []) × IsCurrent new permit × (last_call new.entries ≡ permit.n)
-IsGiven t old new Wait = IsChoice new.entries t choices.Wait × (new.calls ≡ old.calls) × (old.calls ≢ [])
+IsGiven t old new Wait = IsChoice new.entries t choices.Wait × (new.calls ≡ old.calls)
 IsGiven t old new Over = IsChoice new.entries t choices.Over × (new.calls ≡ old.calls)

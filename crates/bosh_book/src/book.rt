@@ -101,7 +101,7 @@ impl<K: Keeper> Book<K> {
     }
 
     /// Claims work of a task for a worker. What the rules ask for on the way is noted, also where the claim ends with a
-    /// refusal. A worker is told to wait only while a call is open.
+    /// refusal.
     pub fn claim(
         &mut self,
         task: u64,

@@ -151,7 +151,7 @@ impl Ledger {
     }
 
     /// Claims work of a task for a worker. What the rules ask for on the way is noted, also where the claim ends with a
-    /// refusal. A worker is told to wait only while a call is open.
+    /// refusal.
     pub fn claim(
         &mut self,
         task: u64,
@@ -174,7 +174,8 @@ impl Ledger {
                 Next::BeginUpdate(place) => self.begin_update(task, place, history)?,
                 Next::Finish(place) => self.finish_update(task, place, history)?,
                 Next::Create(place) => {
-                    return self.create(task, place, worker, history).map(Claim::Work);
+                    let permit = self.create(task, place, worker, history)?;
+                    return Ok(Claim::Work(permit));
                 }
             }
         }

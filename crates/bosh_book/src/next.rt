@@ -76,7 +76,10 @@ fn first_ready(records: &Records, roll: &GroupRoll, changed: &[Inst]) -> Option<
 fn is_finished(roll: &GroupRoll) -> bool
     ensures { IsTrue result ↔ All (λ state. state ≡ upds.Finished) roll.now.states }
 {
-    roll.states.as_slice().iter().all(|state| *state == Upd::Finished)
+    roll.states
+        .as_slice()
+        .iter()
+        .all(|state| *state == Upd::Finished)
 }
 
 /// What comes next for a task.

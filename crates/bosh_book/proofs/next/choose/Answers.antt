@@ -1,9 +1,7 @@
-use Rattle.std.proofs.Common.{◌≡◌, ◌<◌, Some, None, sym, ◌∙◌, ap, subst, arith, length}
-use Rattle.std.specs.Prelude.{IsTrue, All, false, true}
+use Rattle.std.proofs.Common.{Some, None, subst, arith}
 use Rattle.std.proofs.lemmas.Option.{slice_get_within}
-use Rattle.bosh_base.specs.declared.goal.GroupPlan.{GroupPlan}
-use Rattle.bosh_book.specs.Claims.{IsReadyIn, IsFirstReady, IsChoice}
-use Rattle.bosh_book.proofs.ClaimLemmas.{roll_length, roll_same, first_step, first_over, first_wait}
+use Rattle.bosh_book.specs.Claims.{IsFirstReady}
+use Rattle.bosh_book.proofs.ClaimLemmas.{roll_length, first_step, first_over, first_wait}
 use Rattle.bosh_book.proofs.next.choose.Goals as goal
 
 pub first_ready-requires : goal.first_ready-requires

@@ -1,8 +1,5 @@
-use Rattle.std.proofs.Common.{◌≡◌, ◌<◌, Some, sym, ◌∙◌, ap, subst, arith}
-use Rattle.std.specs.Prelude.{slice_get}
-use Rattle.std.proofs.lemmas.Option.{slice_get_read, slice_get_within}
-use Rattle.bosh_base.specs.declared.inst.Inst.{Inst}
-use Rattle.bosh_book.specs.Claims.{IsReady, IsReadyIn}
+use Rattle.std.proofs.Common.{arith}
+use Rattle.std.proofs.lemmas.Option.{slice_get_within}
 use Rattle.bosh_book.proofs.ClaimLemmas.{ready_in, not_ready_in}
 use Rattle.bosh_book.proofs.next.first_ready.Goals as goal
 

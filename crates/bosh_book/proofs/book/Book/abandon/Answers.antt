@@ -1,4 +1,4 @@
-use Rattle.std.proofs.Common.{◌≡◌, true, sym, ◌∙◌, subst}
+use Rattle.std.proofs.Common.{true, sym, ◌∙◌, subst}
 use Rattle.bosh_book.specs.BookView.{LedgerView, IsCurrent}
 use Rattle.bosh_book.proofs.book.Book.abandon.Goals as goal
 

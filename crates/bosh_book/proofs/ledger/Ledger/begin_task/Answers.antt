@@ -1,5 +1,4 @@
-use Rattle.std.proofs.Common.{◌≡◌, ◌+◌, None, ◌++◌, ◌∷◌, [], sym, ◌∙◌, ap, subst}
-use Rattle.bosh_base.specs.declared.entry.Entry.TheVariants as entries
+use Rattle.std.proofs.Common.{◌+◌, sym, ◌∙◌, ap, subst}
 use Rattle.bosh_book.specs.BookView.{AreOpenCalls}
 use Rattle.bosh_book.proofs.CallLemmas.{calls-open}
 use Rattle.bosh_book.proofs.NoteLemmas.{opens_new}

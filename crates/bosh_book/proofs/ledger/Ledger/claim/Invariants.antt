@@ -1,7 +1,3 @@
-use Rattle.std.proofs.Common.{◌≡◌, ◌<◌, ◌≤◌, ◌^◌, ℕ, List, [], ◌++◌, map}
-use Rattle.std.specs.List.{filter_map}
-use Rattle.bosh_base.specs.declared.entry.Entry.{Entry}
-use Rattle.bosh_book.specs.Claims.{AreClaimed}
 use Rattle.bosh_book.specs.Left.{left}
 use Rattle.bosh_book.proofs.TurnLemmas.{IsUnderWay}
 use Rattle.bosh_book.proofs.ledger.Ledger.claim.Given as goal

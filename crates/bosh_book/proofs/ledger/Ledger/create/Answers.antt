@@ -1,5 +1,3 @@
-use Rattle.std.proofs.Common.{◌≡◌, ◌++◌, ◌∷◌, [], sym, ◌∙◌, ap, subst}
-use Rattle.bosh_book.specs.Claims.{begin_by}
 use Rattle.bosh_book.proofs.StepLemmas.{begins, is_begun, within-create}
 use Rattle.bosh_book.proofs.ledger.Ledger.create.Goals as goal
 

@@ -1,5 +1,5 @@
 use Rattle.bosh_base.specs.declared.moves.Move.TheVariants.{Note}
-use Rattle.std.proofs.Common.{◌≡◌, ◌≤◌, ◌<◌, List, ◌++◌, ◌∷◌, [], sym, ◌∙◌, ap, subst}
+use Rattle.std.proofs.Common.{◌≡◌, ◌≤◌, ◌<◌, List, ◌++◌, ◌∷◌, [], sym, ◌∙◌, subst}
 use Rattle.bosh_base.specs.declared.entry.Entry.TheVariants as entries
 use Rattle.bosh_book.specs.BookView.{AreOpenCalls}
 use Rattle.bosh_book.proofs.CallLemmas.{calls-done}
@@ -27,16 +27,16 @@ returns-clause-ok c =
     let u = c.in_ok-update.update in
     let less : left (c.args.self.now.entries ++ entries.UpdDone u ∷ []) c.args.task < left c.args.self.now.entries c.args.task = less-done c.args.self.now.entries c.args.task c.args.place u c.requires.is_open told.update.0 told.update.1 c.requires.chosen in
     where_noted c.note.result (λ noted.
-      let all : c.note.new.records ≡ c.args.self.now.entries ++ entries.UpdDone u ∷ [] = noted.0 ∙ (λ i. (c.self.view_is i).entries ++ entries.UpdDone u ∷ []) in record {
-        entry = entries.UpdDone u;
-        of_update = of_done u;
-        by_the_rules = (told.update.0, (c.args.place, told.update.1, c.requires.chosen));
-        permitted = notable;
-        noted = λ j. record { entries = all j; calls = (c.self.view_is j).calls; is_stopped = (c.self.view_is j).is_stopped };
-        moved = noted.1;
-        has_place = noted.2;
-        less = subst (λ (E : List Entry). left E c.args.task < left c.args.self.now.entries c.args.task) (sym all) less;
-      }) c.note.ensures.ok
+    let all : c.note.new.records ≡ c.args.self.now.entries ++ entries.UpdDone u ∷ [] = noted.0 ∙ (λ i. (c.self.view_is i).entries ++ entries.UpdDone u ∷ []) in record {
+      entry = entries.UpdDone u;
+      of_update = of_done u;
+      by_the_rules = (told.update.0, (c.args.place, told.update.1, c.requires.chosen));
+      permitted = notable;
+      noted = λ j. record { entries = all j; calls = (c.self.view_is j).calls; is_stopped = (c.self.view_is j).is_stopped };
+      moved = noted.1;
+      has_place = noted.2;
+      less = subst (λ (E : List Entry). left E c.args.task < left c.args.self.now.entries c.args.task) (sym all) less;
+    }) c.note.ensures.ok
 
 pub update_at-requires-clause-at_place : goal.update_at-requires-clause-at_place
 update_at-requires-clause-at_place c = within-finish c.args.self.now.entries c.args.task c.args.place c.requires.is_open c.requires.chosen

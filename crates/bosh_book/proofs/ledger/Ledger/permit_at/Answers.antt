@@ -1,7 +1,6 @@
 use Rattle.std.specs.Prelude.{IfOk}
-use Rattle.std.proofs.Common.{◌≡◌, ◌+◌, ◌<◌, ℕ, List, [], Some, None, refl, sym, ◌∙◌, ap, subst, length}
+use Rattle.std.proofs.Common.{◌≡◌, ◌+◌, ◌<◌, List, [], Some, sym, ◌∙◌, ap, subst, length}
 use Rattle.std.specs.Option.{option_copied}
-use Rattle.std.proofs.lemmas.Option.{slice_get_read}
 use Rattle.bosh_base.specs.declared.call.Call.TheVariants.{CreateVm}
 use Rattle.bosh_base.specs.declared.inst.Inst.{Inst}
 use Rattle.bosh_base.specs.declared.owner.Owner.TheVariants.{Instance}
@@ -10,7 +9,7 @@ use Rattle.bosh_book.specs.Claims.{IsCreationAt}
 use Rattle.bosh_book.proofs.CurrentLemmas.{wanted_at, creation_at, where_ok}
 use Rattle.bosh_book.proofs.ledger.Ledger.permit_at.Goals as goal
 use Rattle.bosh_history.specs.Goals.{want_of}
-use Rattle.bosh_history.specs.Records.{last_call, opening_of}
+use Rattle.bosh_history.specs.Records.{opening_of}
 
 pub unreachable-requires : goal.unreachable-requires
 unreachable-requires c =
@@ -22,4 +21,4 @@ returns-clause-permit c =
     let is_wanted : want_of E c.index-as_slice-place.result ≡ Some c.in-Some.want.now = sym c.want_of.ensures ∙ ap option_copied c.in-Some.is in
     subst (λ (v : LedgerView). IfOk c.creation.result (IsCreationAt v.entries c.args.task c.args.place)) c.self.view_is
     (where_ok (λ (permit : PermitView). permit ≡ record { n = c.last_call-n.result + 1; task = c.args.task; owner = Instance c.in-Some.want.now.inst; dep = c.in-Some.want.now.inst.dep; call = CreateVm c.in-Some.want.now.make [] }) (IsCreationAt E c.args.task c.args.place) c.creation.result
-      (λ permit is. creation_at E c.args.task c.args.place (c.last_call-n.result + 1) c.opening_of.result.now c.as_slice.result.now c.index-as_slice-place.result c.in-Some.want.now permit (ap (λ n. n + 1) c.last_call-n.ensures) c.opening_of.ensures.opening c.as_slice.ensures (subst (λ (is : List Inst). c.args.place < length is) (sym c.as_slice.ensures) (c.requires.at_place c.opening_of.result.now ((λ j. opening_of (sym c.self.view_is j).entries c.args.task) ∙ c.opening_of.ensures.opening))) c.index-as_slice-place.is is_wanted is) c.creation.ensures)
+    (λ permit is. creation_at E c.args.task c.args.place (c.last_call-n.result + 1) c.opening_of.result.now c.as_slice.result.now c.index-as_slice-place.result c.in-Some.want.now permit (ap (λ n. n + 1) c.last_call-n.ensures) c.opening_of.ensures.opening c.as_slice.ensures (subst (λ (is : List Inst). c.args.place < length is) (sym c.as_slice.ensures) (c.requires.at_place c.opening_of.result.now ((λ j. opening_of (sym c.self.view_is j).entries c.args.task) ∙ c.opening_of.ensures.opening))) c.index-as_slice-place.is is_wanted is) c.creation.ensures)

@@ -1,4 +1,4 @@
-use Rattle.std.proofs.Common.{◌≡◌, ◌++◌, ◌∷◌, [], ℕ, List, true, refl, sym, ◌∙◌, ap, subst}
+use Rattle.std.proofs.Common.{◌≡◌, ◌++◌, ◌∷◌, [], ℕ, List, refl, sym, ◌∙◌, subst}
 use Rattle.std.specs.Prelude.{filter, not, ◌==◌}
 use Rattle.bosh_base.specs.declared.answer.Answer.{Answer}
 use Rattle.bosh_base.specs.declared.answer.Answer.TheVariants.{Cid}
@@ -6,7 +6,7 @@ use Rattle.bosh_base.specs.declared.entry.End as end
 use Rattle.bosh_base.specs.declared.entry.Entry.{Entry}
 use Rattle.bosh_base.specs.declared.entry.Entry.TheVariants as entries
 use Rattle.bosh_base.specs.declared.moves.Move.TheVariants.{Note}
-use Rattle.bosh_book.specs.BookView.{LedgerView, AreOpenCalls}
+use Rattle.bosh_book.specs.BookView.{AreOpenCalls}
 use Rattle.bosh_book.proofs.CallLemmas.{calls-end, ends_creation}
 use Rattle.bosh_book.proofs.ledger.Ledger.settle.Goals as goal
 use Rattle.bosh_history.specs.Told.{has_call}
@@ -23,9 +23,12 @@ invariant_of-self-in-Ok c =
 pub returns-in-Ok-clause-ended : goal.returns-in-Ok-clause-ended
 returns-in-Ok-clause-ended c =
     let answered : Cid c.in-Cid.vm ≡ c.args.answer = sym c.in-Cid.is in
-    let ended : ℕ → Answer → Entry = λ n answer. entries.End (record { n = n; answer = answer }) in
-    ((λ j. record {
-      entries = (c.in-Ok.ensures.ok.0 ∙ (λ i. (c.self.view_is i).entries ++ ended (c.n-n.ensures i) (answered i) ∷ [])) j;
-      calls = (c.remove_call.ensures ∙ (λ i. filter (λ m. not (m == c.n-n.ensures i)) (c.self.view_is i).calls)) j;
-      is_stopped = (c.self.view_is j).is_stopped;
-    }), c.in-Ok.ensures.ok.1 ∙ (λ i. c.args.history.now.moves ++ Note (ended (c.n-n.ensures i) (answered i)) ∷ []), c.in-Ok.ensures.ok.2)
+    let ended : ℕ → Answer → Entry = λ n answer. entries.End (record { n = n; answer = answer }) in (
+      (λ j. record {
+        entries = (c.in-Ok.ensures.ok.0 ∙ (λ i. (c.self.view_is i).entries ++ ended (c.n-n.ensures i) (answered i) ∷ [])) j;
+        calls = (c.remove_call.ensures ∙ (λ i. filter (λ m. not (m == c.n-n.ensures i)) (c.self.view_is i).calls)) j;
+        is_stopped = (c.self.view_is j).is_stopped;
+      }),
+      c.in-Ok.ensures.ok.1 ∙ (λ i. c.args.history.now.moves ++ Note (ended (c.n-n.ensures i) (answered i)) ∷ []),
+      c.in-Ok.ensures.ok.2,
+    )
