@@ -13,14 +13,14 @@ name_of value = do
 
 -- the name at a key
 abbrev pub name_at : List ℕ → Data → Option (List ℕ)
-name_at key object = do
-  value ← get key object
+name_at key holder = do
+  value ← get key holder
   name_of value
 
 -- the number of instances at a key, at most 256
 abbrev pub count_at : List ℕ → Data → Option ℕ
-count_at key object = do
-  value ← get key object
+count_at key holder = do
+  value ← get key holder
   number ← as_number value
   count ← as_u64 number
   if nat_le count 256 then Some count else None
@@ -40,7 +40,7 @@ zones_of (item value values) = names_of (item value values)
 
 -- the zones at a key
 abbrev pub zones_at : List ℕ → Data → Option (List (List ℕ))
-zones_at key object = do
-  value ← get key object
+zones_at key holder = do
+  value ← get key holder
   values ← as_array value
   zones_of values
