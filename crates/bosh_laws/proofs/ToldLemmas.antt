@@ -86,7 +86,7 @@ told-notes E calls L moves [] runs each told =
 told-notes E calls L moves (e ∷ more) runs each told =
     let runs_on : is_halted (moves ++ Note e ∷ []) ≡ false = latest_last halts false moves (Note e) ∙ runs in
     let rest : IsTold ((E ++ e ∷ []) ++ more) ((calls ++ filter_map call_number (e ∷ [])) ++ filter_map call_number more) L ((moves ++ Note e ∷ []) ++ map Note more) =
-        told-notes (E ++ e ∷ []) (calls ++ filter_map call_number (e ∷ [])) L (moves ++ Note e ∷ []) more runs_on each.1 (told-note E calls L moves e runs each.0 told) in
+    told-notes (E ++ e ∷ []) (calls ++ filter_map call_number (e ∷ [])) L (moves ++ Note e ∷ []) more runs_on each.1 (told-note E calls L moves e runs each.0 told) in
     subst (λ (es : List Entry). IsTold es (calls ++ filter_map call_number (e ∷ more)) L (moves ++ map Note (e ∷ more))) (append_assoc E (e ∷ []) more)
     (subst (λ (cs : List ℕ). IsTold ((E ++ e ∷ []) ++ more) cs L (moves ++ map Note (e ∷ more))) (append_assoc calls (filter_map call_number (e ∷ [])) (filter_map call_number more) ∙ ap (λ (cs : List ℕ). calls ++ cs) (sym (filter_map-append call_number (e ∷ []) more)))
     (subst (λ (ms : List Move). IsTold ((E ++ e ∷ []) ++ more) ((calls ++ filter_map call_number (e ∷ [])) ++ filter_map call_number more) L ms) (append_assoc moves (Note e ∷ []) (map Note more)) rest))
