@@ -10,10 +10,10 @@ use Rattle.bosh_world.specs.declared.fault.SiteFault.TheVariants.{Book, Memory}
 
 -- by the book's causes; want of memory comes at any time
 abbrev pub IsRefusal : {K L : Type 0} → SiteView K L → SiteFault → Type 0
-IsRefusal site (Book fault) = book.IsRefusal site.book fault
+IsRefusal site (Book fault) = book.IsRefusal site.book.ledger fault
 IsRefusal site Memory = Unit {0}
 
 -- .. of a call that ends what was begun
 abbrev pub IsSettleRefusal : {K L : Type 0} → SiteView K L → SiteFault → Type 0
-IsSettleRefusal site (Book fault) = book.IsSettleRefusal site.book fault
+IsSettleRefusal site (Book fault) = book.IsSettleRefusal site.book.ledger fault
 IsSettleRefusal site Memory = is_halted site.moves ≡ false

@@ -28,8 +28,8 @@ pub record SiteView (K L : Type 0) : Type 0 where
 
 -- the book and the cloud are what the moves say, each of which was permitted, and a place is free for a halt
 pub record IsSite {K L : Type 0} (book : BookView (RigState K)) (cloud : CloudView L) (history : HistoryView) : Type 0 where
-  pub told : IsTold book.entries book.calls cloud.effects history.moves
-  pub halts : is_halted history.moves ≡ book.is_stopped
+  pub told : IsTold book.ledger.entries book.ledger.calls cloud.effects history.moves
+  pub halts : is_halted history.moves ≡ book.ledger.is_stopped
   pub has_place : is_halted history.moves ≡ false → 1 ≤ history.free
 
 -- a call that was performed: its permit, and what it was answered
@@ -39,19 +39,19 @@ pub record HeldView : Type 0 where
 
 -- a permit whose call can be performed: it is open, and was not performed yet
 pub record IsPerformable {K L : Type 0} (site : SiteView K L) (permit : PermitView) : Type 0 where
-  pub current : IsCurrent site.book permit
+  pub current : IsCurrent site.book.ledger permit
   pub not_yet : did_of site.moves permit.n ≡ None
 
 -- a call that was performed so and is still open
 pub record IsHeld {K L : Type 0} (site : SiteView K L) (call : HeldView) : Type 0 where
-  pub current : IsCurrent site.book call.permit
+  pub current : IsCurrent site.book.ledger call.permit
   pub done : did.Did
   pub performed : did_of site.moves call.permit.n ≡ Some done
   pub answered : done.answer ≡ call.answer
 
 -- a site that begins on two new keepers
 pub record IsStart {K L : Type 0} (store : K) (cloud : L) (site : SiteView K L) : Type 0 where
-  pub book : site.book ≡ record { store = record { inner = store; armed = []; sprung = None; fired = 0 }; entries = []; calls = []; is_stopped = false }
+  pub book : site.book ≡ record { store = record { inner = store; armed = []; sprung = None; fired = 0 }; ledger = record { entries = []; calls = []; is_stopped = false } }
   pub cloud_of : site.cloud ≡ record { store = cloud; effects = [] }
   pub moves : site.moves ≡ []
 
@@ -72,13 +72,13 @@ pub record IsPerformed {K L : Type 0} (old new : SiteView K L) (permit : PermitV
 -- the answer of a call was noted, and the call is no longer open
 pub record IsSettled {K L : Type 0} (old new : SiteView K L) (call : HeldView) : Type 0 where
   pub moved : new.moves ≡ old.moves ++ Note (End (record { n = call.permit.n; answer = call.answer })) ∷ []
-  pub calls : new.book.calls ≡ filter (λ n. not (n == call.permit.n)) old.book.calls
+  pub calls : new.book.ledger.calls ≡ filter (λ n. not (n == call.permit.n)) old.book.ledger.calls
   pub same_cloud : new.cloud ≡ old.cloud
 
 -- a permit was given up: where it was current on a running site, the site halts
 pub record IsAbandoned {K L : Type 0} (old new : SiteView K L) (permit : PermitView) : Type 0 where
-  pub halts : is_halted old.moves ≡ false → IsCurrent old.book permit → new.moves ≡ old.moves ++ Halt Stop ∷ []
+  pub halts : is_halted old.moves ≡ false → IsCurrent old.book.ledger permit → new.moves ≡ old.moves ++ Halt Stop ∷ []
   pub stays_halted : is_halted old.moves ≡ true → new.moves ≡ old.moves
-  pub other : (IsCurrent old.book permit → ⊥) → new ≡ old
-  pub same_entries : new.book.entries ≡ old.book.entries
+  pub other : (IsCurrent old.book.ledger permit → ⊥) → new ≡ old
+  pub same_entries : new.book.ledger.entries ≡ old.book.ledger.entries
   pub same_cloud : new.cloud ≡ old.cloud

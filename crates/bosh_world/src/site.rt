@@ -29,7 +29,7 @@ use crate::did::{are_alike, did_of};
 use crate::{HeldCall, SiteFault, Unloaded};
 use bosh_base::{Answer, Cause, Did, Goal, Move, Reply, Said, TaskEnd};
 use bosh_book::{Book, BookFault, Claim, Permit};
-use bosh_cloud::{CloudFault, SimCloud};
+use bosh_cloud::SimCloud;
 use bosh_history::History;
 use bosh_ports::{Keeper, Rigged};
 use std::alloc::Global;
@@ -73,7 +73,7 @@ impl<K: Keeper, L: Keeper> Site<K, L> {
         };
         let cloud = match SimCloud::load(alloc, cloud) {
             Ok(cloud) => cloud,
-            Err((cloud, CloudFault::Memory)) => {
+            Err((cloud, _)) => {
                 return Err(Unloaded {
                     store,
                     cloud,
@@ -93,7 +93,7 @@ impl<K: Keeper, L: Keeper> Site<K, L> {
     /// What the director knows.
     pub fn book(&self) -> &Book<Rigged<K>>
         ensures book { result.now ≡ self.now.book }
-        ensures entries { result.now.entries ≡ durable nothing self.now.moves }
+        ensures entries { result.now.ledger.entries ≡ durable nothing self.now.moves }
     {
         &self.book
     }
@@ -148,9 +148,9 @@ impl<K: Keeper, L: Keeper> Site<K, L> {
     /// Opens a task that deploys a goal of a new deployment, and gives its number. A refusal leaves everything as it was.
     pub fn begin_task(&mut self, goal: Goal) -> Result<u64, SiteFault>
         requires sound { (group : GroupPlan) × IsSound goal group }
-        requires is_new { goal_of self.old.book.entries goal.dep ≡ None }
-        ensures number { IfOk result (λ task. task ≡ tasks_opened self.old.book.entries + 1) }
-        ensures opened { OnOk result ((opening : task_open.TaskOpen) × (opening.goal ≡ Some goal) × Opens self.old.book.entries opening × (self.new.moves ≡ self.old.moves ++ moves.Note (entries.TaskOpen opening) ∷ [])) }
+        requires is_new { goal_of self.old.book.ledger.entries goal.dep ≡ None }
+        ensures number { IfOk result (λ task. task ≡ tasks_opened self.old.book.ledger.entries + 1) }
+        ensures opened { OnOk result ((opening : task_open.TaskOpen) × (opening.goal ≡ Some goal) × Opens self.old.book.ledger.entries opening × (self.new.moves ≡ self.old.moves ++ moves.Note (entries.TaskOpen opening) ∷ [])) }
         ensures refused { IfErr result (λ fault. IsRefusal self.old fault × (self.new ≡ self.old)) }
     {
         Ok(self.book.begin_task(goal, &mut self.history)?)
@@ -158,9 +158,9 @@ impl<K: Keeper, L: Keeper> Site<K, L> {
 
     /// Claims work of a task for a worker.
     pub fn claim(&mut self, task: u64, worker: u8) -> Result<Claim, SiteFault>
-        requires { IsRecorded self.old.book.entries task }
-        ensures noted { (more : List Entry) × AreClaimed task self.old.book.entries more × (self.new.moves ≡ self.old.moves ++ map moves.Note more) }
-        ensures given { IfOk result (λ claim. IsGiven task self.old.book self.new.book claim) }
+        requires { IsRecorded self.old.book.ledger.entries task }
+        ensures noted { (more : List Entry) × AreClaimed task self.old.book.ledger.entries more × (self.new.moves ≡ self.old.moves ++ map moves.Note more) }
+        ensures given { IfOk result (λ claim. IsGiven task self.old.book.ledger self.new.book.ledger claim) }
         ensures performable { IfOk result (IfWork (IsPerformable self.new)) }
         ensures refused { IfErr result (IsRefusal self.old) }
     {
@@ -183,7 +183,7 @@ impl<K: Keeper, L: Keeper> Site<K, L> {
             .cloud
             .perform(permit.n(), permit.owner(), permit.dep(), permit.call());
         match answer {
-            Err(CloudFault::Memory) => Err((permit, SiteFault::Memory)),
+            Err(_) => Err((permit, SiteFault::Memory)),
             Ok(Answer::Cid(vm)) => {
                 let n = permit.n();
                 let answer = Answer::Cid(vm);
@@ -233,11 +233,11 @@ impl<K: Keeper, L: Keeper> Site<K, L> {
 
     /// Ends a task of which nothing is left, and answers how it ended. A refusal leaves everything as it was.
     pub fn end_task(&mut self, task: u64) -> Result<TaskEnd, SiteFault>
-        requires recorded { IsRecorded self.old.book.entries task }
-        requires over { (is_halted self.old.moves ≡ true) ⊎ IsChoice self.old.book.entries task Over }
+        requires recorded { IsRecorded self.old.book.ledger.entries task }
+        requires over { (is_halted self.old.moves ≡ true) ⊎ IsChoice self.old.book.ledger.entries task Over }
         ensures end { IfOk result (λ end. end ≡ Finished) }
-        ensures ended { OnOk result (is_task_open self.old.book.entries task ≡ true → self.new.moves ≡ self.old.moves ++ moves.Note (entries.TaskDone task) ∷ []) }
-        ensures had_ended { OnOk result (is_task_open self.old.book.entries task ≡ false → self.new ≡ self.old) }
+        ensures ended { OnOk result (is_task_open self.old.book.ledger.entries task ≡ true → self.new.moves ≡ self.old.moves ++ moves.Note (entries.TaskDone task) ∷ []) }
+        ensures had_ended { OnOk result (is_task_open self.old.book.ledger.entries task ≡ false → self.new ≡ self.old) }
         ensures refused { IfErr result (λ fault. IsSettleRefusal self.old fault × (self.new ≡ self.old)) }
     {
         Ok(self.book.end_task(task, &mut self.history)?)
