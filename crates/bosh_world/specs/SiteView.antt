@@ -13,7 +13,7 @@ use Rattle.bosh_base.specs.declared.moves.Move.{Move}
 use Rattle.bosh_base.specs.declared.moves.Move.TheVariants.{Note, Did, Halt}
 use Rattle.bosh_book.specs.declared.claim.Claim.{Claim}
 use Rattle.bosh_book.specs.declared.claim.Claim.TheVariants.{Work}
-use Rattle.bosh_book.specs.BookView.{BookView, PermitView, IsCurrent}
+use Rattle.bosh_book.specs.BookView.{LedgerView, BookView, PermitView, IsCurrent}
 use Rattle.bosh_cloud.specs.CloudView.{CloudView}
 use Rattle.bosh_history.specs.Growing.{HistoryView}
 use Rattle.bosh_history.specs.Moves.{did_of, is_halted}
@@ -26,10 +26,10 @@ pub record SiteView (K L : Type 0) : Type 0 where
   pub cloud : CloudView L
   pub moves : List Move
 
--- the book and the cloud are what the moves say, each of which was permitted, and a place is free for a halt
-pub record IsSite {K L : Type 0} (book : BookView (RigState K)) (cloud : CloudView L) (history : HistoryView) : Type 0 where
-  pub told : IsTold book.ledger.entries book.ledger.calls cloud.effects history.moves
-  pub halts : is_halted history.moves ≡ book.ledger.is_stopped
+-- the ledger and the effects are what the moves say, each of which was permitted, and a place is free for a halt
+pub record IsSite (ledger : LedgerView) (effects : List Entry) (history : HistoryView) : Type 0 where
+  pub told : IsTold ledger.entries ledger.calls effects history.moves
+  pub halts : is_halted history.moves ≡ ledger.is_stopped
   pub has_place : is_halted history.moves ≡ false → 1 ≤ history.free
 
 -- a call that was performed: its permit, and what it was answered

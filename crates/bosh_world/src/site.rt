@@ -51,7 +51,7 @@ impl<K: Keeper, L: Keeper> Model for Site<K, L> {
 
     ghost view = { λ site. record { book = site.book; cloud = site.cloud; moves = site.history.moves } };
 
-    ghost invariant = { λ site. IsSite site.book site.cloud site.history };
+    ghost invariant = { λ site. IsSite site.book.ledger site.cloud.effects site.history };
 }
 
 impl<K: Keeper, L: Keeper> Site<K, L> {
