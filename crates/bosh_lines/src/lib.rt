@@ -1,0 +1,13 @@
+//! The lines of a session, read as commands.
+#![tactic(auto)]
+
+mod command;
+mod fault;
+mod path;
+mod word;
+
+pub use command::{Command, parse_line};
+pub use fault::LineFault;
+
+#[cfg(test)]
+mod tests;

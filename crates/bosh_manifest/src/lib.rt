@@ -1,0 +1,12 @@
+//! Deployment manifests: so far those of one group of bare machines, written as JSON.
+#![tactic(auto)]
+
+mod bare;
+mod fault;
+mod field;
+
+pub use bare::{BareGroup, BareManifest, read_bare};
+pub use fault::ManFault;
+
+#[cfg(test)]
+mod tests;
