@@ -1,3 +1,5 @@
-pub mod Input
+pub mod Commands
 pub mod Lines
+pub mod Reading
 pub mod Status
+pub mod Writing

@@ -5,7 +5,7 @@ use bosh_base::{
 use std::alloc::Global;
 
 /// What is there in the cloud, as it is listed.
-pub fn listing(
+pub fn cloud_listing(
     alloc: Global,
     machines: &[Machine],
     disks: &[Disk],

@@ -4,8 +4,6 @@ ghost use Rattle.bosh_session.specs.declared.status.Status.TheVariants.{Memory};
 
 use crate::InputFault;
 use bosh_base::CopyFault;
-use bosh_goal::GoalFault;
-use bosh_report::ReportFault;
 use std::alloc::{AllocError, AllocFailed};
 
 /// How a session ended.
@@ -78,22 +76,6 @@ impl From<CopyFault> for Status {
     ghost from_gives = { λ _ status. status ≡ Memory };
 
     fn from(_: CopyFault) -> Self {
-        Status::Memory
-    }
-}
-
-impl From<GoalFault> for Status {
-    ghost from_gives = { λ _ status. status ≡ Memory };
-
-    fn from(_: GoalFault) -> Self {
-        Status::Memory
-    }
-}
-
-impl From<ReportFault> for Status {
-    ghost from_gives = { λ _ status. status ≡ Memory };
-
-    fn from(_: ReportFault) -> Self {
         Status::Memory
     }
 }
