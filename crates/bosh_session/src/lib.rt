@@ -19,3 +19,6 @@ pub use output::write_all;
 pub use refusal::{NotYet, not_yet, refused};
 pub use request::Request;
 pub use status::Status;
+
+#[cfg(test)]
+mod tests;

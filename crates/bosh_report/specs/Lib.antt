@@ -1,0 +1,10 @@
+pub mod Cloud
+pub mod Disk
+pub mod Instance
+pub mod Owner
+pub mod Piece
+pub mod Problem
+pub mod Refusal
+pub mod Release
+pub mod Reply
+pub mod Task
