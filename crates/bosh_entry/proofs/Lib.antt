@@ -5,6 +5,7 @@ pub mod ListLemmas
 pub mod ChoiceLemmas
 pub mod PlainLemmas
 pub mod LaterLemmas
+pub mod PairLemmas
 pub mod AddrLemmas
 pub mod InstLemmas
 pub mod DiskWantLemmas
@@ -27,3 +28,4 @@ pub mod RowLemmas
 pub mod SnapshotLemmas
 pub mod EntryLemmas
 pub mod BodyLemmas
+pub mod StructLemmas

@@ -6,7 +6,7 @@ use Rattle.bosh_entry.specs.declared.fault.EntryFault.{EntryFault}
 use Rattle.bosh_entry.specs.declared.fault.EntryFault.TheVariants.{NotAnEntry, Memory}
 use Rattle.bosh_entry.specs.declared.format.Format.{Format}
 use Rattle.bosh_entry.specs.declared.format.Format.TheVariants.{Older, Present}
-use Rattle.bosh_entry.specs.Reading.{Reader, byte_at, making, ◌with◌, variant_at}
+use Rattle.bosh_entry.specs.Reading.{◌>>=◌, Reader, byte_at, making, ◌with◌, variant_at}
 use Rattle.bosh_entry.specs.Number.{number, is_number, number_at}
 use Rattle.bosh_entry.specs.List.{text, is_text, text_at}
 use Rattle.bosh_entry.specs.Later.{is_present, present_at}
@@ -103,9 +103,7 @@ entry_at format bytes = do
 
 -- the entry that a whole body spells
 unfoldable pub whole : Format → List ℕ → Option Entry
-whole format body = do
-  e ← entry_at format body
-  if length e.1 == 0 then Some e.0 else None
+whole format body = entry_at format body >>= λ e. (if length e.1 == 0 then Some e.0 else None)
 
 -- What a function answers is this entry, or none, unless memory ran out.
 abbrev pub Answers : Result Entry EntryFault → Option Entry → Type 0

@@ -6,7 +6,7 @@ use Rattle.bosh_base.specs.Call.{method_of}
 use Rattle.bosh_base.specs.declared.method.Method.{Method}
 use Rattle.bosh_base.specs.declared.method.Method.TheVariants as methods
 use Rattle.bosh_entry.specs.Method.{method, method_at}
-use Rattle.bosh_entry.specs.Reading.{Reader, making, ◌with◌}
+use Rattle.bosh_entry.specs.Reading.{◌>>=◌, Reader, making, ◌with◌}
 use Rattle.bosh_entry.specs.Number.{number, is_number, number_at}
 use Rattle.bosh_entry.specs.Plain.{digest, is_digest, digest_at}
 use Rattle.bosh_entry.specs.List.{list, is_list, list_at}
@@ -94,6 +94,4 @@ call_of_at methods.MigrateDisk = making MigrateDisk with number_at with number_a
 call_of_at methods.CompilePackage = making CompilePackage with number_at with key_work_at with list_at digest_at
 
 unfoldable pub call_at : Reader Call
-call_at bytes = do
-  asked ← method_at bytes
-  call_of_at asked.0 asked.1
+call_at bytes = method_at bytes >>= λ asked. call_of_at asked.0 asked.1

@@ -4,6 +4,7 @@ pub mod List
 pub mod Choice
 pub mod Plain
 pub mod Later
+pub mod Pair
 pub mod Addr
 pub mod Inst
 pub mod DiskWant

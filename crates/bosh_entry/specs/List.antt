@@ -1,7 +1,7 @@
 -- How lists and texts are spelled (this project's profile): the count, and the items.
 use Rattle.std.specs.Prelude.{ℕ, zero, suc, Bool, ◌&&◌, List, [], ◌∷◌, ◌++◌, length, Some}
 use Rattle.std.specs.List.{flat_map, list_all}
-use Rattle.bosh_entry.specs.Reading.{Reader, byte_at}
+use Rattle.bosh_entry.specs.Reading.{◌>>=◌, Reader, byte_at}
 use Rattle.bosh_entry.specs.Number.{byte, is_byte, number, is_number, number_at}
 
 abbrev pub list : {A : Type 0} → (A → List ℕ) → List A → List ℕ
@@ -19,9 +19,7 @@ items_at reader (suc n) bytes = do
   Some (first.0 ∷ others.0, others.1)
 
 unfoldable pub list_at : {A : Type 0} → Reader A → Reader (List A)
-list_at reader bytes = do
-  count ← number_at bytes
-  items_at reader count.0 count.1
+list_at reader bytes = number_at bytes >>= λ count. items_at reader count.0 count.1
 
 -- the number of bytes, and the bytes
 abbrev pub text : List ℕ → List ℕ

@@ -45,6 +45,7 @@ fn first(format: Format, kind: u8) -> u8
     }
 }
 
+#[tactic(auto, unfolding(crate::specs::Later::present_at))]
 fn fields(alloc: Global, format: Format, kind: u8, from: &mut Source) -> Result<Entry, EntryFault>
     ensures { Gives result from.new.rest.now (variant_at 1 (kinds format) kind from.old.rest.now) }
 {

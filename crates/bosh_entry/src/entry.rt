@@ -3,7 +3,7 @@ ghost use Rattle.std.specs.Prelude.{◌≡◌};
 use crate::coded::Coded;
 use crate::fault::EntryFault;
 use crate::format::Format;
-use crate::later::later;
+use crate::later::before_later;
 use crate::number::worker;
 use crate::source::Source;
 use bosh_base::{
@@ -31,17 +31,19 @@ impl Coded for TaskOpen {
         self.source.write(out)
     }
 
-    #[tactic(auto, unfolding(crate::specs::Entry::task_open_at))]
+    #[tactic(auto, using(crate::proofs::StructLemmas::task_open_parts))]
     fn read(alloc: Global, format: Format, from: &mut Source) -> Result<Self, EntryFault> {
+        let ((((task, kind), (dep, goal)), ((changed, obsolete), disks)), source) =
+            before_later(alloc, format, from, None)?;
         Ok(TaskOpen {
-            task: u64::read(alloc, format, from)?,
-            kind: TaskKind::read(alloc, format, from)?,
-            dep: Option::read(alloc, format, from)?,
-            goal: Option::read(alloc, format, from)?,
-            changed: Seq::read(alloc, format, from)?,
-            obsolete: Seq::read(alloc, format, from)?,
-            disks: Seq::read(alloc, format, from)?,
-            source: later(alloc, format, from, None)?,
+            task,
+            kind,
+            dep,
+            goal,
+            changed,
+            obsolete,
+            disks,
+            source,
         })
     }
 }

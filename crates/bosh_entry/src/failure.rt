@@ -32,7 +32,7 @@ impl Coded for Failure {
         }
     }
 
-    #[tactic(auto, unfolding(crate::specs::Failure::failure_at))]
+    #[tactic(auto, unfolding(crate::specs::Failure::failure_at, crate::specs::Later::present_at))]
     fn read(alloc: Global, format: Format, from: &mut Source) -> Result<Self, EntryFault> {
         match from.byte()? {
             0 => Ok(Failure::Interrupted),

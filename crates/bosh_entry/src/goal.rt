@@ -25,15 +25,17 @@ impl Coded for GoalRow {
         self.fresh_after.write(out)
     }
 
-    #[tactic(auto, unfolding(crate::specs::Goal::goal_row_at))]
+    #[tactic(auto, using(crate::proofs::StructLemmas::goal_row_parts))]
     fn read(alloc: Global, format: Format, from: &mut Source) -> Result<Self, EntryFault> {
+        let (((inst, make), (spec, disk)), (state, fresh_after)) =
+            Coded::read(alloc, format, from)?;
         Ok(GoalRow {
-            inst: Inst::read(alloc, format, from)?,
-            make: Make::read(alloc, format, from)?,
-            spec: Spec::read(alloc, format, from)?,
-            disk: Option::read(alloc, format, from)?,
-            state: State::read(alloc, format, from)?,
-            fresh_after: u64::read(alloc, format, from)?,
+            inst,
+            make,
+            spec,
+            disk,
+            state,
+            fresh_after,
         })
     }
 }

@@ -25,6 +25,7 @@ mod method;
 mod number;
 mod offer;
 mod owner;
+mod pair;
 mod plain;
 mod release;
 mod row;

@@ -3,7 +3,7 @@ ghost use Rattle.std.specs.Prelude.{◌≡◌};
 use crate::coded::Coded;
 use crate::fault::EntryFault;
 use crate::format::Format;
-use crate::later::later;
+use crate::later::before_later;
 use crate::source::Source;
 use bosh_base::{Call, DiskRow, DiskWant, Doubt, Inst, Role, Row, Seq, Vm};
 use std::alloc::Global;
@@ -138,18 +138,20 @@ impl Coded for Row {
         self.lost.write(out)
     }
 
-    #[tactic(auto, unfolding(crate::specs::Row::row_at))]
+    #[tactic(auto, using(crate::proofs::StructLemmas::row_parts))]
     fn read(alloc: Global, format: Format, from: &mut Source) -> Result<Self, EntryFault> {
+        let ((((inst, make), (vm, spec)), ((running, drained), (disks, doubt))), lost) =
+            before_later(alloc, format, from, false)?;
         Ok(Row {
-            inst: Inst::read(alloc, format, from)?,
-            make: Option::read(alloc, format, from)?,
-            vm: Option::read(alloc, format, from)?,
-            spec: Option::read(alloc, format, from)?,
-            running: bool::read(alloc, format, from)?,
-            drained: bool::read(alloc, format, from)?,
-            disks: Seq::read(alloc, format, from)?,
-            doubt: Option::read(alloc, format, from)?,
-            lost: later(alloc, format, from, false)?,
+            inst,
+            make,
+            vm,
+            spec,
+            running,
+            drained,
+            disks,
+            doubt,
+            lost,
         })
     }
 }

@@ -57,7 +57,7 @@ impl Coded for TaskKind {
         }
     }
 
-    #[tactic(auto, unfolding(crate::specs::Task::task_kind_at))]
+    #[tactic(auto, unfolding(crate::specs::Task::task_kind_at, crate::specs::Later::present_at))]
     fn read(alloc: Global, format: Format, from: &mut Source) -> Result<Self, EntryFault> {
         match from.byte()? {
             0 => Ok(TaskKind::Deploy),
@@ -113,7 +113,7 @@ impl Coded for TaskEnd {
         }
     }
 
-    #[tactic(auto, unfolding(crate::specs::Task::task_end_at))]
+    #[tactic(auto, unfolding(crate::specs::Task::task_end_at, crate::specs::Later::present_at))]
     fn read(alloc: Global, format: Format, from: &mut Source) -> Result<Self, EntryFault> {
         match from.byte()? {
             0 => Ok(TaskEnd::Finished),
