@@ -33,8 +33,8 @@ impl Coded for TaskOpen {
 
     #[tactic(auto, using(crate::proofs::StructLemmas::task_open_parts))]
     fn read(alloc: Global, format: Format, from: &mut Source) -> Result<Self, EntryFault> {
-        let ((((task, kind), (dep, goal)), ((changed, obsolete), disks)), source) =
-            before_later(alloc, format, from, None)?;
+        let (fields, source) = before_later(alloc, format, from, None)?;
+        let (((task, kind), (dep, goal)), ((changed, obsolete), disks)) = fields;
         Ok(TaskOpen {
             task,
             kind,

@@ -27,8 +27,8 @@ impl Coded for GoalRow {
 
     #[tactic(auto, using(crate::proofs::StructLemmas::goal_row_parts))]
     fn read(alloc: Global, format: Format, from: &mut Source) -> Result<Self, EntryFault> {
-        let (((inst, make), (spec, disk)), (state, fresh_after)) =
-            Coded::read(alloc, format, from)?;
+        let fields = Coded::read(alloc, format, from)?;
+        let (((inst, make), (spec, disk)), (state, fresh_after)) = fields;
         Ok(GoalRow {
             inst,
             make,

@@ -140,8 +140,8 @@ impl Coded for Row {
 
     #[tactic(auto, using(crate::proofs::StructLemmas::row_parts))]
     fn read(alloc: Global, format: Format, from: &mut Source) -> Result<Self, EntryFault> {
-        let ((((inst, make), (vm, spec)), ((running, drained), (disks, doubt))), lost) =
-            before_later(alloc, format, from, false)?;
+        let (fields, lost) = before_later(alloc, format, from, false)?;
+        let (((inst, make), (vm, spec)), ((running, drained), (disks, doubt))) = fields;
         Ok(Row {
             inst,
             make,
