@@ -79,28 +79,18 @@ impl Coded for Call {
                 make: Make::read(alloc, format, from)?,
                 disks: Seq::read(alloc, format, from)?,
             }),
-            Method::DeleteVm => Ok(Call::DeleteVm {
-                vm: u64::read(alloc, format, from)?,
-            }),
-            Method::HasVm => Ok(Call::HasVm {
-                vm: u64::read(alloc, format, from)?,
-            }),
-            Method::FindVm => Ok(Call::FindVm {
-                agent: u64::read(alloc, format, from)?,
-            }),
+            Method::DeleteVm => u64::read(alloc, format, from).map(|vm| Call::DeleteVm { vm }),
+            Method::HasVm => u64::read(alloc, format, from).map(|vm| Call::HasVm { vm }),
+            Method::FindVm => u64::read(alloc, format, from).map(|agent| Call::FindVm { agent }),
             Method::CreateDisk => Ok(Call::CreateDisk {
                 want: DiskWant::read(alloc, format, from)?,
                 vm: u64::read(alloc, format, from)?,
             }),
-            Method::DeleteDisk => Ok(Call::DeleteDisk {
-                disk: u64::read(alloc, format, from)?,
+            Method::DeleteDisk => u64::read(alloc, format, from).map(|disk| Call::DeleteDisk {
+                disk,
             }),
-            Method::HasDisk => Ok(Call::HasDisk {
-                disk: u64::read(alloc, format, from)?,
-            }),
-            Method::FindDisk => Ok(Call::FindDisk {
-                tag: u64::read(alloc, format, from)?,
-            }),
+            Method::HasDisk => u64::read(alloc, format, from).map(|disk| Call::HasDisk { disk }),
+            Method::FindDisk => u64::read(alloc, format, from).map(|tag| Call::FindDisk { tag }),
             Method::AttachDisk => Ok(Call::AttachDisk {
                 vm: u64::read(alloc, format, from)?,
                 disk: u64::read(alloc, format, from)?,
@@ -109,28 +99,16 @@ impl Coded for Call {
                 vm: u64::read(alloc, format, from)?,
                 disk: u64::read(alloc, format, from)?,
             }),
-            Method::GetDisks => Ok(Call::GetDisks {
-                vm: u64::read(alloc, format, from)?,
-            }),
-            Method::Ping => Ok(Call::Ping {
-                vm: u64::read(alloc, format, from)?,
-            }),
-            Method::GetState => Ok(Call::GetState {
-                vm: u64::read(alloc, format, from)?,
-            }),
+            Method::GetDisks => u64::read(alloc, format, from).map(|vm| Call::GetDisks { vm }),
+            Method::Ping => u64::read(alloc, format, from).map(|vm| Call::Ping { vm }),
+            Method::GetState => u64::read(alloc, format, from).map(|vm| Call::GetState { vm }),
             Method::Apply => Ok(Call::Apply {
                 vm: u64::read(alloc, format, from)?,
                 spec: Spec::read(alloc, format, from)?,
             }),
-            Method::Start => Ok(Call::Start {
-                vm: u64::read(alloc, format, from)?,
-            }),
-            Method::Drain => Ok(Call::Drain {
-                vm: u64::read(alloc, format, from)?,
-            }),
-            Method::Stop => Ok(Call::Stop {
-                vm: u64::read(alloc, format, from)?,
-            }),
+            Method::Start => u64::read(alloc, format, from).map(|vm| Call::Start { vm }),
+            Method::Drain => u64::read(alloc, format, from).map(|vm| Call::Drain { vm }),
+            Method::Stop => u64::read(alloc, format, from).map(|vm| Call::Stop { vm }),
             Method::MountDisk => Ok(Call::MountDisk {
                 vm: u64::read(alloc, format, from)?,
                 disk: u64::read(alloc, format, from)?,
@@ -139,9 +117,7 @@ impl Coded for Call {
                 vm: u64::read(alloc, format, from)?,
                 disk: u64::read(alloc, format, from)?,
             }),
-            Method::ListDisk => Ok(Call::ListDisk {
-                vm: u64::read(alloc, format, from)?,
-            }),
+            Method::ListDisk => u64::read(alloc, format, from).map(|vm| Call::ListDisk { vm }),
             Method::MigrateDisk => Ok(Call::MigrateDisk {
                 vm: u64::read(alloc, format, from)?,
                 from: u64::read(alloc, format, from)?,
