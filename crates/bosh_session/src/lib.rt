@@ -20,5 +20,3 @@ pub use refusal::{NotYet, not_yet, refused};
 pub use request::Request;
 pub use status::Status;
 
-#[cfg(test)]
-mod tests;
