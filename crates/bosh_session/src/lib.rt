@@ -20,3 +20,5 @@ pub use refusal::{NotYet, not_yet, refused};
 pub use request::Request;
 pub use status::Status;
 
+#[cfg(test)]
+mod tests;
