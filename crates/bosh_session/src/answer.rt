@@ -1,4 +1,4 @@
-use crate::{Files, NotYet, Request, Status, listing, not_yet, refused};
+use crate::{Files, NotYet, Request, Status, cloud_listing, not_yet, refused};
 use bosh_base::{CopyFault, Name, Reply, Text};
 use bosh_book::BookFault;
 use bosh_crew::drive;
@@ -67,7 +67,7 @@ fn carry_out<K: Keeper, L: Keeper>(
 
 fn cloud<K: Keeper, L: Keeper>(alloc: Global, site: &Site<K, L>) -> Result<Reply, Status> {
     let cloud = site.cloud();
-    let listing = listing(alloc, cloud.machines(), cloud.disks())?;
+    let listing = cloud_listing(alloc, cloud.machines(), cloud.disks())?;
     Ok(Reply::Cloud(listing))
 }
 
