@@ -15,6 +15,7 @@ use Rattle.bosh_entry.specs.Stemcell.{stemcell, is_stemcell, stemcell_at}
 use Rattle.bosh_entry.specs.Snapshot.{snapshot, is_snapshot, snapshot_at}
 use Rattle.bosh_entry.specs.Entry.{task_open, is_task_open, task_open_at, begin, is_begin, begin_at, end, is_end, end_at, update, is_update, update_at, task_error, is_task_error, task_error_at, effect, is_effect, effect_at, write, is_write, write_at, loss, is_loss, loss_at}
 
+-- the number of a kind, in the order of the type, from 1 on
 abbrev pub kind_of : Entry → ℕ
 kind_of (Release r) = 1
 kind_of (Stemcell s) = 2
@@ -37,6 +38,7 @@ abbrev pub first_of : Format → ℕ → ℕ
 first_of Older kind = 1
 first_of Present kind = if nat_lt kind 13 then 2 else 1
 
+-- the fields of a kind, in the order of their types
 unfoldable pub fields : Format → Entry → List ℕ
 fields format (Release r) = release r
 fields format (Stemcell s) = stemcell s
@@ -54,6 +56,7 @@ fields format (Effect e) = effect e
 fields format (Write w) = write w
 fields format (Lost l) = loss l
 
+-- the byte of the format, the byte of the kind, and the fields
 unfoldable pub entry : Format → Entry → List ℕ
 entry format e = first_of format (kind_of e) ∷ kind_of e ∷ fields format e
 
@@ -95,6 +98,7 @@ kinds format =
     ∷ present_at format (making Lost with loss_at)
     ∷ []
 
+-- the entry that the next bytes spell: the first byte has to be that of the kind
 unfoldable pub entry_at : Format → Reader Entry
 entry_at format bytes = do
   first ← byte_at bytes
@@ -129,8 +133,10 @@ entry_of = whole Present
 abbrev pub older_spelling : Entry → List ℕ
 older_spelling = entry Older
 
+-- what has a spelling there
 abbrev pub IsOlderEntry : Entry → Type 0
 IsOlderEntry e = is_entry Older e ≡ true
 
+-- the entry that a body spells there
 abbrev pub older_entry_of : List ℕ → Option Entry
 older_entry_of = whole Older

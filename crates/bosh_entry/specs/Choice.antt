@@ -2,6 +2,7 @@
 use Rattle.std.specs.Prelude.{ℕ, Bool, true, false, List, [], ◌∷◌, Option, Some, None}
 use Rattle.bosh_entry.specs.Reading.{Reader, making, ◌with◌, one_of_at}
 
+-- a truth value
 abbrev pub flag : Bool → List ℕ
 flag false = 0 ∷ []
 flag true = 1 ∷ []
@@ -15,6 +16,7 @@ flags = making false ∷ making true ∷ []
 unfoldable pub flag_at : Reader Bool
 flag_at = one_of_at flags
 
+-- a value, or none
 abbrev pub option : {A : Type 0} → (A → List ℕ) → Option A → List ℕ
 option spelling None = 0 ∷ []
 option spelling (Some a) = 1 ∷ spelling a

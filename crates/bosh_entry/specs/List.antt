@@ -4,6 +4,7 @@ use Rattle.std.specs.List.{flat_map, list_all}
 use Rattle.bosh_entry.specs.Reading.{◌>>=◌, Reader, byte_at}
 use Rattle.bosh_entry.specs.Number.{byte, is_byte, number, is_number, number_at}
 
+-- the count, and the items
 abbrev pub list : {A : Type 0} → (A → List ℕ) → List A → List ℕ
 list spelling items = number (length items) ++ flat_map spelling items
 
@@ -18,6 +19,7 @@ items_at reader (suc n) bytes = do
   others ← items_at reader n first.1
   Some (first.0 ∷ others.0, others.1)
 
+-- a count, and so many items
 unfoldable pub list_at : {A : Type 0} → Reader A → Reader (List A)
 list_at reader bytes = number_at bytes >>= λ count. items_at reader count.0 count.1
 

@@ -2,6 +2,7 @@
 use Rattle.std.specs.Prelude.{ℕ, List, ◌++◌}
 use Rattle.bosh_entry.specs.Reading.{Reader, making, ◌with◌}
 
+-- the first, and the second
 abbrev pub pair : {A B : Type 0} → (A → List ℕ) → (B → List ℕ) → A × B → List ℕ
 pair spelling other p = spelling p.0 ++ other p.1
 

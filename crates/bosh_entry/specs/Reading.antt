@@ -1,8 +1,13 @@
 -- Reading values from the front of a list of bytes, one after the other.
+--
+-- A file of these specs has three words for each type, here of the name `thing`: `thing`, the bytes that a value is spelled by;
+-- `is_thing`, whether a value has a spelling, as a number that its type can hold has; `thing_at`, the value that the next bytes
+-- spell. A word for the type in the plural lists the readers of its variants, in the order of their places.
 use Rattle.std.specs.Prelude.{◌≡◌, ℕ, suc, Bool, List, [], ◌∷◌, Option, Some, None, Result, Ok, Err, ◌==◌, ◌<◌, get_or, if◌then◌else◌}
 use Rattle.bosh_entry.specs.declared.fault.EntryFault.{EntryFault}
 use Rattle.bosh_entry.specs.declared.fault.EntryFault.TheVariants.{NotAnEntry, Memory}
 
+-- each is a byte
 abbrev pub IsBytes : List ℕ → Type 0
 IsBytes bytes = (i : ℕ) → get_or bytes i 0 < 256
 

@@ -6,8 +6,8 @@ use crate::format::Format;
 use crate::source::Source;
 use std::alloc::Global;
 
-/// Two values, one after the other. A struct of many fields is read as pairs of pairs: so that where a field is none, a
-/// function drops what came before it once, and not each struct at each of its fields.
+/// Two values, one after the other. Structs of many fields are read as pairs of pairs, so that what was read before bytes
+/// that spell no field is dropped in one place.
 impl<A: Coded, B: Coded> Coded for (A, B) {
     ghost use Rattle.bosh_entry.specs.Pair.{pair, pair_at};
 
