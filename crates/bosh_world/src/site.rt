@@ -1,4 +1,4 @@
-ghost use Rattle.std.specs.Prelude.{◌≡◌, ◌≢◌, ◌⊎◌, ◌↔◌, ℕ, [], ◌∷◌, ◌++◌, List, Some, None, true, false, IfOk, IfErr, OnOk, OnErr, IsTrue, map};
+ghost use Rattle.std.specs.Prelude.{◌≡◌, ◌≢◌, ◌+◌, ◌⊎◌, ◌↔◌, ℕ, [], ◌∷◌, ◌++◌, List, Some, None, true, false, IfOk, IfErr, OnOk, OnErr, IsTrue, map};
 ghost use Rattle.bosh_base.specs.History.{Extends};
 ghost use Rattle.bosh_base.specs.declared.entry.Entry.{Entry};
 ghost use Rattle.bosh_base.specs.declared.entry.Entry.TheVariants as entries;
