@@ -8,9 +8,10 @@ use Rattle.bosh_base.proofs.HistoryLemmas.{latest_last, EachAfter_last}
 use Rattle.bosh_base.specs.declared.entry.Entry.{Entry}
 use Rattle.bosh_base.specs.declared.entry.Entry.TheVariants as entries
 use Rattle.bosh_base.specs.declared.moves.Move.TheVariants.{Note}
-use Rattle.bosh_book.specs.BookView.{LedgerView, PermitView, IsCurrent}
+use Rattle.bosh_book.specs.BookView.{LedgerView, PermitView}
 use Rattle.bosh_base.specs.declared.entry.Update as update
-use Rattle.bosh_book.specs.Claims.{IsChosen, AreClaimed, IsBegun, begin_by}
+use Rattle.bosh_book.specs.Claims.{IsChosen, AreClaimed, IsBegun, IsGiven, begin_by}
+use Rattle.bosh_book.specs.declared.claim.Claim.TheVariants.{Work}
 use Rattle.bosh_book.specs.Turns.{IsOfUpdate, NotesUpdate}
 use Rattle.bosh_fold.specs.Tables.{IsRecorded}
 use Rattle.bosh_history.specs.Growing.{HistoryView}
@@ -96,6 +97,6 @@ noted-begun t worker old now new was history after permit way b moves =
     )
 
 -- a worker that was given a call
-pub given-begun : (t worker : ℕ) (old now new : LedgerView) (was history : HistoryView) (permit : PermitView) → IsUnderWay t old now was history → IsBegun t worker now new permit → (permit.task ≡ t) × (new.calls ≡ old.calls ++ permit.n ∷ []) × IsCurrent new permit × (last_call new.entries ≡ permit.n)
+pub given-begun : (t worker : ℕ) (old now new : LedgerView) (was history : HistoryView) (permit : PermitView) → IsUnderWay t old now was history → IsBegun t worker now new permit → IsGiven t worker old new (Work permit)
 given-begun t worker old now new was history permit way b =
-    (b.task, ap (λ v. v.calls) b.noted ∙ ap (λ cs. cs ++ permit.n ∷ []) way.same_calls, b.current, ap (λ v. last_call v.entries) b.noted ∙ grind (arith, latest_last))
+    (b.task, ap (λ v. v.calls) b.noted ∙ ap (λ cs. cs ++ permit.n ∷ []) way.same_calls, b.current, ap (λ v. last_call v.entries) b.noted ∙ grind (arith, latest_last), (now.entries, ap (λ v. v.entries) b.noted))

@@ -112,8 +112,8 @@ impl<K: Keeper> Book<K> {
         ensures noted { (more : List Entry) × AreClaimed task self.old.ledger.entries more × (self.new.ledger.entries ≡ self.old.ledger.entries ++ more) × (self.new.ledger.calls ≡ self.old.ledger.calls ++ filter_map call_number more) × (history.new.moves ≡ history.old.moves ++ map Note more) }
         ensures same { (self.new.store ≡ self.old.store) × (self.new.ledger.is_stopped ≡ self.old.ledger.is_stopped) }
         ensures free { 1 ≤ history.old.free → 1 ≤ history.new.free }
-        ensures given { IfOk result (λ claim. IsGiven task self.old.ledger self.new.ledger claim) }
-        ensures refused { IfErr result (λ fault. IsRefusal self.old.ledger fault × (self.new.ledger.calls ≡ self.old.ledger.calls)) }
+        ensures given { IfOk result (λ claim. IsGiven task worker self.old.ledger self.new.ledger claim) }
+        ensures refused { IfErr result (λ fault. IsRefusal self.old.ledger fault × (self.new.ledger.calls ≡ self.old.ledger.calls) × ((fault ≢ BookFault.Memory) → (self.new ≡ self.old) × (history.new.moves ≡ history.old.moves))) }
         ensures accepted { IfAccepted result (Accepts self.old.ledger) }
     {
         self.ledger.claim(task, worker, history)
@@ -129,6 +129,7 @@ impl<K: Keeper> Book<K> {
     ) -> Result<(), (Permit, Answer, BookFault)>
         requires current { IsCurrent self.old.ledger permit }
         requires created { (vm : ℕ) × (answer ≡ answers.Cid vm) }
+        ensures running { OnOk result (self.old.ledger.is_stopped ≡ false) }
         ensures ended { OnOk result ((self.new ≡ record self.old { ledger = record self.old.ledger { entries = self.old.ledger.entries ++ entries.End (record { n = permit.n; answer = answer }) ∷ []; calls = filter (λ n. not (n == permit.n)) self.old.ledger.calls } }) × (history.new.moves ≡ history.old.moves ++ Note (entries.End (record { n = permit.n; answer = answer })) ∷ []) × (1 ≤ history.new.free)) }
         ensures refused { IfErr result (λ back. (back.0 ≡ permit) × (back.1 ≡ answer) × IsSettleRefusal self.old.ledger back.2 × (self.new ≡ self.old) × (history.new.moves ≡ history.old.moves) × (history.old.free ≤ history.new.free)) }
     {
@@ -147,6 +148,7 @@ impl<K: Keeper> Book<K> {
     pub fn end_task(&mut self, task: u64, history: &mut History) -> Result<TaskEnd, BookFault>
         requires recorded { IsRecorded self.old.ledger.entries task }
         requires over { (self.old.ledger.is_stopped ≡ true) ⊎ IsChoice self.old.ledger.entries task Over }
+        ensures running { OnOk result (self.old.ledger.is_stopped ≡ false) }
         ensures end { IfOk result (λ end. end ≡ Finished) }
         ensures ended { OnOk result (is_task_open self.old.ledger.entries task ≡ true → EndsTask self.old.ledger.entries task × (self.new ≡ record self.old { ledger = record self.old.ledger { entries = self.old.ledger.entries ++ entries.TaskDone task ∷ [] } }) × (history.new.moves ≡ history.old.moves ++ Note (entries.TaskDone task) ∷ []) × (1 ≤ history.new.free)) }
         ensures had_ended { OnOk result (is_task_open self.old.ledger.entries task ≡ false → (self.new ≡ self.old) × (history.new ≡ history.old)) }

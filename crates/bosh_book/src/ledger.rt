@@ -162,8 +162,8 @@ impl Ledger {
         ensures noted { (more : List Entry) × AreClaimed task self.old.entries more × (self.new.entries ≡ self.old.entries ++ more) × (self.new.calls ≡ self.old.calls ++ filter_map call_number more) × (history.new.moves ≡ history.old.moves ++ map Note more) }
         ensures same { self.new.is_stopped ≡ self.old.is_stopped }
         ensures free { 1 ≤ history.old.free → 1 ≤ history.new.free }
-        ensures given { IfOk result (λ claim. IsGiven task self.old self.new claim) }
-        ensures refused { IfErr result (λ fault. IsRefusal self.old fault × (self.new.calls ≡ self.old.calls)) }
+        ensures given { IfOk result (λ claim. IsGiven task worker self.old self.new claim) }
+        ensures refused { IfErr result (λ fault. IsRefusal self.old fault × (self.new.calls ≡ self.old.calls) × ((fault ≢ BookFault.Memory) → (self.new ≡ self.old) × (history.new.moves ≡ history.old.moves))) }
         ensures accepted { IfAccepted result (Accepts self.old) }
     {
         self.check()?;
@@ -306,6 +306,7 @@ impl Ledger {
     ) -> Result<(), (Permit, Answer, BookFault)>
         requires current { IsCurrent self.old permit }
         requires created { (vm : ℕ) × (answer ≡ answers.Cid vm) }
+        ensures running { OnOk result (self.old.is_stopped ≡ false) }
         ensures ended { OnOk result ((self.new ≡ record self.old { entries = self.old.entries ++ entries.End (record { n = permit.n; answer = answer }) ∷ []; calls = filter (λ n. not (n == permit.n)) self.old.calls }) × (history.new.moves ≡ history.old.moves ++ Note (entries.End (record { n = permit.n; answer = answer })) ∷ []) × (1 ≤ history.new.free)) }
         ensures refused { IfErr result (λ back. (back.0 ≡ permit) × (back.1 ≡ answer) × IsSettleRefusal self.old back.2 × (self.new ≡ self.old) × (history.new.moves ≡ history.old.moves) × (history.old.free ≤ history.new.free)) }
     {
@@ -345,6 +346,7 @@ impl Ledger {
     pub fn end_task(&mut self, task: u64, history: &mut History) -> Result<TaskEnd, BookFault>
         requires recorded { IsRecorded self.old.entries task }
         requires over { (self.old.is_stopped ≡ true) ⊎ IsChoice self.old.entries task Over }
+        ensures running { OnOk result (self.old.is_stopped ≡ false) }
         ensures end { IfOk result (λ end. end ≡ Finished) }
         ensures ended { OnOk result (is_task_open self.old.entries task ≡ true → EndsTask self.old.entries task × (self.new ≡ record self.old { entries = self.old.entries ++ entries.TaskDone task ∷ [] }) × (history.new.moves ≡ history.old.moves ++ Note (entries.TaskDone task) ∷ []) × (1 ≤ history.new.free)) }
         ensures had_ended { OnOk result (is_task_open self.old.entries task ≡ false → (self.new ≡ self.old) × (history.new ≡ history.old)) }
