@@ -16,6 +16,8 @@ use Rattle.bosh_base.specs.declared.entry.Entry.{Entry}
 use Rattle.bosh_base.specs.declared.entry.Entry.TheVariants as entries
 use Rattle.bosh_base.specs.declared.entry.TaskOpen as task_open
 use Rattle.bosh_base.specs.declared.entry.Update as update
+use Rattle.bosh_base.specs.declared.goal.Goal.{Goal}
+use Rattle.bosh_base.specs.declared.goal.GroupPlan.{GroupPlan}
 use Rattle.bosh_base.specs.declared.inst.Inst.{Inst}
 use Rattle.bosh_history.specs.Goals.{want_of, instances, inst_of}
 use Rattle.bosh_history.specs.Permitted.{Begins, Opens}
@@ -100,6 +102,7 @@ calls-quiet D e calls quiet failed opens goals all = record {
   doubts = λ i n is. own-quiet D e calls i n quiet (all.doubts i n (sym (quiet.no_doubt D i) ∙ is));
   none_failed = λ t. failed t ∙ all.none_failed t;
   wants = λ t task is. wanted-stays D e opens goals task.changed (all.wants t task (sym (opens t) ∙ is));
+  rooms = λ t task goal group is. all.rooms t task goal group (sym (opens t) ∙ is);
 }
 
 -- ---- a call begins
@@ -144,6 +147,7 @@ calls-begin D b calls p all = record {
   doubts = λ i n is. own-begun i n (doubt_of-begin D b p i) is;
   none_failed = λ t. grind (arith, latest_seen_last, all.none_failed t);
   wants = quiet-wants D b calls all;
+  rooms = λ t task goal group is. all.rooms t task goal group (sym (opening_of-stays D (entries.Begin b) t refl) ∙ is);
 }
   where
     own-new : (i : Inst) (n : ℕ) → i ≡ p.inst → b.n ≡ n → IsOwnCall (more D (entries.Begin b)) (calls ++ b.n ∷ []) i n
@@ -210,6 +214,7 @@ calls-end D e v calls is listed all =
       doubts = λ i n in_doubt. own-ended i n done (doubt_of-created D e done.inst (ended D e.n done) v is i) in_doubt;
       none_failed = λ t. grind (arith, latest_seen_last, all.none_failed t, is);
       wants = λ t task it. wanted-stays D (entries.End e) (λ t. opening_of-stays D (entries.End e) t refl) (λ dep. goal_of-stays D (entries.End e) dep refl) task.changed (all.wants t task (sym (opening_of-stays D (entries.End e) t refl) ∙ it));
+      rooms = λ t task goal group it. all.rooms t task goal group (sym (opening_of-stays D (entries.End e) t refl) ∙ it);
     }
   where
     apart : (i : Inst) (n : ℕ) (done : IsOpenCall D e.n) → i ≢ done.inst → IsOwnCall D calls i n → n ≢ e.n
@@ -270,11 +275,20 @@ calls-open D o calls p all = record {
   doubts = λ i n is. own-quiet D (entries.TaskOpen o) calls i n (quiet_open o) (all.doubts i n (sym ((quiet_open o).no_doubt D i) ∙ is));
   none_failed = λ t. grind (arith, latest_seen_last, all.none_failed t);
   wants = λ t task is. by_task t task is (eqb_tells o.task t);
+  rooms = λ t task goal group is has_goal one_group. room_in t task goal group is has_goal one_group (eqb_tells o.task t);
 }
   where
     by_task : (t : ℕ) (task : task_open.TaskOpen) → opening_of (more D (entries.TaskOpen o)) t ≡ Some task → (((o.task == t) ≡ true) × (o.task ≡ t)) ⊎ (((o.task == t) ≡ false) × (o.task ≢ t)) → All (λ i. want_of (more D (entries.TaskOpen o)) i ≢ None) task.changed
     by_task t task is (inl it) = subst (All (λ i. want_of (more D (entries.TaskOpen o)) i ≢ None)) (grind (arith, latest_last, it.0, is, p.changes_all)) (wanted-new D o p)
     by_task t task is (inr other) = λ k d below. wanted-old D o p (get_or task.changed k d) (all.wants t task (grind (arith, latest_last, other.0, is)) k d below)
+
+    room_in : (t : ℕ) (task : task_open.TaskOpen) (goal : Goal) (group : GroupPlan) → opening_of (more D (entries.TaskOpen o)) t ≡ Some task → task.goal ≡ Some goal → goal.groups ≡ group ∷ [] → (((o.task == t) ≡ true) × (o.task ≡ t)) ⊎ (((o.task == t) ≡ false) × (o.task ≢ t)) → 1 ≤ group.limit
+    room_in t task goal group is has_goal one_group (inl it) =
+        let same : o ≡ task = grind (arith, latest_last, it.0, is) in
+        let its_goal : p.goal ≡ goal = grind (arith, p.has_goal, has_goal, ap (λ (k : task_open.TaskOpen). k.goal) same) in
+        let its_group : p.group ≡ group = grind (arith, p.is_sound.one_group, one_group, ap (λ (g : Goal). g.groups) its_goal) in
+        subst (λ (g : GroupPlan). 1 ≤ g.limit) its_group p.is_sound.has_room
+    room_in t task goal group is has_goal one_group (inr other) = all.rooms t task goal group (grind (arith, latest_last, other.0, is)) has_goal one_group
 
 -- ---- the other entries
 
@@ -293,6 +307,7 @@ calls-none = record {
   doubts = λ i n is. absurd (grind (arith, is));
   none_failed = λ t. refl;
   wants = λ t task is. absurd (grind (arith, is));
+  rooms = λ t task goal group is has_goal one_group. absurd (grind (arith, is));
 }
 
 -- the end of an open creation may be added

@@ -25,7 +25,7 @@ use Rattle.std.proofs.lemmas.List.{length-map}
 use Rattle.bosh_roll.specs.declared.group_roll.GroupRoll.{GroupRoll}
 
 -- the state of an instance is found at its place
-state_at : (f : Inst → Upd) (is : List Inst) (k : ℕ) (i : Inst) → slice_get is k ≡ Some i → slice_get (map f is) k ≡ Some (f i)
+pub state_at : (f : Inst → Upd) (is : List Inst) (k : ℕ) (i : Inst) → slice_get is k ≡ Some i → slice_get (map f is) k ≡ Some (f i)
 state_at f is k i at = slice_get-map f is k ∙ ap (option_map f) at
 
 same_Some : {A : Type 0} (a b : A) → Some a ≡ Some b → a ≡ b

@@ -5,3 +5,4 @@ pub mod LeftLemmas
 pub mod NoteLemmas
 pub mod StepLemmas
 pub mod TurnLemmas
+pub mod WaitLemmas

@@ -8,10 +8,12 @@ use Rattle.bosh_base.proofs.HistoryLemmas.{latest_last, EachAfter_last}
 use Rattle.bosh_base.specs.declared.entry.Entry.{Entry}
 use Rattle.bosh_base.specs.declared.entry.Entry.TheVariants as entries
 use Rattle.bosh_base.specs.declared.moves.Move.TheVariants.{Note}
-use Rattle.bosh_book.specs.BookView.{LedgerView, PermitView}
+use Rattle.bosh_book.specs.BookView.{LedgerView, PermitView, AreOpenCalls}
 use Rattle.bosh_base.specs.declared.entry.Update as update
-use Rattle.bosh_book.specs.Claims.{IsChosen, AreClaimed, IsBegun, IsGiven, begin_by}
-use Rattle.bosh_book.specs.declared.claim.Claim.TheVariants.{Work}
+use Rattle.bosh_book.specs.Claims.{IsChosen, AreClaimed, IsBegun, IsChoice, IsGiven, begin_by}
+use Rattle.bosh_book.specs.declared.claim.Claim.TheVariants.{Work, Wait}
+use Rattle.bosh_book.specs.declared.next.Next.TheVariants as choices
+use Rattle.bosh_book.proofs.WaitLemmas.{waits-open}
 use Rattle.bosh_book.specs.Turns.{IsOfUpdate, NotesUpdate}
 use Rattle.bosh_fold.specs.Tables.{IsRecorded}
 use Rattle.bosh_history.specs.Growing.{HistoryView}
@@ -100,3 +102,7 @@ noted-begun t worker old now new was history after permit way b moves =
 pub given-begun : (t worker : ℕ) (old now new : LedgerView) (was history : HistoryView) (permit : PermitView) → IsUnderWay t old now was history → IsBegun t worker now new permit → IsGiven t worker old new (Work permit)
 given-begun t worker old now new was history permit way b =
     (b.task, ap (λ v. v.calls) b.noted ∙ ap (λ cs. cs ++ permit.n ∷ []) way.same_calls, b.current, ap (λ v. last_call v.entries) b.noted ∙ grind (arith, latest_last), (now.entries, ap (λ v. v.entries) b.noted))
+
+-- a worker that is to wait
+pub given-wait : (t worker : ℕ) (old now : LedgerView) (was history : HistoryView) → IsUnderWay t old now was history → AreOpenCalls now.entries now.calls → IsChoice now.entries t choices.Wait → IsGiven t worker old now Wait
+given-wait t worker old now was history way all choice = (choice, way.same_calls, waits-open now.entries now.calls t all choice)

@@ -1,10 +1,12 @@
 -- What contracts see of the book, and what it keeps true.
-use Rattle.std.specs.Prelude.{◌≡◌, ◌≢◌, ℕ, ◌≤◌, Bool, true, false, Some, None, List, [], All}
+use Rattle.std.specs.Prelude.{◌≡◌, ◌≢◌, ℕ, ◌≤◌, Bool, true, false, Some, None, List, [], ◌∷◌, All}
 use Rattle.bosh_base.specs.declared.call.Call.{Call}
 use Rattle.bosh_base.specs.declared.call.Call.TheVariants.{CreateVm}
 use Rattle.bosh_base.specs.declared.entry.Begin as begin
 use Rattle.bosh_base.specs.declared.entry.Entry.{Entry}
 use Rattle.bosh_base.specs.declared.entry.TaskOpen as task_open
+use Rattle.bosh_base.specs.declared.goal.Goal.{Goal}
+use Rattle.bosh_base.specs.declared.goal.GroupPlan.{GroupPlan}
 use Rattle.bosh_base.specs.declared.inst.Inst.{Inst}
 use Rattle.bosh_base.specs.declared.make.Make.{Make}
 use Rattle.bosh_base.specs.declared.owner.Owner.{Owner}
@@ -51,12 +53,14 @@ pub record IsOwnCall (entries : List Entry) (calls : List ℕ) (i : Inst) (n : �
   pub began : begin_of entries n ≡ Some begin
   pub owner : begin.owner ≡ Instance i
 
--- the open calls are those in doubt, none has failed, and what a task changes is wanted by a goal
+-- the open calls are those in doubt, none has failed, what a task changes is wanted by a goal, and the group of a task
+-- takes at least one instance at a time
 pub record AreOpenCalls (entries : List Entry) (calls : List ℕ) : Type 0 where
   pub each : (n : ℕ) → has_call calls n ≡ true → IsOpenCall entries n
   pub doubts : (i : Inst) (n : ℕ) → doubt_of entries i ≡ Some n → IsOwnCall entries calls i n
   pub none_failed : (t : ℕ) → has_failed entries t ≡ false
   pub wants : (t : ℕ) (task : task_open.TaskOpen) → opening_of entries t ≡ Some task → All (λ i. want_of entries i ≢ None) task.changed
+  pub rooms : (t : ℕ) (task : task_open.TaskOpen) (goal : Goal) (group : GroupPlan) → opening_of entries t ≡ Some task → task.goal ≡ Some goal → goal.groups ≡ group ∷ [] → 1 ≤ group.limit
 
 -- the owner is an instance of the deployment
 abbrev pub IsOf : Owner → List ℕ → Type 0

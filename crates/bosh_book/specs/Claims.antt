@@ -128,8 +128,8 @@ pub record IsBegun (t worker : ℕ) (old new : LedgerView) (permit : PermitView)
   pub current : IsCurrent new permit
 
 -- what a worker is given: a call whose permit is current, and which was noted last as begun by this worker; nothing now,
--- while others wait; or nothing, as nothing is left
+-- while a call is open; or nothing, as nothing is left
 abbrev pub IsGiven : ℕ → ℕ → LedgerView → LedgerView → Claim → Type 0
 IsGiven t worker old new (Work permit) = (permit.task ≡ t) × (new.calls ≡ old.calls ++ permit.n ∷ []) × IsCurrent new permit × (last_call new.entries ≡ permit.n) × ((front : List Entry) × (new.entries ≡ front ++ Begin (begin_by worker permit) ∷ []))
-IsGiven t worker old new Wait = IsChoice new.entries t choices.Wait × (new.calls ≡ old.calls)
+IsGiven t worker old new Wait = IsChoice new.entries t choices.Wait × (new.calls ≡ old.calls) × (new.calls ≢ [])
 IsGiven t worker old new Over = IsChoice new.entries t choices.Over × (new.calls ≡ old.calls)

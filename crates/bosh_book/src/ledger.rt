@@ -150,8 +150,8 @@ impl Ledger {
         Ok(task)
     }
 
-    /// Claims work of a task for a worker. What the rules ask for on the way is noted, also where the claim ends with a
-    /// refusal.
+    /// Claims work of a task for a worker. What the rules ask for on the way is noted, also where the claim then ends for
+    /// want of memory; any other refusal comes first of all.
     pub fn claim(
         &mut self,
         task: u64,

@@ -1,5 +1,9 @@
-use Rattle.bosh_book.proofs.TurnLemmas.{way-start, way-more, noted-way, noted-begun, given-begun}
+use Rattle.bosh_book.proofs.TurnLemmas.{way-start, way-more, noted-way, noted-begun, given-begun, given-wait}
 use Rattle.bosh_book.proofs.ledger.Ledger.claim.Goals as goal
+use Rattle.std.proofs.Common.{subst}
+use Rattle.bosh_book.specs.BookView.{LedgerView, AreOpenCalls}
+use Rattle.bosh_book.specs.Claims.{IsChoice}
+use Rattle.bosh_book.specs.declared.next.Next.TheVariants as choices
 
 pub returns-in_err-check-clause-noted : goal.returns-in_err-check-clause-noted
 returns-in_err-check-clause-noted c = noted-way c.args.task c.args.self.now c.args.self.now c.args.history.now c.args.history.now (way-start c.args.task c.args.self.now c.args.history.now c.requires)
@@ -18,3 +22,9 @@ returns-in-Create-clause-noted c = noted-begun c.args.task c.args.worker c.args.
 
 pub returns-in-Create-clause-given : goal.returns-in-Create-clause-given
 returns-in-Create-clause-given c = given-begun c.args.task c.args.worker c.args.self.now c.loop-place.self c.create.new.self c.args.history.now c.loop-place.history c.in_ok-permit-in-Create.permit c.loop-place.invariant c.in_ok-permit-in-Create.ensures.ok.0
+
+pub returns-in-Wait-clause-given : goal.returns-in-Wait-clause-given
+returns-in-Wait-clause-given c =
+    let all : AreOpenCalls c.loop-place.self.entries c.loop-place.self.calls = subst (λ (v : LedgerView). AreOpenCalls v.entries v.calls) c.self-in-loop-place.view_is c.self-in-loop-place.invariant in
+    let choice : IsChoice c.loop-place.self.entries c.args.task choices.Wait = subst (λ (v : LedgerView). IsChoice v.entries c.args.task choices.Wait) c.self-in-loop-place.view_is c.in-Wait.ensures in
+    given-wait c.args.task c.args.worker c.args.self.now c.loop-place.self c.args.history.now c.loop-place.history c.loop-place.invariant all choice
