@@ -1,18 +1,17 @@
 -- A worker waits only while a call is open.
 use Prim.Native.Nat.{zero, suc}
-use Rattle.std.proofs.Common.{◌≡◌, ℕ, ◌+◌, ◌<◌, ◌≤◌, Bool, true, false, Option, Some, None, List, [], ◌∷◌, inl, inr, refl, sym, ◌∙◌, ap, subst, arith, map, take}
+use Rattle.std.proofs.Common.{◌≡◌, ℕ, ◌+◌, ◌<◌, ◌≤◌, Option, Some, None, List, [], ◌∷◌, inl, inr, refl, sym, ◌∙◌, ap, subst, arith, map, take}
 use Rattle.std.specs.Prelude.{◌≢◌, ◌⊎◌, All, slice_get, count_by}
 use Rattle.std.specs.List.{AllByRecursion}
 use Rattle.std.proofs.lemmas.List.Elements.{All-map, All-from_recursion}
 use Rattle.bosh_base.specs.History.{chosen, latest}
 use Rattle.bosh_base.specs.declared.entry.Entry.{Entry}
-use Rattle.bosh_base.specs.declared.entry.Entry.TheVariants as entries
 use Rattle.bosh_base.specs.declared.entry.TaskOpen as task_open
 use Rattle.bosh_base.specs.declared.goal.GroupPlan.{GroupPlan}
 use Rattle.bosh_base.specs.declared.inst.Inst.{Inst}
 use Rattle.bosh_book.proofs.ClaimLemmas.{state_at}
 use Rattle.bosh_book.specs.BookView.{AreOpenCalls}
-use Rattle.bosh_book.specs.Claims.{IsReady, IsReadyAt, IsAllDone, IsChoice, IsOpened, IsOpenWith}
+use Rattle.bosh_book.specs.Claims.{IsReady, IsReadyAt, IsAllDone, IsChoice, IsOpened}
 use Rattle.bosh_book.specs.declared.next.Next.TheVariants as choices
 use Rattle.bosh_history.specs.Goals.{roll_of}
 use Rattle.bosh_history.specs.Records.{updates, update_of, doubt_of}

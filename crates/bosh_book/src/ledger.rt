@@ -116,17 +116,24 @@ impl Ledger {
         }
     }
 
+    // So much is noted that no more is begun.
+    fn is_full(&self) -> bool
+        ensures { IsTrue result ↔ ((1000000 ≤ length self.now.entries) ⊎ (2 ^ 62 ≤ last_call self.now.entries)) }
+    {
+        self.records.entries().len() >= MOST_ENTRIES || self.records.last_call() >= LAST_CALL
+    }
+
     fn check(&self) -> Result<(), BookFault>
         ensures ok { OnOk result (Accepts self.now) }
         ensures err { IfErr result (λ fault. IsRefusal self.now fault × (fault ≢ BookFault.Memory)) }
     {
         if self.is_stopped {
-            return Err(BookFault::Stopped);
+            Err(BookFault::Stopped)
+        } else if self.is_full() {
+            Err(BookFault::Full)
+        } else {
+            Ok(())
         }
-        if self.records.entries().len() >= MOST_ENTRIES || self.records.last_call() >= LAST_CALL {
-            return Err(BookFault::Full);
-        }
-        Ok(())
     }
 
     /// Opens a task that deploys a goal of a new deployment, and gives its number. A refusal leaves everything as it was.

@@ -1,9 +1,9 @@
-use Rattle.bosh_book.proofs.TurnLemmas.{way-start, way-more, noted-way, noted-begun, given-begun, given-wait}
-use Rattle.bosh_book.proofs.ledger.Ledger.claim.Goals as goal
 use Rattle.std.proofs.Common.{subst}
 use Rattle.bosh_book.specs.BookView.{LedgerView, AreOpenCalls}
 use Rattle.bosh_book.specs.Claims.{IsChoice}
 use Rattle.bosh_book.specs.declared.next.Next.TheVariants as choices
+use Rattle.bosh_book.proofs.TurnLemmas.{way-start, way-more, noted-way, noted-begun, given-begun, given-wait}
+use Rattle.bosh_book.proofs.ledger.Ledger.claim.Goals as goal
 
 pub returns-in_err-check-clause-noted : goal.returns-in_err-check-clause-noted
 returns-in_err-check-clause-noted c = noted-way c.args.task c.args.self.now c.args.self.now c.args.history.now c.args.history.now (way-start c.args.task c.args.self.now c.args.history.now c.requires)
