@@ -1,6 +1,6 @@
 # run: the program on the first session.  test: the gate.  sessions: every session of sessions/ through the
-# built program.  fmt: lays out all sources.
-.PHONY: run test sessions fmt build
+# built program.  bench: how the times of sessions grow.  fmt: lays out all sources.
+.PHONY: run test sessions bench fmt build
 
 PROGRAM := crates/boshd/out/boshd
 
@@ -15,6 +15,9 @@ build:
 
 sessions:
 	@bash sessions/run.sh
+
+bench: build
+	@bash bench/run.sh
 
 fmt:
 	@for crate in crates/*/; do (cd "$$crate" && rt fmt) || exit 1; done

@@ -1,0 +1,6 @@
+pub mod DeployLemmas
+pub mod EndLemmas
+pub mod GoalLemmas
+pub mod ReplyLemmas
+pub mod SessionLemmas
+pub mod TurnLemmas

@@ -1,0 +1,14 @@
+use Rattle.std.proofs.Common.{◌≡◌, ◌-◌, []}
+use Rattle.bosh_session.proofs.SessionLemmas.{IsUnderWay}
+use Rattle.bosh_session.proofs.session.carry_out_each.Given as goal
+
+-- the commands so far were carried out, and no call is open
+abbrev pub invariant-loop-files : goal.invariant-loop-files
+invariant-loop-files g l = record {
+  way : IsUnderWay g.I.Source.left g.I.Source.faults g.O.Sink.written g.O.Sink.faults l.fn.source l.source l.fn.out l.out l.input l.files l.site.moves l.fails;
+  idle : l.site.book.ledger.calls ≡ [];
+}
+
+-- each turn takes a command, and a session takes no more than so many
+abbrev pub decreases-loop-files : goal.decreases-loop-files
+decreases-loop-files g l = 200 - l.input.given

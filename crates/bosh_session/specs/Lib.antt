@@ -1,0 +1,12 @@
+pub mod Answers
+pub mod Asks
+pub mod Deploys
+pub mod Ends
+pub mod Files
+pub mod Listing
+pub mod Refusals
+pub mod Replies
+pub mod Sessions
+pub mod Status
+pub mod Turns
+pub mod Writing
