@@ -1,4 +1,4 @@
--- IPv4 addresses in dotted decimal (RFC 3986, section 3.2.2, `IPv4address`).
+-- IPv4 addresses in dotted decimal (the `IPv4address` of RFC 3986).
 use Rattle.std.specs.Prelude.{◌≡◌, ℕ, ◌/◌, ◌%◌, ◌^◌, ◌<◌, List, ◌++◌, codes, decimal}
 use Rattle.bosh_ip.specs.declared.fault.IpFault.{IpFault}
 use Rattle.bosh_ip.specs.declared.fault.IpFault.TheVariants.{Syntax}

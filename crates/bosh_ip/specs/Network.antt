@@ -1,4 +1,4 @@
--- Networks as an address and the length of its prefix (RFC 4632, section 3.1).
+-- Networks as an address and the length of its prefix (the CIDR notation of RFC 4632).
 use Rattle.std.specs.Prelude.{◌≡◌, ℕ, ◌+◌, ◌/◌, ◌%◌, ◌^◌, ◌-◌, ◌<◌, ◌≤◌, List, ◌++◌, codes, decimal}
 use Rattle.bosh_ip.specs.declared.network.Cidr.{Cidr}
 use Rattle.bosh_ip.specs.declared.fault.IpFault.{IpFault}
