@@ -1,5 +1,5 @@
 -- The moves by which tasks are carried to their ends, and what ends that early (this project's profile).
-use Rattle.std.specs.Prelude.{◌≡◌, ◌⊎◌, ℕ, ◌<◌, ◌≤◌, ◌^◌, ◌==◌, not, true, false, Some, List, [], ◌∷◌, ◌++◌, filter, length, slice_get}
+use Rattle.std.specs.Prelude.{◌≡◌, ◌⊎◌, ℕ, ◌<◌, ◌≤◌, ◌^◌, ◌==◌, not, true, false, Some, List, [], ◌∷◌, ◌++◌, filter, length, slice_get, All, Contains}
 use Rattle.bosh_base.specs.declared.entry.End as end
 use Rattle.bosh_base.specs.declared.entry.Entry.{Entry}
 use Rattle.bosh_base.specs.declared.entry.Entry.TheVariants as notes
@@ -14,34 +14,46 @@ use Rattle.bosh_world.specs.SiteView.{SiteView}
 use Rattle.bosh_world.specs.declared.fault.SiteFault.{SiteFault}
 use Rattle.bosh_world.specs.declared.fault.SiteFault.TheVariants.{Book, Memory}
 
--- a note of an update, of a call, or of a task that is done; a call that was performed; or a halt. No task opens, and no
--- command is answered.
-abbrev pub IsWork : Move → Type 0
-IsWork (Note (notes.UpdBegin update)) = Unit {0}
-IsWork (Note (notes.UpdDone update)) = Unit {0}
-IsWork (Note (notes.Begin begin)) = Unit {0}
-IsWork (Note (notes.End end)) = Unit {0}
-IsWork (Note (notes.TaskDone task)) = Unit {0}
-IsWork (Did did) = Unit {0}
-IsWork (Halt cause) = Unit {0}
-IsWork move = ⊥
+-- a note of the update of one of these tasks, of a call, or of such a task that is done; a call that was performed; or a
+-- halt. No task opens, and no command is answered.
+abbrev pub IsWork : List ℕ → Move → Type 0
+IsWork tasks (Note (notes.UpdBegin update)) = Contains tasks update.task
+IsWork tasks (Note (notes.UpdDone update)) = Contains tasks update.task
+IsWork tasks (Note (notes.Begin begin)) = Contains tasks begin.task
+IsWork tasks (Note (notes.End end)) = Unit {0}
+IsWork tasks (Note (notes.TaskDone task)) = Contains tasks task
+IsWork tasks (Did did) = Unit {0}
+IsWork tasks (Halt cause) = Unit {0}
+IsWork tasks move = ⊥
+
+-- the second moves go on from the first by work on these tasks
+abbrev pub AreWorked : List ℕ → List Move → List Move → Type 0
+AreWorked tasks old new = (work : List Move) × (new ≡ old ++ work) × All (IsWork tasks) work
+
+-- nothing was written to the director's keeper or to the cloud's
+abbrev pub KeepsStores : {K L : Type 0} → SiteView K L → SiteView K L → Type 0
+KeepsStores old new = (new.book.store ≡ old.book.store) × (new.cloud.store ≡ old.cloud.store)
+
+-- no call is left open, unless the site has halted
+abbrev pub LeavesNoCall : {K L : Type 0} → SiteView K L → Type 0
+LeavesNoCall site = (is_halted site.moves ≡ true) ⊎ (site.book.ledger.calls ≡ [])
 
 -- no further entry, or no further call, has a place in the book
 abbrev pub IsFull : List Entry → Type 0
 IsFull entries = (1000000 ≤ length entries) ⊎ (2 ^ 62 ≤ last_call entries)
 
 -- Why tasks were not carried to their ends: the site had halted; or the book is full, and goes on otherwise. Want of memory
--- comes at any time.
+-- comes at any time, and leaves no call open on a site that runs.
 abbrev pub IsStuck : {K L : Type 0} → SiteView K L → SiteView K L → SiteFault → Type 0
 IsStuck old new (Book faults.Stopped) = is_halted old.moves ≡ true
 IsStuck old new (Book faults.Full) = (is_halted new.moves ≡ false) × IsFull (durable nothing new.moves) × (new.book.ledger.calls ≡ [])
 IsStuck old new (Book faults.Memory) = ⊥
-IsStuck old new Memory = Unit {0}
+IsStuck old new Memory = LeavesNoCall new
 
 -- a step was not made: but for want of memory, nothing changed
 abbrev pub IsHeldUp : {K L : Type 0} → SiteView K L → SiteView K L → SiteFault → Type 0
 IsHeldUp old new (Book fault) = IsRefusal old (Book fault) × (new ≡ old)
-IsHeldUp old new Memory = Unit {0}
+IsHeldUp old new Memory = LeavesNoCall new
 
 -- a step towards the end of a task: an entry was noted at least, where there was room for one, and no call is open
 pub record IsStep (old new : LedgerView) : Type 0 where

@@ -1,8 +1,7 @@
-ghost use Rattle.std.specs.Prelude.{◌≡◌, ◌++◌, [], ◌∷◌, ℕ, All, List, Some, None, true, false, IfErr, OnOk, MatchOption, slice_get};
-ghost use Rattle.bosh_base.specs.declared.moves.Move.{Move};
-ghost use Rattle.bosh_crew.specs.Work.{IsEnded, IsHeldUp, IsNoneOpen, IsOpenAt, IsStep, IsStuck, IsWork};
+ghost use Rattle.std.specs.Prelude.{◌≡◌, [], ◌∷◌, All, true, false, IfErr, OnOk, OnErr, MatchOption, slice_get};
+ghost use Rattle.bosh_crew.specs.Work.{AreWorked, IsEnded, IsHeldUp, IsNoneOpen, IsOpenAt, IsStep, IsStuck, KeepsStores};
 ghost use Rattle.bosh_fold.specs.Tables.{IsRecorded};
-ghost use Rattle.bosh_history.specs.Moves.{nothing, durable};
+ghost use Rattle.bosh_history.specs.Moves.{nothing, durable, is_halted};
 ghost use Rattle.bosh_history.specs.Records.{is_task_open};
 ghost use Rattle.bosh_world.specs.SiteView.{IsPerformable};
 ghost use Rattle.bosh_world.specs.declared.fault.SiteFault.{SiteFault};
@@ -16,7 +15,9 @@ use bosh_world::{Site, SiteFault};
 pub fn drive<K: Keeper, L: Keeper>(site: &mut Site<K, L>, tasks: &[u64]) -> Result<(), SiteFault>
     requires recorded { All (IsRecorded site.old.book.ledger.entries) tasks.now }
     requires idle { site.old.book.ledger.calls ≡ [] }
-    ensures works { (work : List Move) × (site.new.moves ≡ site.old.moves ++ work) × All IsWork work }
+    ensures works { AreWorked tasks.now site.old.moves site.new.moves }
+    ensures stores { KeepsStores site.old site.new }
+    ensures runs_on { OnOk result (is_halted site.new.moves ≡ is_halted site.old.moves) }
     ensures ended { OnOk result (All (λ task. is_task_open (durable nothing site.new.moves) task ≡ false) tasks.now) }
     ensures idle { OnOk result (site.new.book.ledger.calls ≡ []) }
     ensures stuck { IfErr result (IsStuck site.old site.new) }
@@ -58,7 +59,8 @@ fn take_step<K: Keeper, L: Keeper>(site: &mut Site<K, L>, task: u64) -> Result<(
     requires recorded { IsRecorded site.old.book.ledger.entries task }
     requires is_open { is_task_open site.old.book.ledger.entries task ≡ true }
     requires idle { site.old.book.ledger.calls ≡ [] }
-    ensures works { (work : List Move) × (site.new.moves ≡ site.old.moves ++ work) × All IsWork work }
+    ensures works { AreWorked (task ∷ []) site.old.moves site.new.moves }
+    ensures stores { KeepsStores site.old site.new }
     ensures step { OnOk result (IsStep site.old.book.ledger site.new.book.ledger) }
     ensures held_up { IfErr result (IsHeldUp site.old site.new) }
 {
@@ -76,9 +78,11 @@ fn take_step<K: Keeper, L: Keeper>(site: &mut Site<K, L>, task: u64) -> Result<(
 fn make_call<K: Keeper, L: Keeper>(site: &mut Site<K, L>, permit: Permit) -> Result<(), SiteFault>
     requires performable { IsPerformable site.old permit }
     requires running { site.old.book.ledger.is_stopped ≡ false }
-    ensures works { (work : List Move) × (site.new.moves ≡ site.old.moves ++ work) × All IsWork work }
+    ensures works { AreWorked (permit.task ∷ []) site.old.moves site.new.moves }
+    ensures stores { KeepsStores site.old site.new }
     ensures settled { OnOk result (IsEnded site.old.book.ledger site.new.book.ledger permit.n) }
     ensures refused { IfErr result (λ fault. fault ≡ SiteFault.Memory) }
+    ensures halted { OnErr result (is_halted site.new.moves ≡ true) }
 {
     match site.perform(permit) {
         Err((permit, fault)) => {

@@ -36,7 +36,7 @@ pub record Worked (files : List KeptFile) (asked : Asked) (before opened after :
   pub opens : opened ≡ before ++ Note (TaskOpen opening) ∷ []
   pub work : List Move
   pub works : after ≡ opened ++ work
-  pub is_work : All IsWork work
+  pub is_work : All (IsWork (task ∷ [])) work
 
 pub deployed : (files : List KeptFile) (asked : Asked) (before opened after : List Move) (task : ℕ) (result : Result Reply Status) → Worked files asked before opened after task → IfOk result (IsOutcome after task) → IfOk result (IsDeploy files asked before after)
 deployed files asked before opened after task (Err status) way outcome = tt
@@ -51,7 +51,7 @@ deployed files asked before opened after task (Ok reply) way outcome =
         has_goal = way.has_goal;
         work = way.work;
         moved = way.works ∙ ap (λ moves. moves ++ way.work) way.opens ∙ append_assoc before (Note (TaskOpen way.opening) ∷ []) way.work;
-        is_work = way.is_work;
+        is_work = subst (λ t. All (IsWork (t ∷ [])) way.work) way.number way.is_work;
       };
       outcome = subst (λ t. IsOutcome after t reply) way.number outcome;
     } in

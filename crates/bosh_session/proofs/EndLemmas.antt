@@ -1,5 +1,5 @@
 -- Where a session ends.
-use Rattle.std.proofs.Common.{◌≡◌, inl, inr, ℕ, ◌+◌, ◌≤◌, Bool, true, false, List, [], ◌∷◌, ◌++◌, Option, Some, Err, length, refl, sym, ap, ◌∙◌, subst, arith, append_assoc, append-nil, length-append}
+use Rattle.std.proofs.Common.{◌≡◌, inl, inr, ℕ, ◌+◌, ◌≤◌, Bool, true, false, List, [], ◌∷◌, ◌++◌, Option, Some, Result, Ok, Err, IfErr, OnOk, length, refl, sym, ap, ◌∙◌, subst, arith, append_assoc, append-nil, length-append}
 use Rattle.std.specs.List.{flat_map}
 use Rattle.bosh_base.specs.declared.moves.Move.{Move}
 use Rattle.bosh_base.specs.declared.reply.Reply.{Reply}
@@ -13,6 +13,7 @@ use Rattle.bosh_report.specs.Reply.{text_of}
 use Rattle.bosh_session.proofs.ReplyLemmas.{broken_says, transcript_more}
 use Rattle.bosh_session.proofs.SessionLemmas.{IsTaken, IsUnderWay, answered_more, first_more, first_still, replied_more}
 use Rattle.bosh_session.specs.Answers.{IsBroken}
+use Rattle.bosh_session.specs.Ends.{IsTextWritten}
 use Rattle.bosh_session.specs.Replies.{transcript}
 use Rattle.bosh_session.specs.Sessions.{IsCarriedOut, IsComplete, IsCounted, IsEndedBy, IsSession, IsWritten, Keeps, no_bytes, status_at_end}
 use Rattle.bosh_session.specs.Status.{of_input}
@@ -183,3 +184,10 @@ over_interrupted left read_faults written write_faults source_before s t sink_be
 over_interrupted left read_faults written write_faults source_before s t sink_before o p old new files r moves after fails Source way taken x keeps = absurd x
 over_interrupted left read_faults written write_faults source_before s t sink_before o p old new files r moves after fails Limit way taken x keeps = absurd x
 over_interrupted left read_faults written write_faults source_before s t sink_before o p old new files r moves after fails Unloaded way taken x keeps = absurd x
+
+-- ---- a command line with words
+
+-- a text was written whole, or the sink failed
+pub text_written : {O : Type 0} (written : O → Option (List ℕ)) (o p : O) (text : List ℕ) (before after : ℕ) (result : Result (Unit {0}) Status) → OnOk result ((was : List ℕ) → written o ≡ Some was → written p ≡ Some (was ++ text)) → IfErr result (λ status. (status ≡ Sink) × Rose before after) → ((was : List ℕ) → written o ≡ Some was → WritesFront was text (written p)) → (was : List ℕ) → written o ≡ Some was → IsTextWritten was text (written p) before after
+text_written written o p text before after (Ok value) all failed front was told = inl (all was told)
+text_written written o p text before after (Err status) all failed front was told = inr (failed.1, front was told)

@@ -20,24 +20,24 @@ use Rattle.bosh_session.specs.Replies.{has_error, is_error, replied, replies, tr
 use Rattle.bosh_session.specs.declared.files.KeptFile.{KeptFile}
 
 -- work says nothing
-work_says : (move : Move) → IsWork move → replied move ≡ None
-work_says (Said reply) is = absurd is
-work_says (Note entry) is = refl
-work_says (Did did) is = refl
-work_says (Wrote wrote) is = refl
-work_says (Lost loss) is = refl
-work_says (Halt cause) is = refl
-work_says (Stop stop) is = refl
+work_says : (tasks : List ℕ) (move : Move) → IsWork tasks move → replied move ≡ None
+work_says tasks (Said reply) is = absurd is
+work_says tasks (Note entry) is = refl
+work_says tasks (Did did) is = refl
+work_says tasks (Wrote wrote) is = refl
+work_says tasks (Lost loss) is = refl
+work_says tasks (Halt cause) is = refl
+work_says tasks (Stop stop) is = refl
 
-works_say : (work : List Move) → All IsWork work → replies work ≡ []
-works_say [] all = refl
-works_say (move ∷ work) all =
-    ap (λ (r : Option Reply). cons_option r (replies work)) (work_says move (All-head IsWork move work all)) ∙ works_say work (All-tail IsWork move work all)
+works_say : (tasks : List ℕ) (work : List Move) → All (IsWork tasks) work → replies work ≡ []
+works_say tasks [] all = refl
+works_say tasks (move ∷ work) all =
+    ap (λ (r : Option Reply). cons_option r (replies work)) (work_says tasks move (All-head (IsWork tasks) move work all)) ∙ works_say tasks work (All-tail (IsWork tasks) move work all)
 
 -- a task that was opened and worked on says nothing
 pub opened_says : (files : List KeptFile) (asked : Asked) (before after : List Move) → IsOpened files asked before after → replies after ≡ replies before
 opened_says files asked before after x =
-    ap replies x.moved ∙ filter_map-append replied before (Note (TaskOpen x.task) ∷ x.work) ∙ ap (λ (more : List Reply). replies before ++ more) (works_say x.work x.is_work) ∙ append-nil (replies before)
+    ap replies x.moved ∙ filter_map-append replied before (Note (TaskOpen x.task) ∷ x.work) ∙ ap (λ (more : List Reply). replies before ++ more) (works_say (x.task.task ∷ []) x.work x.is_work) ∙ append-nil (replies before)
 
 deploy_says : (files : List KeptFile) (asked : Asked) (refusal : Option Reply) (before after : List Move) (reply : Reply) → IsDeployReply files asked refusal before after reply → replies after ≡ replies before
 deploy_says files asked (Some refusal) before after reply is = ap replies is.1

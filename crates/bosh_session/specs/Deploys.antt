@@ -1,5 +1,5 @@
 -- What a deploy is answered, and what it does (this project's profile; bosh.io, "CLI v2", deploy).
-use Rattle.std.specs.Prelude.{◌≡◌, ◌⊎◌, ℕ, true, false, Option, Some, None, List, ◌∷◌, ◌++◌, All, is_some, if◌then◌else◌}
+use Rattle.std.specs.Prelude.{◌≡◌, ◌⊎◌, ℕ, true, false, Option, Some, None, List, [], ◌∷◌, ◌++◌, All, is_some, if◌then◌else◌}
 use Rattle.std.specs.Option.{option_and_then, option_map}
 use Rattle.bosh_base.specs.declared.entry.Entry.{Entry}
 use Rattle.bosh_base.specs.declared.entry.Entry.TheVariants.{TaskOpen}
@@ -52,10 +52,10 @@ abbrev pub IsUnopened : List Move → Reply → Type 0
 IsUnopened before reply =
     ((is_halted before ≡ true) × (reply ≡ stopped)) ⊎ ((is_halted before ≡ false) × IsFull (durable nothing before) × (reply ≡ full))
 
--- how the work on a task ended: the task is done, or the book is full
+-- how the work on a task ended: the task is done, or the book is full; the site runs on
 abbrev pub IsOutcome : List Move → ℕ → Reply → Type 0
 IsOutcome after task reply =
-    ((reply ≡ TaskFinished task) × (is_task_open (durable nothing after) task ≡ false)) ⊎ ((reply ≡ full) × IsFull (durable nothing after))
+    (is_halted after ≡ false) × (((reply ≡ TaskFinished task) × (is_task_open (durable nothing after) task ≡ false)) ⊎ ((reply ≡ full) × IsFull (durable nothing after)))
 
 -- a task opened for what was asked, and was worked on; nothing else was done
 pub record IsOpened (files : List KeptFile) (asked : Asked) (before after : List Move) : Type 0 where
@@ -65,7 +65,7 @@ pub record IsOpened (files : List KeptFile) (asked : Asked) (before after : List
   pub has_goal : task.goal ≡ Some goal
   pub work : List Move
   pub moved : after ≡ before ++ Note (TaskOpen task) ∷ work
-  pub is_work : All IsWork work
+  pub is_work : All (IsWork (task.task ∷ [])) work
 
 -- .. and ended
 pub record IsDeployed (files : List KeptFile) (asked : Asked) (before after : List Move) (reply : Reply) : Type 0 where

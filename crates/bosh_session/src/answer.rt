@@ -1,4 +1,5 @@
 ghost use Rattle.std.specs.Prelude.{◌≡◌, [], IfErr, IfOk, OnOk};
+ghost use Rattle.bosh_crew.specs.Work.{KeepsStores};
 ghost use Rattle.bosh_session.specs.Answers.{IsBroken, IsCommand, files_after, listed};
 ghost use Rattle.bosh_session.specs.declared.status.Status.TheVariants.{Memory};
 
@@ -22,6 +23,7 @@ pub(crate) fn answer<K: Keeper, L: Keeper>(
     ensures reply { IfOk result (IsCommand files.old request.asked site.old.moves site.new.moves) }
     ensures kept { OnOk result (files.new ≡ files_after files.old request) }
     ensures idle { OnOk result (site.new.book.ledger.calls ≡ []) }
+    ensures stores { KeepsStores site.old site.new }
     ensures broken_off { IfErr result (λ status. (status ≡ Memory) × IsBroken files.old request.asked site.old.moves site.new.moves) }
 {
     let Request { asked, block } = request;

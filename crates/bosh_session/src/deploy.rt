@@ -1,6 +1,5 @@
-ghost use Rattle.std.specs.Prelude.{◌≡◌, ◌≢◌, ◌++◌, [], All, List, IfErr, IfOk, OnOk, false};
-ghost use Rattle.bosh_base.specs.declared.moves.Move.{Move};
-ghost use Rattle.bosh_crew.specs.Work.{IsWork};
+ghost use Rattle.std.specs.Prelude.{◌≡◌, ◌≢◌, [], ◌∷◌, IfErr, IfOk, OnOk, false};
+ghost use Rattle.bosh_crew.specs.Work.{AreWorked, KeepsStores};
 ghost use Rattle.bosh_fold.specs.Tables.{IsRecorded};
 ghost use Rattle.bosh_history.specs.Moves.{is_halted};
 ghost use Rattle.bosh_session.specs.Asks.{IsRefusalReply};
@@ -27,6 +26,7 @@ pub(crate) fn deploy<K: Keeper, L: Keeper>(
     requires idle { site.old.book.ledger.calls ≡ [] }
     ensures reply { IfOk result (IsDeploy files.now (record { dep = dep.now; path = path.now }) site.old.moves site.new.moves) }
     ensures idle { OnOk result (site.new.book.ledger.calls ≡ []) }
+    ensures stores { KeepsStores site.old site.new }
     ensures broken_off { IfErr result (λ status. (status ≡ Memory) × IsBrokenOff files.now (record { dep = dep.now; path = path.now }) site.old.moves site.new.moves) }
 {
     let goal = match asked_of(alloc, dep, path, files, site.book().records())? {
@@ -48,9 +48,10 @@ fn carry_out<K: Keeper, L: Keeper>(
     requires recorded { IsRecorded site.old.book.ledger.entries task }
     requires running { is_halted site.old.moves ≡ false }
     requires idle { site.old.book.ledger.calls ≡ [] }
-    ensures works { (work : List Move) × (site.new.moves ≡ site.old.moves ++ work) × All IsWork work }
+    ensures works { AreWorked (task ∷ []) site.old.moves site.new.moves }
     ensures outcome { IfOk result (IsOutcome site.new.moves task) }
     ensures idle { OnOk result (site.new.book.ledger.calls ≡ []) }
+    ensures stores { KeepsStores site.old site.new }
     ensures broken_off { IfErr result (λ status. status ≡ Memory) }
 {
     match drive(site, &[task]) {

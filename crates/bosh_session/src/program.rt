@@ -22,8 +22,9 @@ pub fn run<I: Source, O: Sink, F: Shelf, K: Keeper + Drop, L: Keeper + Drop, G: 
     _gate: &G,
 ) -> Ended<K, L>
     requires { IsUnused L.bodies L.is_broken cloud }
-    ensures session { words.now ≡ [] → IsPlain I.left I.faults O.written O.faults input.old input.new out.old out.new result }
-    ensures usage { words.now ≢ [] → IsUsage O.written input.old input.new out.old out.new result }
+    ensures shelf { shelf.new ≡ shelf.old }
+    ensures session { words.now ≡ [] → IsPlain I.left I.faults O.written O.faults input.old input.new out.old out.new store cloud result }
+    ensures usage { words.now ≢ [] → IsUsage O.written O.faults input.old input.new out.old out.new result }
 {
     if words.is_empty() {
         return session_plain(alloc, input, out, shelf, store, cloud);

@@ -1,5 +1,6 @@
 ghost use Rattle.std.specs.Prelude.{◌≡◌, [], ◌∷◌, ◌++◌, IfErr, IfOk, OnOk};
 ghost use Rattle.bosh_cloud.specs.Unused.{IsUnused};
+ghost use Rattle.bosh_crew.specs.Work.{KeepsStores};
 ghost use Rattle.bosh_session.specs.Answers.{files_after, said};
 ghost use Rattle.bosh_session.specs.Ends.{IsPlain};
 ghost use Rattle.bosh_session.specs.Sessions.{IsSession, Keeps, status_at_end};
@@ -36,7 +37,8 @@ pub fn session_plain<I: Source, O: Sink, F: Shelf, K: Keeper + Drop, L: Keeper +
     cloud: L,
 ) -> Ended<K, L>
     requires { IsUnused L.bodies L.is_broken cloud }
-    ensures { IsPlain I.left I.faults O.written O.faults input.old input.new out.old out.new result }
+    ensures shelf { _shelf.new ≡ _shelf.old }
+    ensures session { IsPlain I.left I.faults O.written O.faults input.old input.new out.old out.new store cloud result }
 {
     match Site::load(alloc, store, cloud) {
         Ok(mut site) => {
@@ -63,7 +65,8 @@ fn carry_out_all<I: Source, O: Sink, K: Keeper, L: Keeper>(
     site: &mut Site<K, L>,
 ) -> Status
     requires new { (site.old.moves ≡ []) × (site.old.book.ledger.calls ≡ []) }
-    ensures { IsSession I.left I.faults O.written O.faults source.old source.new out.old out.new result site.new.moves }
+    ensures session { IsSession I.left I.faults O.written O.faults source.old source.new out.old out.new result site.new.moves }
+    ensures stores { KeepsStores site.old site.new }
 {
     let ended = carry_out_each(alloc, source, out, site);
     tell_rules(site);
@@ -91,6 +94,7 @@ fn carry_out_each<I: Source, O: Sink, K: Keeper, L: Keeper>(
 ) -> Result<bool, Status>
     requires new { (site.old.moves ≡ []) × (site.old.book.ledger.calls ≡ []) }
     ensures complete { IfOk result (λ fails. Keeps site.new.moves → IsSession I.left I.faults O.written O.faults source.old source.new out.old out.new (status_at_end fails) site.new.moves) }
+    ensures stores { KeepsStores site.old site.new }
     ensures event { IfErr result (λ event. Keeps site.new.moves → IsSession I.left I.faults O.written O.faults source.old source.new out.old out.new event site.new.moves) }
 {
     let mut input = Input::new(alloc)?;
@@ -116,6 +120,7 @@ fn carry_out<O: Sink, K: Keeper, L: Keeper>(
     ensures answered { IfOk result (IsAnswered O.written O.faults files.old request number site.old.moves site.new.moves out.old out.new) }
     ensures kept { OnOk result (files.new ≡ files_after files.old request) }
     ensures idle { OnOk result (site.new.book.ledger.calls ≡ []) }
+    ensures stores { KeepsStores site.old site.new }
     ensures event { IfErr result (IsInterrupted O.written O.faults files.old request number site.old.moves site.new.moves out.old out.new) }
 {
     let reply = answer(alloc, request, files, site)?;
@@ -132,7 +137,7 @@ fn note_reply<K: Keeper, L: Keeper>(
     reply: Reply,
     site: &mut Site<K, L>,
 ) -> Result<(), Status>
-    ensures said { OnOk result ((site.new.moves ≡ site.old.moves ++ said number reply ∷ []) × (site.new.book ≡ site.old.book)) }
+    ensures said { OnOk result ((site.new.moves ≡ site.old.moves ++ said number reply ∷ []) × (site.new.book ≡ site.old.book) × (site.new.cloud ≡ site.old.cloud)) }
     ensures fault { IfErr result (λ status. (status ≡ Memory) × (site.new ≡ site.old)) }
 {
     match site.say(number, reply) {

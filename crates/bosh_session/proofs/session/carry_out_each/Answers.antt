@@ -1,6 +1,7 @@
 use Rattle.std.proofs.Common.{◌≡◌, ◌∙◌, ◌||◌, Bool, List, Option, sym, ap, subst, arith}
 use Rattle.bosh_input.specs.Reading.{IsAtEnd}
 use Rattle.bosh_input.specs.declared.request.Request as request
+use Rattle.bosh_crew.proofs.WorkLemmas.{stores-then}
 use Rattle.bosh_session.proofs.EndLemmas.{counted_fault, over_at_end, over_before, over_by_event, over_interrupted}
 use Rattle.bosh_session.proofs.SessionLemmas.{IsTaken, IsUnderWay, way_begins, way_more}
 use Rattle.bosh_session.proofs.TurnLemmas.{event_passed}
@@ -22,6 +23,7 @@ pub loop-files-init : goal.loop-files-init
 loop-files-init g c = record {
   way = way_begins g.I.Source.left g.I.Source.faults g.O.Sink.written g.O.Sink.faults c.args.source.now c.args.out.now c.in_ok-input.input c.new-files.result c.args.site.now.moves c.in_ok-input.ensures c.new-files.ensures c.requires.new.0;
   idle = c.requires.new.1;
+  stores = (λ j. c.args.site.now.book.store, λ j. c.args.site.now.cloud.store);
 }
 
 pub returns-in_err-request-clause-event : goal.returns-in_err-request-clause-event
@@ -60,6 +62,7 @@ loop-files-preserved g c =
           (way_more g.I.Source.left g.I.Source.faults g.O.Sink.written g.O.Sink.faults c.args.source.now c.loop-files.source c.next.new.source c.args.out.now c.loop-files.out c.carry_out.new.out c.loop-files.input c.next.new.self c.loop-files.files c.in-Some.request c.loop-files.site.moves c.carry_out.new.site.moves c.loop-files.fails c.in_ok-failed.failed
           c.loop-files.invariant.way taken (rw c.given.ensures.count at c.in_ok-failed.ensures.answered)));
       idle = c.in_ok-failed.ensures.idle;
+      stores = stores-then c.args.site.now c.loop-files.site c.carry_out.new.site c.loop-files.invariant.stores c.carry_out.ensures.stores;
     }
 
 pub returns-clause-complete : goal.returns-clause-complete
