@@ -1,10 +1,13 @@
 #!/usr/bin/env bash
 # Prints how long sessions take, and how the times grow: deploys of 16, 64 and 256 machines, and 1, 4 and 8 MiB of
-# comment lines. Each time is the least of five runs; only the ratios within one run say something.
+# comment lines. And how long it takes to put 64, 128 and 256 works in order of compilation, where each needs the one
+# before it and where each needs all before it. Each time is the least of five runs; only the ratios within one run say
+# something.
 set -u
 here=$(cd "$(dirname "$0")" && pwd)
 top=$(dirname "$here")
 program=$top/crates/boshd/out/boshd
+levels=$top/crates/bosh_compile_bench/out/bosh_compile_bench
 folder=$(mktemp -d)
 trap 'rm -rf "$folder"' EXIT
 
@@ -36,7 +39,20 @@ least() {
     echo "$best"
 }
 
-# One line for each size, with the ratio to the time of the first.
+# The least time of five runs of `levels` over so many works of a form, in microseconds.
+least_of_levels() {
+    for _ in 1 2 3 4 5; do
+        "$levels" "$1" "$2"
+    done | sort -n | head -n 1
+}
+
+# One line, with the ratio to the time of the first: size, unit, time, first time.
+line() {
+    awk -v size="$1" -v unit="$2" -v time="$3" -v first="$4" \
+        'BEGIN { printf "%4d %-32s %9.2f ms  %6.2f times the first\n", size, unit, time / 1000, time / first }'
+}
+
+# One line for each size of a session.
 table() {
     local unit=$1 make=$2 first=
     shift 2
@@ -45,10 +61,23 @@ table() {
         local time
         time=$(least "$folder/session")
         [ -n "$first" ] || first=$time
-        awk -v size="$size" -v unit="$unit" -v time="$time" -v first="$first" \
-            'BEGIN { printf "%4d %-24s %9.1f ms  %6.2f times the first\n", size, unit, time / 1000, time / first }'
+        line "$size" "$unit" "$time" "$first"
+    done
+}
+
+# One line for each number of works of a form.
+table_of_levels() {
+    local unit=$1 form=$2 first=
+    shift 2
+    for size in "$@"; do
+        local time
+        time=$(least_of_levels "$form" "$size")
+        [ -n "$first" ] || first=$time
+        line "$size" "$unit" "$time" "$first"
     done
 }
 
 table machines machines 16 64 256
 table "MiB of comment lines" comments 1 4 8
+table_of_levels "works, each on the one before" chain 64 128 256
+table_of_levels "works, each on all before" all 64 128 256

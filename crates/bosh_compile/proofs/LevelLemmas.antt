@@ -47,7 +47,7 @@ module _ (works : List KeyWork) where
   within-le (suc n) work = one_above-le (level_within works n) work (suc n) (λ other c needed. let h = within-le n other in omega arith)
 
   -- a chain that ends before the n-th dependency does not go on later
-  within_settled : (n : ℕ) (work : KeyWork) → level_within works n work < n → level_within works (suc n) work ≤ level_within works n work
+  pub within_settled : (n : ℕ) (work : KeyWork) → level_within works n work < n → level_within works (suc n) work ≤ level_within works n work
   within_settled zero work h = absurd (omega arith)
   within_settled (suc n) work h = one_above-le (level_within works (suc n)) work (level_within works (suc n) work) (λ other c needed.
       let a = le-one_above (level_within works n) work other c needed in
@@ -124,7 +124,7 @@ module _ (works : List KeyWork) where
         let b = within_settled (length works) work (level-lt-length work in_work) in
         omega arith
 
-  within-mono : (n : ℕ) (work : KeyWork) → level_within works n work ≤ level_within works (suc n) work
+  pub within-mono : (n : ℕ) (work : KeyWork) → level_within works n work ≤ level_within works (suc n) work
   within-mono zero work = omega arith
   within-mono (suc n) work = one_above-le (level_within works n) work (level_within works (suc (suc n)) work) (λ other c needed.
       let a = within-mono n other in

@@ -3,4 +3,7 @@ pub mod KeyLemmas
 pub mod LevelLemmas
 pub mod ListingLemmas
 pub mod OrderLemmas
+pub mod PassLemmas
+pub mod ProgressLemmas
 pub mod RoundLemmas
+pub mod TableLemmas

@@ -4,3 +4,4 @@ pub mod Leveled
 pub mod Listing
 pub mod Readiness
 pub mod Rounds
+pub mod Table

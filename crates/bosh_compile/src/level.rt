@@ -1,81 +1,96 @@
-ghost use Rattle.std.specs.Prelude.{◌≡◌, ℕ, ◌<◌, ◌^◌, length, map, All, IfOk};
-ghost use Rattle.bosh_compile.specs.Level.{needs};
-ghost use Rattle.bosh_compile.specs.Rounds.{last_level, level_above, places_needed};
+ghost use Rattle.std.specs.Prelude.{◌≡◌, ◌<◌, ◌≤◌, ◌^◌, length, map, All, IfOk};
+ghost use Rattle.bosh_compile.specs.Rounds.{last_level, IsFitting, IsPending, IsNextPending, Advances, AllAdvance};
 
 use crate::CompileFault;
-use crate::readiness::is_among;
+use crate::table::{Node, graph_of};
 use bosh_base::{KeyWork, Seq};
 use std::alloc::Global;
 
-fn needs(work: &KeyWork, other: &KeyWork) -> bool
-    ensures { result ≡ needs work.now other.now }
-{
-    is_among(&other.key, work.deps.as_slice())
+/// How far the rounds came with a work.
+#[derive(Clone, Copy)]
+pub(crate) struct Progress {
+    pub level: usize,
+    /// So many of the keys that the work needs are of works whose levels are found.
+    pub met: usize,
 }
 
-#[tactic(auto, using(crate::proofs::RoundLemmas::places_more_needed, crate::proofs::RoundLemmas::places_more_other))]
-fn places_needed(
+// The keys of the works that came as far as the round: their levels are not found yet.
+fn pending_keys(
     alloc: Global,
-    work: &KeyWork,
-    works: &[KeyWork],
-) -> Result<Seq<usize>, CompileFault>
-    ensures { IfOk result (λ places. places ≡ places_needed work.now 0 works.now) }
+    nodes: &[Node],
+    progress: &[Progress],
+    round: usize,
+) -> Result<Vec<bool>, CompileFault>
+    requires same_length { length nodes.now ≡ length progress.now }
+    requires in_range { All (λ node. node.key < length nodes.now) nodes.now }
+    ensures { IfOk result (λ pending. IsPending nodes.now progress.now round pending.items) }
 {
-    let mut places = Vec::new(alloc);
-    for (place, other) in works.iter().enumerate() {
-        if needs(work, other) {
-            places.push(place)?;
+    let mut pending = vec![in alloc; false; nodes.len()]?;
+    for (place, node) in nodes.iter().enumerate() {
+        if progress[place].level == round {
+            pending[node.key] = true;
         }
     }
-    Ok(Seq::from(places))
+    Ok(pending)
 }
 
-fn all_places_needed(alloc: Global, works: &[KeyWork]) -> Result<Seq<Seq<usize>>, CompileFault>
-    ensures { IfOk result (λ needed. needed ≡ map (λ work. places_needed work 0 works.now) works.now) }
+// The place of the first pending key from a place on.
+fn next_pending(needs: &[usize], pending: &[bool], from: usize) -> usize
+    requires in_range { All (λ key. key < length pending.now) needs.now }
+    requires from { from ≤ length needs.now }
+    ensures { IsNextPending needs.now pending.now from result }
 {
-    let mut needed = Vec::new(alloc);
-    for work in works {
-        needed.push(places_needed(alloc, work, works)?)?;
+    for place in from..needs.len() {
+        if pending[needs[place]] {
+            return place;
+        }
     }
-    Ok(Seq::from(needed))
+    needs.len()
 }
 
-fn level_above(levels: &[usize], places: &[usize]) -> usize
-    requires in_range { All (λ place. place < length levels.now) places.now }
-    requires fits { All (λ level. level < 2 ^ 63) levels.now }
-    ensures { result ≡ level_above levels.now places.now }
+fn advanced(progress: Progress, needs: &[usize], pending: &[bool], round: usize) -> Progress
+    requires in_range { All (λ key. key < length pending.now) needs.now }
+    requires met { progress.met ≤ length needs.now }
+    requires fits { round < 2 ^ 63 }
+    ensures { Advances round needs.now pending.now progress result }
 {
-    let mut above = 0;
-    for place in places {
-        above = (levels[*place] + 1).max(above);
+    if progress.level != round {
+        return progress;
     }
-    above
+    let met = next_pending(needs, pending, progress.met);
+    let level = if met < needs.len() { round + 1 } else { round };
+    Progress { level, met }
 }
 
-fn next_levels(
-    alloc: Global,
-    needed: &[Seq<usize>],
-    levels: &[usize],
-) -> Result<Seq<usize>, CompileFault>
-    requires in_range { All (λ places. All (λ place. place < length levels.now) places) needed.now }
-    requires fits { All (λ level. level < 2 ^ 63) levels.now }
-    ensures { IfOk result (λ next. next ≡ map (level_above levels.now) needed.now) }
+fn advance(progress: &mut [Progress], nodes: &[Node], pending: &[bool], round: usize)
+    requires same_length { length nodes.now ≡ length progress.old }
+    requires fitting { IsFitting nodes.now (length pending.now) progress.old }
+    requires fits { round < 2 ^ 63 }
+    ensures { AllAdvance round nodes.now pending.now progress.old progress.new }
 {
-    let mut next = Vec::with_capacity(alloc, needed.len())?;
-    for places in needed {
-        next.push(level_above(levels, places.as_slice()))?;
+    for (place, node) in nodes.iter().enumerate() {
+        progress[place] = advanced(progress[place], node.needs.as_slice(), pending, round);
     }
-    Ok(Seq::from(next))
 }
 
-/// The level of each work: each round follows one dependency more, and no chain has more works than the list.
+fn levels_in(alloc: Global, progress: &[Progress]) -> Result<Seq<usize>, CompileFault>
+    ensures { IfOk result (λ levels. levels ≡ map (λ each. each.level) progress.now) }
+{
+    let levels: Vec<usize> = progress.iter().map(|each| each.level).collect(alloc)?;
+    Ok(Seq::from(levels))
+}
+
+/// The level of each work. A round finds the works of one level: those whose needs have all been found before. It goes
+/// on with the needs of a work where the last round stopped, so all rounds look at each need once.
 pub(crate) fn levels_of(alloc: Global, works: &[KeyWork]) -> Result<Seq<usize>, CompileFault>
     ensures { IfOk result (λ levels. levels ≡ map (last_level works.now) works.now) }
 {
-    let needed = all_places_needed(alloc, works)?;
-    let mut levels = Seq::from(vec![in alloc; 0; works.len()]?);
-    for _round in 0..works.len() {
-        levels = next_levels(alloc, needed.as_slice(), levels.as_slice())?;
+    let nodes = graph_of(alloc, works)?;
+    let start = Progress { level: 0, met: 0 };
+    let mut progress = vec![in alloc; start; works.len()]?;
+    for round in 0..works.len() {
+        let pending = pending_keys(alloc, &nodes, &progress, round)?;
+        advance(&mut progress, &nodes, &pending, round);
     }
-    Ok(levels)
+    levels_in(alloc, &progress)
 }

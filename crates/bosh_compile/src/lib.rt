@@ -7,6 +7,7 @@ mod level;
 mod listing;
 mod order;
 mod readiness;
+mod table;
 
 pub use fault::CompileFault;
 pub use laws::{levels_are_determined, rank_shows_no_cycle};

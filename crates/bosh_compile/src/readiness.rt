@@ -4,7 +4,7 @@ ghost use Rattle.bosh_compile.specs.Readiness.{IsReady, is_among};
 
 use bosh_base::{Key, KeyWork};
 
-pub(crate) fn is_among(key: &Key, keys: &[Key]) -> bool
+fn is_among(key: &Key, keys: &[Key]) -> bool
     ensures { result ≡ is_among key.now keys.now }
 {
     keys.contains(key)

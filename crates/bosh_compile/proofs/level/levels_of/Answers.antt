@@ -1,29 +1,75 @@
-use Rattle.std.proofs.Common.{◌≡◌, ◌∙◌, ap, map, length, ℕ, arith}
-use Rattle.bosh_compile.specs.Rounds.{level_within, last_level}
-use Rattle.bosh_compile.proofs.RoundLemmas.{no_levels, places_fit, levels_fit, levels_more}
+use Rattle.std.proofs.Common.{◌≡◌, ◌∙◌, sym, ap, subst, add-one, suc, ◌+◌, length, take, drop, List, [], ◌∷◌, ◌++◌, Bool, refl, ℕ, ◌<◌, map, arith}
+use Rattle.std.specs.List.{All}
+use Rattle.std.proofs.lemmas.Result.{IfOk-weaker}
+use Rattle.bosh_compile.specs.declared.level.Progress.{Progress}
+use Rattle.bosh_compile.specs.declared.table.Node.{Node}
+use Rattle.bosh_compile.specs.Rounds.{IsAfter, IsPending, IsFitting, AllAdvance, last_level}
+use Rattle.bosh_compile.proofs.ProgressLemmas.{all_start, at_the_end, length_nodes, keys_fit, fitting, one_round_more}
 use Rattle.bosh_compile.proofs.level.levels_of.Goals as goal
 
-pub next_levels-requires-clause-in_range : goal.next_levels-requires-clause-in_range
-next_levels-requires-clause-in_range c =
-    places_fit c.args.works.now c.loop-round._round c.as_slice-in-loop-round.result.now c.as_slice.result.now
-    (c.as_slice-in-loop-round.ensures ∙ c.loop-round.invariant) (c.as_slice.ensures ∙ c.in_ok-needed.ensures)
+take_front : (xs ys : List Progress) → take (length xs) (xs ++ ys) ≡ xs
+take_front [] ys = refl
+take_front (x ∷ xs) ys = ap (λ (zs : List Progress). x ∷ zs) (take_front xs ys)
 
-pub next_levels-requires-clause-fits : goal.next_levels-requires-clause-fits
-next_levels-requires-clause-fits c =
-    levels_fit c.args.works.now c.loop-round._round c.as_slice-in-loop-round.result.now c.as_slice.result.now
-    (c.as_slice-in-loop-round.ensures ∙ c.loop-round.invariant) (c.as_slice.ensures ∙ c.in_ok-needed.ensures) (omega arith)
-
-pub returns : goal.returns
-unfolding last_level
-returns c =
-    let all : c.loop-round._round ≡ length c.args.works.now = omega arith in
-    c.loop-round.invariant ∙ ap (λ (n : ℕ). map (level_within c.args.works.now n) c.args.works.now) all
+pub loop-round-init : goal.loop-round-init
+loop-round-init c = (c.in_ok-nodes.ensures, all_start c.args.works.now c.in_ok-nodes.nodes.items c.in_ok-nodes.ensures c.in_ok-progress.progress.items (c.in_ok-progress.ensures.items_if_clones_equal (λ _ e. e)))
 
 pub loop-round-preserved : goal.loop-round-preserved
 loop-round-preserved c =
-    let more = levels_more c.args.works.now c.loop-round._round c.as_slice-in-loop-round.result.now c.as_slice.result.now
-    (c.as_slice-in-loop-round.ensures ∙ c.loop-round.invariant) (c.as_slice.ensures ∙ c.in_ok-needed.ensures) in
-    c.in_ok-levels.ensures ∙ more
+    let works = c.args.works.now in
+    let nodes = c.in_ok-nodes.nodes.items in
+    let round = c.loop-round.round in
+    let before = c.loop-round.progress.items in
+    let pending = c.in_ok-pending.pending.items in
+    let next = c.advance.new.progress in
+    let graph = c.loop-round.invariant.0 in
+    let seen : IsPending nodes before round pending =
+    subst (λ (ns : List Node). IsPending ns before round pending) c.deref.ensures.value
+    (subst (λ (ps : List Progress). IsPending c.deref.result.now ps round pending) c.deref-in-loop-round.ensures.value c.in_ok-pending.ensures) in
+    let all : AllAdvance round nodes pending before next =
+    subst (λ (ns : List Node). AllAdvance round ns pending before next) c.deref-in-loop-round-2.ensures.value
+    (subst (λ (bs : List Bool). AllAdvance round c.deref-in-loop-round-2.result.now bs before next) c.deref-in-loop-round-3.ensures.value
+    (subst (λ (ps : List Progress). AllAdvance round c.deref-in-loop-round-2.result.now c.deref-in-loop-round-3.result.now ps next) c.deref_mut.ensures.value c.advance.ensures)) in
+    let after : IsAfter works nodes graph.number (suc round) next = one_round_more works nodes graph round before c.loop-round.invariant.1 pending seen next all in
+    let count : length next ≡ c.loop-round.progress.len = c.advance.ensures.same_length ∙ c.deref_mut.ensures.len in
+    let written : take c.loop-round.progress.len (next ++ drop (length next) before) ≡ next =
+    ap (λ (n : ℕ). take n (next ++ drop (length next) before)) (sym count) ∙ take_front next (drop (length next) before) in (
+      graph,
+      subst (λ (ps : List Progress). IsAfter works nodes graph.number (round + 1) ps) (sym written)
+          (subst (λ (n : ℕ). IsAfter works nodes graph.number n next) (sym (add-one round)) after),
+    )
 
-pub loop-round-init : goal.loop-round-init
-loop-round-init c = c.from-levels.ensures ∙ c.in_ok-vec.ensures.items_if_clones_equal (λ _ e. e) ∙ no_levels c.args.works.now
+pub pending_keys-requires-clause-same_length : goal.pending_keys-requires-clause-same_length
+pending_keys-requires-clause-same_length c =
+    ap length c.deref.ensures.value ∙ length_nodes c.args.works.now c.in_ok-nodes.nodes.items c.loop-round.invariant.0 ∙ sym c.loop-round.invariant.1.same_length ∙ ap length (sym c.deref-in-loop-round.ensures.value)
+
+pub pending_keys-requires-clause-in_range : goal.pending_keys-requires-clause-in_range
+pending_keys-requires-clause-in_range c =
+    subst (λ (ns : List Node). All (λ node. node.key < length ns) ns) (sym c.deref.ensures.value) (keys_fit c.args.works.now c.in_ok-nodes.nodes.items c.loop-round.invariant.0)
+
+pub advance-requires-clause-same_length : goal.advance-requires-clause-same_length
+advance-requires-clause-same_length c =
+    ap length c.deref-in-loop-round-2.ensures.value ∙ length_nodes c.args.works.now c.in_ok-nodes.nodes.items c.loop-round.invariant.0 ∙ sym c.loop-round.invariant.1.same_length ∙ ap length (sym c.deref_mut.ensures.value)
+
+pub advance-requires-clause-fitting : goal.advance-requires-clause-fitting
+advance-requires-clause-fitting c =
+    let works = c.args.works.now in
+    let nodes = c.in_ok-nodes.nodes.items in
+    let round = c.loop-round.round in
+    let before = c.loop-round.progress.items in
+    let pending = c.in_ok-pending.pending.items in
+    let graph = c.loop-round.invariant.0 in
+    let seen : IsPending nodes before round pending =
+    subst (λ (ns : List Node). IsPending ns before round pending) c.deref.ensures.value
+    (subst (λ (ps : List Progress). IsPending c.deref.result.now ps round pending) c.deref-in-loop-round.ensures.value c.in_ok-pending.ensures) in
+    subst (λ (ns : List Node). IsFitting ns (length c.deref-in-loop-round-3.result.now) c.deref_mut.result.now) (sym c.deref-in-loop-round-2.ensures.value)
+    (subst (λ (bs : List Bool). IsFitting nodes (length bs) c.deref_mut.result.now) (sym c.deref-in-loop-round-3.ensures.value)
+    (subst (λ (ps : List Progress). IsFitting nodes (length pending) ps) (sym c.deref_mut.ensures.value) (fitting works nodes graph round before c.loop-round.invariant.1 pending seen)))
+
+pub returns : goal.returns
+returns c =
+    let works = c.args.works.now in
+    let all : c.loop-round.round ≡ length works = omega arith in
+    let found = at_the_end works c.in_ok-nodes.nodes.items c.loop-round.invariant.0 c.loop-round.round c.loop-round.progress.items c.loop-round.invariant.1 all in
+    IfOk-weaker c.levels_in.result (λ levels. levels ≡ map (λ (each : Progress). each.level) c.deref-2.result.now) (λ levels. levels ≡ map (last_level works) works)
+    (λ levels is. is ∙ ap (map (λ (each : Progress). each.level)) c.deref-2.ensures.value ∙ found) c.levels_in.ensures

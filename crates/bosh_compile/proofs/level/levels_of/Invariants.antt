@@ -1,7 +1,7 @@
-use Rattle.std.proofs.Common.{◌≡◌, map}
-use Rattle.bosh_compile.specs.Rounds.{level_within}
+use Rattle.bosh_compile.specs.Rounds.{IsAfter}
+use Rattle.bosh_compile.specs.Table.{IsGraph}
 use Rattle.bosh_compile.proofs.level.levels_of.Given as goal
 
--- each level is right as far as dependencies were followed
+-- so many rounds are done
 abbrev pub invariant-loop-round : goal.invariant-loop-round
-invariant-loop-round l = l.levels ≡ map (level_within l.works l._round) l.works
+invariant-loop-round l = (graph : IsGraph l.works l.nodes.items) × IsAfter l.works l.nodes.items graph.number l.round l.progress.items
