@@ -1,0 +1,5 @@
+pub mod Placeholder
+pub mod Spelling
+pub mod Result
+pub mod Filled
+pub mod Table
