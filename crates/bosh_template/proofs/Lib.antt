@@ -1,0 +1,6 @@
+pub mod FrontLemmas
+pub mod WordLemmas
+pub mod LookupLemmas
+pub mod PathLemmas
+pub mod RenderingLemmas
+pub mod PartLemmas
