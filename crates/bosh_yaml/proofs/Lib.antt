@@ -13,3 +13,16 @@ pub mod SeenLemmas
 pub mod BuildLemmas
 pub mod CanonLemmas
 pub mod JsonLemmas
+pub mod MakesLemmas
+pub mod SpelledWordLemmas
+pub mod SpelledFlowLemmas
+pub mod FrameLemmas
+pub mod MoveLemmas
+pub mod SpelledValueLemmas
+pub mod SpelledBlockLemmas
+pub mod SpellingLemmas
+pub mod ReadWordLemmas
+pub mod ReadFlowLemmas
+pub mod ReadFrameLemmas
+pub mod ReadLineLemmas
+pub mod ReadSpellingLemmas

@@ -20,3 +20,8 @@ pub mod Seen
 pub mod Canon
 pub mod Json
 pub mod Reading
+pub mod Limits
+pub mod SpelledWord
+pub mod SpelledFlow
+pub mod SpelledBlock
+pub mod Spelling

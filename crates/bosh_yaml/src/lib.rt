@@ -12,6 +12,7 @@ mod event;
 mod fault;
 mod flow;
 mod json;
+mod laws;
 mod line;
 mod literal;
 mod node;
@@ -27,6 +28,9 @@ mod word;
 pub use canonical::canon;
 pub use copied::{Copied, CopyFault};
 pub use fault::ReadFault;
+pub use laws::{
+    refused_spells_none, spelled_once, what_is_read_is_spelled, what_is_spelled_is_read,
+};
 pub use node::{Items, Node, Pairs};
 pub use plain::scalar;
 pub use reader::{MAX_BYTES, MAX_DEPTH, read};
