@@ -40,6 +40,12 @@ all_bytes : (bytes : List ℕ) → IsBytes bytes → list_all is_byte bytes ≡ 
 all_bytes [] fits = refl
 all_bytes (b ∷ bytes) fits = and_from (is_byte b) (list_all is_byte bytes) (lt-ltb b 256 (fits 0)) (all_bytes bytes (λ i. fits (suc i)))
 
+-- 32 bytes are a digest
+pub digest_fits : (d : Digest) → length d.0 ≡ 32 → IsBytes d.0 → is_digest d ≡ true
+unfolding is_digest
+digest_fits d len fits =
+    and_from (eqb (length d.0) 32) (list_all is_byte d.0) (eq-eqb (length d.0) 32 len) (all_bytes d.0 fits)
+
 digest_takes : (bytes : List ℕ) (x : Digest × List ℕ) → IsBytes bytes → digest_at bytes ≡ Some x → Takes bytes (digest x.0) x.1 × (is_digest x.0 ≡ true)
 unfolding digest is_digest digest_at
 digest_takes bytes x fits e =

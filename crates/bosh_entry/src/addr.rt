@@ -8,13 +8,15 @@ use bosh_base::{Addr, Name, NetAddr};
 use std::alloc::Global;
 
 impl Coded for Addr {
-    ghost use Rattle.bosh_entry.specs.Addr.{addr, addr_at};
+    ghost use Rattle.bosh_entry.specs.Addr.{addr, is_addr, addr_at};
 
     ghost spelling = { λ _. addr };
 
+    ghost fits = { λ _. is_addr };
+
     ghost reading = { λ _. addr_at };
 
-    #[tactic(auto, unfolding(crate::specs::Addr::addr))]
+    #[tactic(auto, unfolding(crate::specs::Addr::addr, crate::specs::Addr::is_addr))]
     fn write(&self, out: &mut Vec<u8>) -> Result<(), EntryFault> {
         self.0.write(out)
     }
@@ -26,13 +28,15 @@ impl Coded for Addr {
 }
 
 impl Coded for NetAddr {
-    ghost use Rattle.bosh_entry.specs.Addr.{net_addr, net_addr_at};
+    ghost use Rattle.bosh_entry.specs.Addr.{net_addr, is_net_addr, net_addr_at};
 
     ghost spelling = { λ _. net_addr };
 
+    ghost fits = { λ _. is_net_addr };
+
     ghost reading = { λ _. net_addr_at };
 
-    #[tactic(auto, unfolding(crate::specs::Addr::net_addr))]
+    #[tactic(auto, unfolding(crate::specs::Addr::net_addr, crate::specs::Addr::is_net_addr))]
     fn write(&self, out: &mut Vec<u8>) -> Result<(), EntryFault> {
         self.net.write(out)?;
         self.addr.write(out)

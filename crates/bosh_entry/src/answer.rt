@@ -8,13 +8,15 @@ use bosh_base::{Answer, Digest, Seq};
 use std::alloc::Global;
 
 impl Coded for Answer {
-    ghost use Rattle.bosh_entry.specs.Answer.{answer, answer_at};
+    ghost use Rattle.bosh_entry.specs.Answer.{answer, is_answer, answer_at};
 
     ghost spelling = { λ _. answer };
 
+    ghost fits = { λ _. is_answer };
+
     ghost reading = { λ _. answer_at };
 
-    #[tactic(auto, unfolding(crate::specs::Answer::answer))]
+    #[tactic(auto, unfolding(crate::specs::Answer::answer, crate::specs::Answer::is_answer))]
     fn write(&self, out: &mut Vec<u8>) -> Result<(), EntryFault> {
         match self {
             Answer::Done => {

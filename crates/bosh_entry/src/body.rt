@@ -73,13 +73,15 @@ fn fields(alloc: Global, format: Format, kind: u8, from: &mut Source) -> Result<
 }
 
 impl Coded for Entry {
-    ghost use Rattle.bosh_entry.specs.Body.{entry, entry_at};
+    ghost use Rattle.bosh_entry.specs.Body.{entry, is_entry, entry_at};
 
     ghost spelling = { entry };
 
+    ghost fits = { is_entry };
+
     ghost reading = { entry_at };
 
-    #[tactic(auto, unfolding(crate::specs::Body::entry, crate::specs::Body::fields))]
+    #[tactic(auto, unfolding(crate::specs::Body::entry, crate::specs::Body::fields, crate::specs::Body::is_entry))]
     fn write(&self, out: &mut Vec<u8>) -> Result<(), EntryFault> {
         out.push(first(Format::Present, kind(self)))?;
         out.push(kind(self))?;

@@ -8,13 +8,15 @@ use bosh_base::{Call, DiskWant, KeyWork, Make, Method, Seq, Spec};
 use std::alloc::Global;
 
 impl Coded for Call {
-    ghost use Rattle.bosh_entry.specs.Call.{call, call_at};
+    ghost use Rattle.bosh_entry.specs.Call.{call, is_call, call_at};
 
     ghost spelling = { λ _. call };
 
+    ghost fits = { λ _. is_call };
+
     ghost reading = { λ _. call_at };
 
-    #[tactic(auto, unfolding(crate::specs::Call::call, crate::specs::Call::call_fields))]
+    #[tactic(auto, unfolding(crate::specs::Call::call, crate::specs::Call::call_fields, crate::specs::Call::is_call))]
     fn write(&self, out: &mut Vec<u8>) -> Result<(), EntryFault> {
         self.method().write(out)?;
         match self {

@@ -7,9 +7,11 @@ use crate::source::Source;
 use std::alloc::Global;
 
 impl Coded for bool {
-    ghost use Rattle.bosh_entry.specs.Choice.{flag, flag_at};
+    ghost use Rattle.bosh_entry.specs.Choice.{flag, is_flag, flag_at};
 
     ghost spelling = { λ _. flag };
+
+    ghost fits = { λ _. is_flag };
 
     ghost reading = { λ _. flag_at };
 
@@ -32,9 +34,11 @@ impl Coded for bool {
 }
 
 impl<T: Coded> Coded for Option<T> {
-    ghost use Rattle.bosh_entry.specs.Choice.{option, option_at};
+    ghost use Rattle.bosh_entry.specs.Choice.{option, is_option, option_at};
 
     ghost spelling = { λ format. option (T.spelling format) };
+
+    ghost fits = { λ format. is_option (T.fits format) };
 
     ghost reading = { λ format. option_at (T.reading format) };
 

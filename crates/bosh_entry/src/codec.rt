@@ -1,4 +1,4 @@
-ghost use Rattle.std.specs.Prelude.{◌≡◌, IfOk, IfErr, IsErrOf};
+ghost use Rattle.std.specs.Prelude.{◌≡◌, Some, OnOk, IfOk, IfErr, IsErrOf};
 ghost use Rattle.bosh_entry.specs.Body.{whole, Answers, spelling, IsEntry, entry_of, older_spelling, IsOlderEntry, older_entry_of};
 ghost use Rattle.bosh_entry.specs.declared.fault.EntryFault.TheVariants.{NotAnEntry, Memory};
 
@@ -10,8 +10,11 @@ use bosh_base::Entry;
 use std::alloc::Global;
 
 /// The bytes that stand for an entry in a store, in the present format.
+#[tactic(auto, using(crate::proofs::BodyLemmas::whole_again))]
 pub fn write(alloc: Global, entry: &Entry) -> Result<Vec<u8>, EntryFault>
     ensures spelled { IfOk result (λ body. body.items ≡ spelling entry.now) }
+    ensures fits { OnOk result (IsEntry entry.now) }
+    ensures read_again { IfOk result (λ body. entry_of body.items ≡ Some entry.now) }
     ensures err { IfErr result (λ fault. fault ≡ Memory) }
 {
     let mut out = Vec::new(alloc);

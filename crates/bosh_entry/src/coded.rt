@@ -1,4 +1,4 @@
-ghost use Rattle.std.specs.Prelude.{◌≡◌, ◌++◌, ℕ, List, OnOk, IfErr};
+ghost use Rattle.std.specs.Prelude.{◌≡◌, ◌++◌, ℕ, Bool, true, List, OnOk, IfErr};
 ghost use Rattle.bosh_entry.specs.Reading.{Gives, Reader};
 ghost use Rattle.bosh_entry.specs.declared.fault.EntryFault.TheVariants.{Memory};
 ghost use Rattle.bosh_entry.specs.declared.format.Format.TheVariants.{Present};
@@ -14,11 +14,15 @@ pub trait Coded: Drop {
 
     ghost spelling: { Format → Self → List ℕ };
 
+    /// Whether a value has a spelling.
+    ghost fits: { Format → Self → Bool };
+
     ghost reading: { Format → Reader Self };
 
-    /// Adds the spelling in the present format at the end.
+    /// Adds the spelling in the present format at the end, in which each value has one.
     fn write(&self, out: &mut Vec<u8>) -> Result<(), EntryFault>
         ensures ok { OnOk result (out.new.items ≡ out.old.items ++ spelling Present self.now) }
+        ensures fits { OnOk result (fits Present self.now ≡ true) }
         ensures err { IfErr result (λ fault. fault ≡ Memory) };
 
     /// The value that the next bytes spell.

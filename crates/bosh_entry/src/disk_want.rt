@@ -8,13 +8,15 @@ use bosh_base::{DiskWant, Text};
 use std::alloc::Global;
 
 impl Coded for DiskWant {
-    ghost use Rattle.bosh_entry.specs.DiskWant.{disk_want, disk_want_at};
+    ghost use Rattle.bosh_entry.specs.DiskWant.{disk_want, is_disk_want, disk_want_at};
 
     ghost spelling = { λ _. disk_want };
 
+    ghost fits = { λ _. is_disk_want };
+
     ghost reading = { λ _. disk_want_at };
 
-    #[tactic(auto, unfolding(crate::specs::DiskWant::disk_want))]
+    #[tactic(auto, unfolding(crate::specs::DiskWant::disk_want, crate::specs::DiskWant::is_disk_want))]
     fn write(&self, out: &mut Vec<u8>) -> Result<(), EntryFault> {
         self.size.write(out)?;
         self.properties.write(out)

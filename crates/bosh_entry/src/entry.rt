@@ -13,13 +13,15 @@ use bosh_base::{
 use std::alloc::Global;
 
 impl Coded for TaskOpen {
-    ghost use Rattle.bosh_entry.specs.Entry.{task_open, task_open_at};
+    ghost use Rattle.bosh_entry.specs.Entry.{task_open, is_task_open, task_open_at};
 
     ghost spelling = { task_open };
 
+    ghost fits = { is_task_open };
+
     ghost reading = { task_open_at };
 
-    #[tactic(auto, unfolding(crate::specs::Entry::task_open))]
+    #[tactic(auto, unfolding(crate::specs::Entry::task_open, crate::specs::Entry::is_task_open))]
     fn write(&self, out: &mut Vec<u8>) -> Result<(), EntryFault> {
         self.task.write(out)?;
         self.kind.write(out)?;
@@ -49,13 +51,15 @@ impl Coded for TaskOpen {
 }
 
 impl Coded for Begin {
-    ghost use Rattle.bosh_entry.specs.Entry.{begin, begin_at};
+    ghost use Rattle.bosh_entry.specs.Entry.{begin, is_begin, begin_at};
 
     ghost spelling = { λ _. begin };
 
+    ghost fits = { λ _. is_begin };
+
     ghost reading = { λ _. begin_at };
 
-    #[tactic(auto, unfolding(crate::specs::Entry::begin))]
+    #[tactic(auto, unfolding(crate::specs::Entry::begin, crate::specs::Entry::is_begin))]
     fn write(&self, out: &mut Vec<u8>) -> Result<(), EntryFault> {
         self.n.write(out)?;
         self.task.write(out)?;
@@ -77,13 +81,15 @@ impl Coded for Begin {
 }
 
 impl Coded for End {
-    ghost use Rattle.bosh_entry.specs.Entry.{end, end_at};
+    ghost use Rattle.bosh_entry.specs.Entry.{end, is_end, end_at};
 
     ghost spelling = { λ _. end };
 
+    ghost fits = { λ _. is_end };
+
     ghost reading = { λ _. end_at };
 
-    #[tactic(auto, unfolding(crate::specs::Entry::end))]
+    #[tactic(auto, unfolding(crate::specs::Entry::end, crate::specs::Entry::is_end))]
     fn write(&self, out: &mut Vec<u8>) -> Result<(), EntryFault> {
         self.n.write(out)?;
         self.answer.write(out)
@@ -99,13 +105,15 @@ impl Coded for End {
 }
 
 impl Coded for Update {
-    ghost use Rattle.bosh_entry.specs.Entry.{update, update_at};
+    ghost use Rattle.bosh_entry.specs.Entry.{update, is_update, update_at};
 
     ghost spelling = { λ _. update };
 
+    ghost fits = { λ _. is_update };
+
     ghost reading = { λ _. update_at };
 
-    #[tactic(auto, unfolding(crate::specs::Entry::update))]
+    #[tactic(auto, unfolding(crate::specs::Entry::update, crate::specs::Entry::is_update))]
     fn write(&self, out: &mut Vec<u8>) -> Result<(), EntryFault> {
         self.task.write(out)?;
         self.inst.write(out)
@@ -121,13 +129,15 @@ impl Coded for Update {
 }
 
 impl Coded for TaskError {
-    ghost use Rattle.bosh_entry.specs.Entry.{task_error, task_error_at};
+    ghost use Rattle.bosh_entry.specs.Entry.{task_error, is_task_error, task_error_at};
 
     ghost spelling = { λ _. task_error };
 
+    ghost fits = { is_task_error };
+
     ghost reading = { task_error_at };
 
-    #[tactic(auto, unfolding(crate::specs::Entry::task_error))]
+    #[tactic(auto, unfolding(crate::specs::Entry::task_error, crate::specs::Entry::is_task_error))]
     fn write(&self, out: &mut Vec<u8>) -> Result<(), EntryFault> {
         self.task.write(out)?;
         self.cause.write(out)
@@ -143,13 +153,15 @@ impl Coded for TaskError {
 }
 
 impl Coded for Effect {
-    ghost use Rattle.bosh_entry.specs.Entry.{effect, effect_at};
+    ghost use Rattle.bosh_entry.specs.Entry.{effect, is_effect, effect_at};
 
     ghost spelling = { λ _. effect };
 
+    ghost fits = { λ _. is_effect };
+
     ghost reading = { λ _. effect_at };
 
-    #[tactic(auto, unfolding(crate::specs::Entry::effect))]
+    #[tactic(auto, unfolding(crate::specs::Entry::effect, crate::specs::Entry::is_effect))]
     fn write(&self, out: &mut Vec<u8>) -> Result<(), EntryFault> {
         self.n.write(out)?;
         self.owner.write(out)?;
@@ -169,13 +181,15 @@ impl Coded for Effect {
 }
 
 impl Coded for Write {
-    ghost use Rattle.bosh_entry.specs.Entry.{write, write_at};
+    ghost use Rattle.bosh_entry.specs.Entry.{write, is_write, write_at};
 
     ghost spelling = { λ _. write };
 
+    ghost fits = { λ _. is_write };
+
     ghost reading = { λ _. write_at };
 
-    #[tactic(auto, unfolding(crate::specs::Entry::write))]
+    #[tactic(auto, unfolding(crate::specs::Entry::write, crate::specs::Entry::is_write))]
     fn write(&self, out: &mut Vec<u8>) -> Result<(), EntryFault> {
         self.disk.write(out)?;
         self.text.write(out)
@@ -191,13 +205,15 @@ impl Coded for Write {
 }
 
 impl Coded for Loss {
-    ghost use Rattle.bosh_entry.specs.Entry.{loss, loss_at};
+    ghost use Rattle.bosh_entry.specs.Entry.{loss, is_loss, loss_at};
 
     ghost spelling = { λ _. loss };
 
+    ghost fits = { λ _. is_loss };
+
     ghost reading = { λ _. loss_at };
 
-    #[tactic(auto, unfolding(crate::specs::Entry::loss))]
+    #[tactic(auto, unfolding(crate::specs::Entry::loss, crate::specs::Entry::is_loss))]
     fn write(&self, out: &mut Vec<u8>) -> Result<(), EntryFault> {
         self.vm.write(out)?;
         self.whole.write(out)

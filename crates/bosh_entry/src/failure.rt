@@ -8,13 +8,15 @@ use bosh_base::Failure;
 use std::alloc::Global;
 
 impl Coded for Failure {
-    ghost use Rattle.bosh_entry.specs.Failure.{failure, failure_at};
+    ghost use Rattle.bosh_entry.specs.Failure.{failure, is_failure, failure_at};
 
     ghost spelling = { λ _. failure };
 
+    ghost fits = { is_failure };
+
     ghost reading = { failure_at };
 
-    #[tactic(auto, unfolding(crate::specs::Failure::failure))]
+    #[tactic(auto, unfolding(crate::specs::Failure::failure, crate::specs::Failure::is_failure))]
     fn write(&self, out: &mut Vec<u8>) -> Result<(), EntryFault> {
         match self {
             Failure::Interrupted => {

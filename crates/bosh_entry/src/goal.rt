@@ -9,13 +9,15 @@ use bosh_base::{Goal, GoalRow, GroupPlan, Inst, Make, Name, Seq, Spec, State};
 use std::alloc::Global;
 
 impl Coded for GoalRow {
-    ghost use Rattle.bosh_entry.specs.Goal.{goal_row, goal_row_at};
+    ghost use Rattle.bosh_entry.specs.Goal.{goal_row, is_goal_row, goal_row_at};
 
     ghost spelling = { λ _. goal_row };
 
+    ghost fits = { λ _. is_goal_row };
+
     ghost reading = { λ _. goal_row_at };
 
-    #[tactic(auto, unfolding(crate::specs::Goal::goal_row))]
+    #[tactic(auto, unfolding(crate::specs::Goal::goal_row, crate::specs::Goal::is_goal_row))]
     fn write(&self, out: &mut Vec<u8>) -> Result<(), EntryFault> {
         self.inst.write(out)?;
         self.make.write(out)?;
@@ -41,13 +43,15 @@ impl Coded for GoalRow {
 }
 
 impl Coded for GroupPlan {
-    ghost use Rattle.bosh_entry.specs.Goal.{group_plan, group_plan_at};
+    ghost use Rattle.bosh_entry.specs.Goal.{group_plan, is_group_plan, group_plan_at};
 
     ghost spelling = { λ _. group_plan };
 
+    ghost fits = { λ _. is_group_plan };
+
     ghost reading = { λ _. group_plan_at };
 
-    #[tactic(auto, unfolding(crate::specs::Goal::group_plan))]
+    #[tactic(auto, unfolding(crate::specs::Goal::group_plan, crate::specs::Goal::is_group_plan))]
     fn write(&self, out: &mut Vec<u8>) -> Result<(), EntryFault> {
         self.name.write(out)?;
         self.canaries.write(out)?;
@@ -67,13 +71,15 @@ impl Coded for GroupPlan {
 }
 
 impl Coded for Goal {
-    ghost use Rattle.bosh_entry.specs.Goal.{goal, goal_at};
+    ghost use Rattle.bosh_entry.specs.Goal.{goal, is_goal, goal_at};
 
     ghost spelling = { goal };
 
+    ghost fits = { is_goal };
+
     ghost reading = { goal_at };
 
-    #[tactic(auto, unfolding(crate::specs::Goal::goal))]
+    #[tactic(auto, unfolding(crate::specs::Goal::goal, crate::specs::Goal::is_goal))]
     fn write(&self, out: &mut Vec<u8>) -> Result<(), EntryFault> {
         self.dep.write(out)?;
         self.rows.write(out)?;

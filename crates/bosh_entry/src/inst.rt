@@ -8,13 +8,15 @@ use bosh_base::{Inst, Name};
 use std::alloc::Global;
 
 impl Coded for Inst {
-    ghost use Rattle.bosh_entry.specs.Inst.{inst, inst_at};
+    ghost use Rattle.bosh_entry.specs.Inst.{inst, is_inst, inst_at};
 
     ghost spelling = { λ _. inst };
 
+    ghost fits = { λ _. is_inst };
+
     ghost reading = { λ _. inst_at };
 
-    #[tactic(auto, unfolding(crate::specs::Inst::inst))]
+    #[tactic(auto, unfolding(crate::specs::Inst::inst, crate::specs::Inst::is_inst))]
     fn write(&self, out: &mut Vec<u8>) -> Result<(), EntryFault> {
         self.dep.write(out)?;
         self.group.write(out)?;

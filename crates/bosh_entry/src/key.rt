@@ -8,13 +8,15 @@ use bosh_base::{Digest, Key, KeyWork, Name, Seq, Text};
 use std::alloc::Global;
 
 impl Coded for Key {
-    ghost use Rattle.bosh_entry.specs.Key.{key, key_at};
+    ghost use Rattle.bosh_entry.specs.Key.{key, is_key, key_at};
 
     ghost spelling = { λ _. key };
 
+    ghost fits = { λ _. is_key };
+
     ghost reading = { λ _. key_at };
 
-    #[tactic(auto, unfolding(crate::specs::Key::key))]
+    #[tactic(auto, unfolding(crate::specs::Key::key, crate::specs::Key::is_key))]
     fn write(&self, out: &mut Vec<u8>) -> Result<(), EntryFault> {
         self.fingerprint.write(out)?;
         self.os.write(out)?;
@@ -32,13 +34,15 @@ impl Coded for Key {
 }
 
 impl Coded for KeyWork {
-    ghost use Rattle.bosh_entry.specs.Key.{key_work, key_work_at};
+    ghost use Rattle.bosh_entry.specs.Key.{key_work, is_key_work, key_work_at};
 
     ghost spelling = { λ _. key_work };
 
+    ghost fits = { λ _. is_key_work };
+
     ghost reading = { λ _. key_work_at };
 
-    #[tactic(auto, unfolding(crate::specs::Key::key_work))]
+    #[tactic(auto, unfolding(crate::specs::Key::key_work, crate::specs::Key::is_key_work))]
     fn write(&self, out: &mut Vec<u8>) -> Result<(), EntryFault> {
         self.name.write(out)?;
         self.key.write(out)?;

@@ -8,13 +8,15 @@ use bosh_base::{Joint, Name, Text, Tie};
 use std::alloc::Global;
 
 impl Coded for Joint {
-    ghost use Rattle.bosh_entry.specs.Link.{joint, joint_at};
+    ghost use Rattle.bosh_entry.specs.Link.{joint, is_joint, joint_at};
 
     ghost spelling = { λ _. joint };
 
+    ghost fits = { λ _. is_joint };
+
     ghost reading = { λ _. joint_at };
 
-    #[tactic(auto, unfolding(crate::specs::Link::joint))]
+    #[tactic(auto, unfolding(crate::specs::Link::joint, crate::specs::Link::is_joint))]
     fn write(&self, out: &mut Vec<u8>) -> Result<(), EntryFault> {
         self.dep.write(out)?;
         self.group.write(out)?;
@@ -34,13 +36,15 @@ impl Coded for Joint {
 }
 
 impl Coded for Tie {
-    ghost use Rattle.bosh_entry.specs.Link.{tie, tie_at};
+    ghost use Rattle.bosh_entry.specs.Link.{tie, is_tie, tie_at};
 
     ghost spelling = { λ _. tie };
 
+    ghost fits = { λ _. is_tie };
+
     ghost reading = { λ _. tie_at };
 
-    #[tactic(auto, unfolding(crate::specs::Link::tie))]
+    #[tactic(auto, unfolding(crate::specs::Link::tie, crate::specs::Link::is_tie))]
     fn write(&self, out: &mut Vec<u8>) -> Result<(), EntryFault> {
         self.consumer.write(out)?;
         self.provider.write(out)?;

@@ -1,6 +1,6 @@
-ghost use Rattle.std.specs.Prelude.{◌≡◌, ◌++◌, OnOk, IfErr};
+ghost use Rattle.std.specs.Prelude.{◌≡◌, ◌++◌, true, OnOk, IfErr};
 ghost use Rattle.bosh_entry.specs.Reading.{Gives};
-ghost use Rattle.bosh_entry.specs.List.{list, items_at};
+ghost use Rattle.bosh_entry.specs.List.{list, is_list, items_at};
 ghost use Rattle.bosh_entry.specs.declared.fault.EntryFault.TheVariants.{Memory};
 ghost use Rattle.bosh_entry.specs.declared.format.Format.TheVariants.{Present};
 
@@ -30,6 +30,7 @@ fn items<T: Coded>(
 /// Adds the spelling of a list at the end.
 pub fn write_items<T: Coded>(items: &[T], out: &mut Vec<u8>) -> Result<(), EntryFault>
     ensures ok { OnOk result (out.new.items ≡ out.old.items ++ list (T.spelling Present) items.now) }
+    ensures fits { OnOk result (is_list (T.fits Present) items.now ≡ true) }
     ensures err { IfErr result (λ fault. fault ≡ Memory) }
 {
     (items.len() as u64).write(out)?;
@@ -40,9 +41,11 @@ pub fn write_items<T: Coded>(items: &[T], out: &mut Vec<u8>) -> Result<(), Entry
 }
 
 impl<T: Coded> Coded for Seq<T> {
-    ghost use Rattle.bosh_entry.specs.List.{list_at};
+    ghost use Rattle.bosh_entry.specs.List.{list_at, is_list};
 
     ghost spelling = { λ format. list (T.spelling format) };
+
+    ghost fits = { λ format. is_list (T.fits format) };
 
     ghost reading = { λ format. list_at (T.reading format) };
 

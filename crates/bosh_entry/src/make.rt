@@ -8,13 +8,15 @@ use bosh_base::{Make, Name, Seq, Text};
 use std::alloc::Global;
 
 impl Coded for Make {
-    ghost use Rattle.bosh_entry.specs.Make.{make, make_at};
+    ghost use Rattle.bosh_entry.specs.Make.{make, is_make, make_at};
 
     ghost spelling = { λ _. make };
 
+    ghost fits = { λ _. is_make };
+
     ghost reading = { λ _. make_at };
 
-    #[tactic(auto, unfolding(crate::specs::Make::make))]
+    #[tactic(auto, unfolding(crate::specs::Make::make, crate::specs::Make::is_make))]
     fn write(&self, out: &mut Vec<u8>) -> Result<(), EntryFault> {
         self.os.write(out)?;
         self.version.write(out)?;

@@ -8,13 +8,15 @@ use bosh_base::Method;
 use std::alloc::Global;
 
 impl Coded for Method {
-    ghost use Rattle.bosh_entry.specs.Method.{method, method_at};
+    ghost use Rattle.bosh_entry.specs.Method.{method, is_method, method_at};
 
     ghost spelling = { λ _. method };
 
+    ghost fits = { λ _. is_method };
+
     ghost reading = { λ _. method_at };
 
-    #[tactic(auto, unfolding(crate::specs::Method::method))]
+    #[tactic(auto, unfolding(crate::specs::Method::method, crate::specs::Method::is_method))]
     fn write(&self, out: &mut Vec<u8>) -> Result<(), EntryFault> {
         out.push(self.place())?;
         Ok(())

@@ -11,9 +11,11 @@ use std::alloc::Global;
 /// A byte of a text.
 impl Coded for u8 {
     ghost use Rattle.bosh_entry.specs.Reading.{byte_at};
-    ghost use Rattle.bosh_entry.specs.Number.{byte};
+    ghost use Rattle.bosh_entry.specs.Number.{byte, is_byte};
 
     ghost spelling = { λ _. byte };
+
+    ghost fits = { λ _. is_byte };
 
     ghost reading = { λ _. byte_at };
 
@@ -28,9 +30,11 @@ impl Coded for u8 {
 }
 
 impl Coded for u64 {
-    ghost use Rattle.bosh_entry.specs.Number.{number, number_at};
+    ghost use Rattle.bosh_entry.specs.Number.{number, is_number, number_at};
 
     ghost spelling = { λ _. number };
+
+    ghost fits = { λ _. is_number };
 
     ghost reading = { λ _. number_at };
 
@@ -46,9 +50,11 @@ impl Coded for u64 {
 }
 
 impl Coded for u32 {
-    ghost use Rattle.bosh_entry.specs.Number.{number, small_at};
+    ghost use Rattle.bosh_entry.specs.Number.{number, is_small, small_at};
 
     ghost spelling = { λ _. number };
+
+    ghost fits = { λ _. is_small };
 
     ghost reading = { λ _. small_at };
 

@@ -8,13 +8,15 @@ use bosh_base::{Joint, Offer, Seq, Text};
 use std::alloc::Global;
 
 impl Coded for Offer {
-    ghost use Rattle.bosh_entry.specs.Offer.{offer, offer_at};
+    ghost use Rattle.bosh_entry.specs.Offer.{offer, is_offer, offer_at};
 
     ghost spelling = { λ _. offer };
 
+    ghost fits = { λ _. is_offer };
+
     ghost reading = { λ _. offer_at };
 
-    #[tactic(auto, unfolding(crate::specs::Offer::offer))]
+    #[tactic(auto, unfolding(crate::specs::Offer::offer, crate::specs::Offer::is_offer))]
     fn write(&self, out: &mut Vec<u8>) -> Result<(), EntryFault> {
         self.joint.write(out)?;
         self.kind.write(out)?;

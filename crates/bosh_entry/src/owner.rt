@@ -8,13 +8,15 @@ use bosh_base::{Inst, Owner};
 use std::alloc::Global;
 
 impl Coded for Owner {
-    ghost use Rattle.bosh_entry.specs.Owner.{owner, owner_at};
+    ghost use Rattle.bosh_entry.specs.Owner.{owner, is_owner, owner_at};
 
     ghost spelling = { λ _. owner };
 
+    ghost fits = { λ _. is_owner };
+
     ghost reading = { λ _. owner_at };
 
-    #[tactic(auto, unfolding(crate::specs::Owner::owner))]
+    #[tactic(auto, unfolding(crate::specs::Owner::owner, crate::specs::Owner::is_owner))]
     fn write(&self, out: &mut Vec<u8>) -> Result<(), EntryFault> {
         match self {
             Owner::Instance(inst) => {

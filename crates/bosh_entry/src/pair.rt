@@ -9,9 +9,11 @@ use std::alloc::Global;
 /// Two values, one after the other. Structs of many fields are read as pairs of pairs, so that what was read before bytes
 /// that spell no field is dropped in one place.
 impl<A: Coded, B: Coded> Coded for (A, B) {
-    ghost use Rattle.bosh_entry.specs.Pair.{pair, pair_at};
+    ghost use Rattle.bosh_entry.specs.Pair.{pair, is_pair, pair_at};
 
     ghost spelling = { λ format. pair (A.spelling format) (B.spelling format) };
+
+    ghost fits = { λ format. is_pair (A.fits format) (B.fits format) };
 
     ghost reading = { λ format. pair_at (A.reading format) (B.reading format) };
 

@@ -9,10 +9,13 @@ use bosh_base::{Digest, Name, OfFault, Text};
 use std::alloc::Global;
 
 impl Coded for Name {
+    ghost use Rattle.bosh_base.specs.Name.{is_name};
     ghost use Rattle.bosh_entry.specs.List.{text};
     ghost use Rattle.bosh_entry.specs.Plain.{name_at};
 
     ghost spelling = { λ _. text };
+
+    ghost fits = { λ _. is_name };
 
     ghost reading = { λ _. name_at };
 
@@ -32,13 +35,15 @@ impl Coded for Name {
 }
 
 impl Coded for Digest {
-    ghost use Rattle.bosh_entry.specs.Plain.{digest, digest_at};
+    ghost use Rattle.bosh_entry.specs.Plain.{digest, is_digest, digest_at};
 
     ghost spelling = { λ _. digest };
 
+    ghost fits = { λ _. is_digest };
+
     ghost reading = { λ _. digest_at };
 
-    #[tactic(auto, unfolding(crate::specs::Plain::digest))]
+    #[tactic(auto, using(crate::proofs::PlainLemmas::digest_fits), unfolding(crate::specs::Plain::digest))]
     fn write(&self, out: &mut Vec<u8>) -> Result<(), EntryFault> {
         out.extend_from_slice(&self.0)?;
         Ok(())

@@ -11,13 +11,15 @@ use bosh_base::{
 use std::alloc::Global;
 
 impl Coded for Setting {
-    ghost use Rattle.bosh_entry.specs.Release.{setting, setting_at};
+    ghost use Rattle.bosh_entry.specs.Release.{setting, is_setting, setting_at};
 
     ghost spelling = { λ _. setting };
 
+    ghost fits = { λ _. is_setting };
+
     ghost reading = { λ _. setting_at };
 
-    #[tactic(auto, unfolding(crate::specs::Release::setting))]
+    #[tactic(auto, unfolding(crate::specs::Release::setting, crate::specs::Release::is_setting))]
     fn write(&self, out: &mut Vec<u8>) -> Result<(), EntryFault> {
         match self {
             Setting::Scalar(text) => {
@@ -42,13 +44,15 @@ impl Coded for Setting {
 }
 
 impl Coded for Prop {
-    ghost use Rattle.bosh_entry.specs.Release.{prop, prop_at};
+    ghost use Rattle.bosh_entry.specs.Release.{prop, is_prop, prop_at};
 
     ghost spelling = { λ _. prop };
 
+    ghost fits = { λ _. is_prop };
+
     ghost reading = { λ _. prop_at };
 
-    #[tactic(auto, unfolding(crate::specs::Release::prop))]
+    #[tactic(auto, unfolding(crate::specs::Release::prop, crate::specs::Release::is_prop))]
     fn write(&self, out: &mut Vec<u8>) -> Result<(), EntryFault> {
         self.name.write(out)?;
         self.value.write(out)
@@ -64,13 +68,15 @@ impl Coded for Prop {
 }
 
 impl Coded for PropSpec {
-    ghost use Rattle.bosh_entry.specs.Release.{prop_spec, prop_spec_at};
+    ghost use Rattle.bosh_entry.specs.Release.{prop_spec, is_prop_spec, prop_spec_at};
 
     ghost spelling = { λ _. prop_spec };
 
+    ghost fits = { λ _. is_prop_spec };
+
     ghost reading = { λ _. prop_spec_at };
 
-    #[tactic(auto, unfolding(crate::specs::Release::prop_spec))]
+    #[tactic(auto, unfolding(crate::specs::Release::prop_spec, crate::specs::Release::is_prop_spec))]
     fn write(&self, out: &mut Vec<u8>) -> Result<(), EntryFault> {
         self.name.write(out)?;
         self.fallback.write(out)
@@ -86,13 +92,15 @@ impl Coded for PropSpec {
 }
 
 impl Coded for LinkSpec {
-    ghost use Rattle.bosh_entry.specs.Release.{link_spec, link_spec_at};
+    ghost use Rattle.bosh_entry.specs.Release.{link_spec, is_link_spec, link_spec_at};
 
     ghost spelling = { λ _. link_spec };
 
+    ghost fits = { λ _. is_link_spec };
+
     ghost reading = { λ _. link_spec_at };
 
-    #[tactic(auto, unfolding(crate::specs::Release::link_spec))]
+    #[tactic(auto, unfolding(crate::specs::Release::link_spec, crate::specs::Release::is_link_spec))]
     fn write(&self, out: &mut Vec<u8>) -> Result<(), EntryFault> {
         self.name.write(out)?;
         self.kind.write(out)?;
@@ -112,13 +120,15 @@ impl Coded for LinkSpec {
 }
 
 impl Coded for TemplateSpec {
-    ghost use Rattle.bosh_entry.specs.Release.{template_spec, template_spec_at};
+    ghost use Rattle.bosh_entry.specs.Release.{template_spec, is_template_spec, template_spec_at};
 
     ghost spelling = { λ _. template_spec };
 
+    ghost fits = { λ _. is_template_spec };
+
     ghost reading = { λ _. template_spec_at };
 
-    #[tactic(auto, unfolding(crate::specs::Release::template_spec))]
+    #[tactic(auto, unfolding(crate::specs::Release::template_spec, crate::specs::Release::is_template_spec))]
     fn write(&self, out: &mut Vec<u8>) -> Result<(), EntryFault> {
         self.source.write(out)?;
         self.destination.write(out)?;
@@ -136,13 +146,15 @@ impl Coded for TemplateSpec {
 }
 
 impl Coded for JobSpec {
-    ghost use Rattle.bosh_entry.specs.Release.{job_spec, job_spec_at};
+    ghost use Rattle.bosh_entry.specs.Release.{job_spec, is_job_spec, job_spec_at};
 
     ghost spelling = { λ _. job_spec };
 
+    ghost fits = { λ _. is_job_spec };
+
     ghost reading = { λ _. job_spec_at };
 
-    #[tactic(auto, unfolding(crate::specs::Release::job_spec))]
+    #[tactic(auto, unfolding(crate::specs::Release::job_spec, crate::specs::Release::is_job_spec))]
     fn write(&self, out: &mut Vec<u8>) -> Result<(), EntryFault> {
         self.name.write(out)?;
         self.fingerprint.write(out)?;
@@ -168,13 +180,15 @@ impl Coded for JobSpec {
 }
 
 impl Coded for PackageSpec {
-    ghost use Rattle.bosh_entry.specs.Release.{package_spec, package_spec_at};
+    ghost use Rattle.bosh_entry.specs.Release.{package_spec, is_package_spec, package_spec_at};
 
     ghost spelling = { λ _. package_spec };
 
+    ghost fits = { λ _. is_package_spec };
+
     ghost reading = { λ _. package_spec_at };
 
-    #[tactic(auto, unfolding(crate::specs::Release::package_spec))]
+    #[tactic(auto, unfolding(crate::specs::Release::package_spec, crate::specs::Release::is_package_spec))]
     fn write(&self, out: &mut Vec<u8>) -> Result<(), EntryFault> {
         self.name.write(out)?;
         self.fingerprint.write(out)?;
@@ -192,13 +206,15 @@ impl Coded for PackageSpec {
 }
 
 impl Coded for Release {
-    ghost use Rattle.bosh_entry.specs.Release.{release, release_at};
+    ghost use Rattle.bosh_entry.specs.Release.{release, is_release, release_at};
 
     ghost spelling = { λ _. release };
 
+    ghost fits = { λ _. is_release };
+
     ghost reading = { λ _. release_at };
 
-    #[tactic(auto, unfolding(crate::specs::Release::release))]
+    #[tactic(auto, unfolding(crate::specs::Release::release, crate::specs::Release::is_release))]
     fn write(&self, out: &mut Vec<u8>) -> Result<(), EntryFault> {
         self.name.write(out)?;
         self.version.write(out)?;

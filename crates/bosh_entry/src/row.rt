@@ -9,13 +9,15 @@ use bosh_base::{Call, DiskRow, DiskWant, Doubt, Inst, Role, Row, Seq, Vm};
 use std::alloc::Global;
 
 impl Coded for Role {
-    ghost use Rattle.bosh_entry.specs.Row.{role, role_at};
+    ghost use Rattle.bosh_entry.specs.Row.{role, is_role, role_at};
 
     ghost spelling = { λ _. role };
 
+    ghost fits = { λ _. is_role };
+
     ghost reading = { λ _. role_at };
 
-    #[tactic(auto, unfolding(crate::specs::Row::role))]
+    #[tactic(auto, unfolding(crate::specs::Row::role, crate::specs::Row::is_role))]
     fn write(&self, out: &mut Vec<u8>) -> Result<(), EntryFault> {
         match self {
             Role::Active => {
@@ -45,13 +47,15 @@ impl Coded for Role {
 }
 
 impl Coded for DiskRow {
-    ghost use Rattle.bosh_entry.specs.Row.{disk_row, disk_row_at};
+    ghost use Rattle.bosh_entry.specs.Row.{disk_row, is_disk_row, disk_row_at};
 
     ghost spelling = { λ _. disk_row };
 
+    ghost fits = { λ _. is_disk_row };
+
     ghost reading = { λ _. disk_row_at };
 
-    #[tactic(auto, unfolding(crate::specs::Row::disk_row))]
+    #[tactic(auto, unfolding(crate::specs::Row::disk_row, crate::specs::Row::is_disk_row))]
     fn write(&self, out: &mut Vec<u8>) -> Result<(), EntryFault> {
         self.disk.write(out)?;
         self.tag.write(out)?;
@@ -75,13 +79,15 @@ impl Coded for DiskRow {
 }
 
 impl Coded for Vm {
-    ghost use Rattle.bosh_entry.specs.Row.{vm, vm_at};
+    ghost use Rattle.bosh_entry.specs.Row.{vm, is_vm, vm_at};
 
     ghost spelling = { λ _. vm };
 
+    ghost fits = { λ _. is_vm };
+
     ghost reading = { λ _. vm_at };
 
-    #[tactic(auto, unfolding(crate::specs::Row::vm))]
+    #[tactic(auto, unfolding(crate::specs::Row::vm, crate::specs::Row::is_vm))]
     fn write(&self, out: &mut Vec<u8>) -> Result<(), EntryFault> {
         self.vm.write(out)?;
         self.agent.write(out)
@@ -97,13 +103,15 @@ impl Coded for Vm {
 }
 
 impl Coded for Doubt {
-    ghost use Rattle.bosh_entry.specs.Row.{doubt, doubt_at};
+    ghost use Rattle.bosh_entry.specs.Row.{doubt, is_doubt, doubt_at};
 
     ghost spelling = { λ _. doubt };
 
+    ghost fits = { λ _. is_doubt };
+
     ghost reading = { λ _. doubt_at };
 
-    #[tactic(auto, unfolding(crate::specs::Row::doubt))]
+    #[tactic(auto, unfolding(crate::specs::Row::doubt, crate::specs::Row::is_doubt))]
     fn write(&self, out: &mut Vec<u8>) -> Result<(), EntryFault> {
         self.n.write(out)?;
         self.call.write(out)
@@ -119,13 +127,15 @@ impl Coded for Doubt {
 }
 
 impl Coded for Row {
-    ghost use Rattle.bosh_entry.specs.Row.{row, row_at};
+    ghost use Rattle.bosh_entry.specs.Row.{row, is_row, row_at};
 
     ghost spelling = { row };
 
+    ghost fits = { is_row };
+
     ghost reading = { row_at };
 
-    #[tactic(auto, unfolding(crate::specs::Row::row))]
+    #[tactic(auto, unfolding(crate::specs::Row::row, crate::specs::Row::is_row))]
     fn write(&self, out: &mut Vec<u8>) -> Result<(), EntryFault> {
         self.inst.write(out)?;
         self.make.write(out)?;

@@ -12,13 +12,15 @@ use bosh_base::{
 use std::alloc::Global;
 
 impl Coded for DepRow {
-    ghost use Rattle.bosh_entry.specs.Snapshot.{dep_row, dep_row_at};
+    ghost use Rattle.bosh_entry.specs.Snapshot.{dep_row, is_dep_row, dep_row_at};
 
     ghost spelling = { dep_row };
 
+    ghost fits = { is_dep_row };
+
     ghost reading = { dep_row_at };
 
-    #[tactic(auto, unfolding(crate::specs::Snapshot::dep_row))]
+    #[tactic(auto, unfolding(crate::specs::Snapshot::dep_row, crate::specs::Snapshot::is_dep_row))]
     fn write(&self, out: &mut Vec<u8>) -> Result<(), EntryFault> {
         self.dep.write(out)?;
         self.goal.write(out)?;
@@ -36,13 +38,15 @@ impl Coded for DepRow {
 }
 
 impl Coded for CompileRow {
-    ghost use Rattle.bosh_entry.specs.Snapshot.{compile_row, compile_row_at};
+    ghost use Rattle.bosh_entry.specs.Snapshot.{compile_row, is_compile_row, compile_row_at};
 
     ghost spelling = { λ _. compile_row };
 
+    ghost fits = { λ _. is_compile_row };
+
     ghost reading = { λ _. compile_row_at };
 
-    #[tactic(auto, unfolding(crate::specs::Snapshot::compile_row))]
+    #[tactic(auto, unfolding(crate::specs::Snapshot::compile_row, crate::specs::Snapshot::is_compile_row))]
     fn write(&self, out: &mut Vec<u8>) -> Result<(), EntryFault> {
         self.task.write(out)?;
         self.slot.write(out)?;
@@ -66,13 +70,15 @@ impl Coded for CompileRow {
 }
 
 impl Coded for Orphan {
-    ghost use Rattle.bosh_entry.specs.Snapshot.{orphan, orphan_at};
+    ghost use Rattle.bosh_entry.specs.Snapshot.{orphan, is_orphan, orphan_at};
 
     ghost spelling = { λ _. orphan };
 
+    ghost fits = { λ _. is_orphan };
+
     ghost reading = { λ _. orphan_at };
 
-    #[tactic(auto, unfolding(crate::specs::Snapshot::orphan))]
+    #[tactic(auto, unfolding(crate::specs::Snapshot::orphan, crate::specs::Snapshot::is_orphan))]
     fn write(&self, out: &mut Vec<u8>) -> Result<(), EntryFault> {
         self.disk.write(out)?;
         self.want.write(out)?;
@@ -92,13 +98,15 @@ impl Coded for Orphan {
 }
 
 impl Coded for BuiltKey {
-    ghost use Rattle.bosh_entry.specs.Snapshot.{built_key, built_key_at};
+    ghost use Rattle.bosh_entry.specs.Snapshot.{built_key, is_built_key, built_key_at};
 
     ghost spelling = { λ _. built_key };
 
+    ghost fits = { λ _. is_built_key };
+
     ghost reading = { λ _. built_key_at };
 
-    #[tactic(auto, unfolding(crate::specs::Snapshot::built_key))]
+    #[tactic(auto, unfolding(crate::specs::Snapshot::built_key, crate::specs::Snapshot::is_built_key))]
     fn write(&self, out: &mut Vec<u8>) -> Result<(), EntryFault> {
         self.name.write(out)?;
         self.key.write(out)?;
@@ -116,13 +124,15 @@ impl Coded for BuiltKey {
 }
 
 impl Coded for Snapshot {
-    ghost use Rattle.bosh_entry.specs.Snapshot.{snapshot, snapshot_at};
+    ghost use Rattle.bosh_entry.specs.Snapshot.{snapshot, is_snapshot, snapshot_at};
 
     ghost spelling = { snapshot };
 
+    ghost fits = { is_snapshot };
+
     ghost reading = { snapshot_at };
 
-    #[tactic(auto, unfolding(crate::specs::Snapshot::snapshot))]
+    #[tactic(auto, unfolding(crate::specs::Snapshot::snapshot, crate::specs::Snapshot::is_snapshot))]
     fn write(&self, out: &mut Vec<u8>) -> Result<(), EntryFault> {
         self.releases.write(out)?;
         self.stemcells.write(out)?;

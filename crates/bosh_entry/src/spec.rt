@@ -8,13 +8,15 @@ use bosh_base::{Digest, Mark, Name, Placed, Seq, Spec, Text};
 use std::alloc::Global;
 
 impl Coded for Mark {
-    ghost use Rattle.bosh_entry.specs.Spec.{mark, mark_at};
+    ghost use Rattle.bosh_entry.specs.Spec.{mark, is_mark, mark_at};
 
     ghost spelling = { λ _. mark };
 
+    ghost fits = { λ _. is_mark };
+
     ghost reading = { λ _. mark_at };
 
-    #[tactic(auto, unfolding(crate::specs::Spec::mark))]
+    #[tactic(auto, unfolding(crate::specs::Spec::mark, crate::specs::Spec::is_mark))]
     fn write(&self, out: &mut Vec<u8>) -> Result<(), EntryFault> {
         self.name.write(out)?;
         self.fingerprint.write(out)
@@ -30,13 +32,15 @@ impl Coded for Mark {
 }
 
 impl Coded for Placed {
-    ghost use Rattle.bosh_entry.specs.Spec.{placed, placed_at};
+    ghost use Rattle.bosh_entry.specs.Spec.{placed, is_placed, placed_at};
 
     ghost spelling = { λ _. placed };
 
+    ghost fits = { λ _. is_placed };
+
     ghost reading = { λ _. placed_at };
 
-    #[tactic(auto, unfolding(crate::specs::Spec::placed))]
+    #[tactic(auto, unfolding(crate::specs::Spec::placed, crate::specs::Spec::is_placed))]
     fn write(&self, out: &mut Vec<u8>) -> Result<(), EntryFault> {
         self.path.write(out)?;
         self.text.write(out)
@@ -52,13 +56,15 @@ impl Coded for Placed {
 }
 
 impl Coded for Spec {
-    ghost use Rattle.bosh_entry.specs.Spec.{spec, spec_at};
+    ghost use Rattle.bosh_entry.specs.Spec.{spec, is_spec, spec_at};
 
     ghost spelling = { λ _. spec };
 
+    ghost fits = { λ _. is_spec };
+
     ghost reading = { λ _. spec_at };
 
-    #[tactic(auto, unfolding(crate::specs::Spec::spec))]
+    #[tactic(auto, unfolding(crate::specs::Spec::spec, crate::specs::Spec::is_spec))]
     fn write(&self, out: &mut Vec<u8>) -> Result<(), EntryFault> {
         self.jobs.write(out)?;
         self.packages.write(out)?;

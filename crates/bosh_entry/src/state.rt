@@ -8,13 +8,15 @@ use bosh_base::State;
 use std::alloc::Global;
 
 impl Coded for State {
-    ghost use Rattle.bosh_entry.specs.State.{state, state_at};
+    ghost use Rattle.bosh_entry.specs.State.{state, is_state, state_at};
 
     ghost spelling = { λ _. state };
 
+    ghost fits = { λ _. is_state };
+
     ghost reading = { λ _. state_at };
 
-    #[tactic(auto, unfolding(crate::specs::State::state))]
+    #[tactic(auto, unfolding(crate::specs::State::state, crate::specs::State::is_state))]
     fn write(&self, out: &mut Vec<u8>) -> Result<(), EntryFault> {
         match self {
             State::Running => {

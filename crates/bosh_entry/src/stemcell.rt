@@ -8,13 +8,15 @@ use bosh_base::{Name, Stemcell, Text};
 use std::alloc::Global;
 
 impl Coded for Stemcell {
-    ghost use Rattle.bosh_entry.specs.Stemcell.{stemcell, stemcell_at};
+    ghost use Rattle.bosh_entry.specs.Stemcell.{stemcell, is_stemcell, stemcell_at};
 
     ghost spelling = { λ _. stemcell };
 
+    ghost fits = { λ _. is_stemcell };
+
     ghost reading = { λ _. stemcell_at };
 
-    #[tactic(auto, unfolding(crate::specs::Stemcell::stemcell))]
+    #[tactic(auto, unfolding(crate::specs::Stemcell::stemcell, crate::specs::Stemcell::is_stemcell))]
     fn write(&self, out: &mut Vec<u8>) -> Result<(), EntryFault> {
         self.os.write(out)?;
         self.version.write(out)

@@ -9,13 +9,15 @@ use bosh_base::{Inst, Method, Owner, TaskEnd, TaskKind, TaskRow};
 use std::alloc::Global;
 
 impl Coded for TaskKind {
-    ghost use Rattle.bosh_entry.specs.Task.{task_kind, task_kind_at};
+    ghost use Rattle.bosh_entry.specs.Task.{task_kind, is_task_kind, task_kind_at};
 
     ghost spelling = { λ _. task_kind };
 
+    ghost fits = { is_task_kind };
+
     ghost reading = { task_kind_at };
 
-    #[tactic(auto, unfolding(crate::specs::Task::task_kind))]
+    #[tactic(auto, unfolding(crate::specs::Task::task_kind, crate::specs::Task::is_task_kind))]
     fn write(&self, out: &mut Vec<u8>) -> Result<(), EntryFault> {
         match self {
             TaskKind::Deploy => {
@@ -81,13 +83,15 @@ impl Coded for TaskKind {
 }
 
 impl Coded for TaskEnd {
-    ghost use Rattle.bosh_entry.specs.Task.{task_end, task_end_at};
+    ghost use Rattle.bosh_entry.specs.Task.{task_end, is_task_end, task_end_at};
 
     ghost spelling = { λ _. task_end };
 
+    ghost fits = { is_task_end };
+
     ghost reading = { task_end_at };
 
-    #[tactic(auto, unfolding(crate::specs::Task::task_end))]
+    #[tactic(auto, unfolding(crate::specs::Task::task_end, crate::specs::Task::is_task_end))]
     fn write(&self, out: &mut Vec<u8>) -> Result<(), EntryFault> {
         match self {
             TaskEnd::Finished => {
@@ -137,13 +141,15 @@ impl Coded for TaskEnd {
 }
 
 impl Coded for TaskRow {
-    ghost use Rattle.bosh_entry.specs.Task.{task_row, task_row_at};
+    ghost use Rattle.bosh_entry.specs.Task.{task_row, is_task_row, task_row_at};
 
     ghost spelling = { task_row };
 
+    ghost fits = { is_task_row };
+
     ghost reading = { task_row_at };
 
-    #[tactic(auto, unfolding(crate::specs::Task::task_row))]
+    #[tactic(auto, unfolding(crate::specs::Task::task_row, crate::specs::Task::is_task_row))]
     fn write(&self, out: &mut Vec<u8>) -> Result<(), EntryFault> {
         self.task.write(out)?;
         self.kind.write(out)?;
