@@ -21,6 +21,11 @@ pub mod MoveLemmas
 pub mod SpelledValueLemmas
 pub mod SpelledBlockLemmas
 pub mod SpellingLemmas
+pub mod CanonicalLemmas
+pub mod OrderLemmas
+pub mod WrittenLemmas
+pub mod CanonReadLemmas
+pub mod JsonOnceLemmas
 pub mod ReadWordLemmas
 pub mod ReadFlowLemmas
 pub mod ReadFrameLemmas

@@ -1,5 +1,5 @@
--- Events that make a tree, wherever it stands: they build it, nest as deep as it does, and repeat a key only where it does.
-use Rattle.std.proofs.Common.{◌≡◌, ◌≤◌, ℕ, suc, ◌+◌, ◌-◌, max, false, List, [], ◌∷◌, ◌++◌, Option, Some, None, Result, Ok, Err, append_assoc, append-nil, refl, ap, sym, ◌∙◌, subst, arith}
+-- Events that make a tree, wherever it stands: they build it, nest as deep as it does, and repeat a key where it does, and only there.
+use Rattle.std.proofs.Common.{◌≡◌, ◌≤◌, ℕ, suc, ◌+◌, ◌-◌, max, Bool as Truth, true, false, true≢false, ◌⊎◌, inl, inr, List, [], ◌∷◌, ◌++◌, Option, Some, None, Result, Ok, Err, append_assoc, append-nil, refl, ap, sym, ◌∙◌, subst, arith}
 use Rattle.bosh_yaml.specs.declared.build.Open.{Open}
 use Rattle.bosh_yaml.specs.declared.build.Open.TheVariants.{List as ListOf, Map as MapOf, Entry as EntryOf}
 use Rattle.bosh_yaml.specs.declared.event.Event.{Event}
@@ -24,39 +24,58 @@ Builds events t = (all : List Open) (rest : List Event) → made None all (event
 abbrev pub Nests : List Event → ℕ → Type 0
 Nests events deep = (n : ℕ) (rest : List Event) → nesting n (events ++ rest) ≡ max (n + deep) (nesting n rest)
 
-abbrev pub Repeats : List Event → Type 0
-Repeats events = (all : List Keys) (rest : List Event) → repeated all (events ++ rest) ≡ repeated all rest
+abbrev pub RepeatsNone : List Event → Type 0
+RepeatsNone events = (all : List Keys) (rest : List Event) → repeated all (events ++ rest) ≡ repeated all rest
+
+abbrev pub RepeatsOne : List Event → Type 0
+RepeatsOne events = (all : List Keys) (rest : List Event) → (line : ℕ) × (repeated all (events ++ rest) ≡ Some line)
+
+-- events that repeat a key where this holds not of what they make, and none where it does
+abbrev pub Tells : List Event → Type 0 → Type 0
+Tells events once = (once × RepeatsNone events) ⊎ ((once → ⊥) × RepeatsOne events)
 
 abbrev pub Makes : List Event → Tree → Type 0
-Makes events t = Builds events t × Nests events (depth t) × (HasEachKeyOnce t → Repeats events)
+Makes events t = Builds events t × Nests events (depth t) × Tells events (HasEachKeyOnce t)
 
 -- events that add items to an open list
 abbrev pub AddsItems : List Event → List Tree → Type 0
 AddsItems events ts = (before : List Tree) (all : List Open) (rest : List Event) → made None (ListOf before ∷ all) (events ++ rest) ≡ made None (ListOf (before ++ ts) ∷ all) rest
 
 abbrev pub MakesItems : List Event → List Tree → Type 0
-MakesItems events ts = AddsItems events ts × Nests events (depth_all (trees_of ts)) × (HaveEachKeyOnce (trees_of ts) → Repeats events)
+MakesItems events ts = AddsItems events ts × Nests events (depth_all (trees_of ts)) × Tells events (HaveEachKeyOnce (trees_of ts))
 
 -- the keys of a map with those of more entries
 abbrev pub with_keys : Keys → List (List ℕ × Tree) → Keys
 with_keys keys [] = keys
 with_keys keys (p ∷ ps) = with_keys (with_new keys p.0) ps
 
-abbrev pub RepeatsKeys : List Event → List (List ℕ × Tree) → Type 0
-RepeatsKeys events ps = (keys : Keys) (all : List Keys) (rest : List Event) → KeysAreNew keys (fields_of ps) → repeated (keys ∷ all) (events ++ rest) ≡ repeated (with_keys keys ps ∷ all) rest
+abbrev pub RepeatsNoKey : List Event → Keys → List (List ℕ × Tree) → Type 0
+RepeatsNoKey events keys ps = (all : List Keys) (rest : List Event) → repeated (keys ∷ all) (events ++ rest) ≡ repeated (with_keys keys ps ∷ all) rest
+
+abbrev pub RepeatsKey : List Event → Keys → Type 0
+RepeatsKey events keys = (all : List Keys) (rest : List Event) → (line : ℕ) × (repeated (keys ∷ all) (events ++ rest) ≡ Some line)
+
+abbrev pub TellsKeys : List Event → List (List ℕ × Tree) → Type 0
+TellsKeys events ps = (keys : Keys) → (KeysAreNew keys (fields_of ps) × RepeatsNoKey events keys ps) ⊎ ((KeysAreNew keys (fields_of ps) → ⊥) × RepeatsKey events keys)
 
 -- events that add entries to an open map
 abbrev pub AddsEntries : List Event → List (List ℕ × Tree) → Type 0
 AddsEntries events ps = (before : List (List ℕ × Tree)) (all : List Open) (rest : List Event) → made None (MapOf before ∷ all) (events ++ rest) ≡ made None (MapOf (before ++ ps) ∷ all) rest
 
 abbrev pub MakesEntries : List Event → List (List ℕ × Tree) → Type 0
-MakesEntries events ps = AddsEntries events ps × Nests events (depth_keyed (fields_of ps)) × RepeatsKeys events ps
+MakesEntries events ps = AddsEntries events ps × Nests events (depth_keyed (fields_of ps)) × TellsKeys events ps
 
 leaf_depth : (value : Leaf) → depth (leaf_tree value) ≡ 0
 leaf_depth Null = refl
 leaf_depth (Bool b) = refl
 leaf_depth (Int n) = refl
 leaf_depth (Text s) = refl
+
+leaf_once : (value : Leaf) → HasEachKeyOnce (leaf_tree value)
+leaf_once Null = tt
+leaf_once (Bool b) = tt
+leaf_once (Int n) = tt
+leaf_once (Text s) = tt
 
 nests_none : Nests [] 0
 nests_none n rest = let deep = nesting_at_least n rest in omega arith
@@ -83,13 +102,25 @@ nests_scalar value n rest = omega arith
 pub makes_scalar : (value : Leaf) → Makes (Scalar value ∷ []) (leaf_tree value)
 makes_scalar value =
     let none = leaf_depth value in
-    ((λ all rest. refl), subst (λ d. Nests (Scalar value ∷ []) d) (sym none) (nests_scalar value), (λ once all rest. refl))
+    ((λ all rest. refl), subst (λ d. Nests (Scalar value ∷ []) d) (sym none) (nests_scalar value), inl (leaf_once value, (λ all rest. refl)))
 
 pub no_items : MakesItems [] []
-no_items = ((λ before all rest. ap (λ ts. made None (ListOf ts ∷ all) rest) (sym (append-nil before))), nests_none, (λ once all rest. refl))
+no_items = ((λ before all rest. ap (λ ts. made None (ListOf ts ∷ all) rest) (sym (append-nil before))), nests_none, inl (tt, (λ all rest. refl)))
 
 pub no_entries : MakesEntries [] []
-no_entries = ((λ before all rest. ap (λ ps. made None (MapOf ps ∷ all) rest) (sym (append-nil before))), nests_none, (λ keys all rest new. refl))
+no_entries = ((λ before all rest. ap (λ ps. made None (MapOf ps ∷ all) rest) (sym (append-nil before))), nests_none, (λ keys. inl (tt, (λ all rest. refl))))
+
+repeats_later : (es fs rest : List Event) (all : List Keys) → ((line : ℕ) × (repeated all (es ++ (fs ++ rest)) ≡ Some line)) → (line : ℕ) × (repeated all ((es ++ fs) ++ rest) ≡ Some line)
+repeats_later es fs rest all found = (found.0, ap (λ es. repeated all es) (append_assoc es fs rest) ∙ found.1)
+
+tells_append : (es fs : List Event) (one more : Type 0) → Tells es one → Tells fs more → Tells (es ++ fs) (one × more)
+tells_append es fs one more (inl h) (inl k) =
+    inl ((h.0, k.0), (λ all rest. ap (λ es. repeated all es) (append_assoc es fs rest) ∙ h.1 all (fs ++ rest) ∙ k.1 all rest))
+tells_append es fs one more (inl h) (inr k) = inr (
+  (λ both. k.0 both.1),
+  (λ all rest. let found = k.1 all rest in repeats_later es fs rest all (found.0, h.1 all (fs ++ rest) ∙ found.1)),
+)
+tells_append es fs one more (inr h) k = inr ((λ both. h.0 both.0), (λ all rest. repeats_later es fs rest all (h.1 all (fs ++ rest))))
 
 pub more_items : (es fs : List Event) (t : Tree) (ts : List Tree) → Makes es t → MakesItems fs ts → MakesItems (es ++ fs) (t ∷ ts)
 more_items es fs t ts h k = (
@@ -98,11 +129,43 @@ more_items es fs t ts h k = (
       ∙ k.0 (before ++ t ∷ []) all rest
       ∙ ap (λ ts. made None (ListOf ts ∷ all) rest) (append_assoc before (t ∷ []) ts)),
   nests_append es fs (depth t) (depth_all (trees_of ts)) h.1 k.1,
-  (λ once all rest. ap (λ es. repeated all es) (append_assoc es fs rest) ∙ h.2 once.0 all (fs ++ rest) ∙ k.2 once.1 all rest),
+  tells_append es fs (HasEachKeyOnce t) (HaveEachKeyOnce (trees_of ts)) h.2 k.2,
 )
 
 nests_key : (line : ℕ) (key : List ℕ) (es : List Event) (d : ℕ) → Nests es d → Nests (Key line key ∷ es) d
 nests_key line key es d h n rest = let deep = nesting_at_least n rest in let all : max n (max (n + d) (nesting n rest)) ≡ max (n + d) (nesting n rest) = omega arith in ap (λ m. max n m) (h n rest) ∙ all
+
+-- behind a new key, a key stands twice
+key_passed : (line : ℕ) (es fs rest : List Event) (key : List ℕ) (keys : Keys) (all : List Keys) → keys key ≡ false
+    → ((found : ℕ) × (repeated (with_new keys key ∷ all) (es ++ (fs ++ rest)) ≡ Some found)) → (found : ℕ) × (repeated (keys ∷ all) ((Key line key ∷ (es ++ fs)) ++ rest) ≡ Some found)
+key_passed line es fs rest key keys all is found = (
+  found.0,
+  ap (λ b. line_or b line (repeated (with_new keys key ∷ all) ((es ++ fs) ++ rest))) is ∙ ap (λ es. repeated (with_new keys key ∷ all) es) (append_assoc es fs rest) ∙ found.1,
+)
+
+-- a key and its value, before more entries
+tells_key : (line : ℕ) (es fs : List Event) (key : List ℕ) (t : Tree) (ps : List (List ℕ × Tree)) (keys : Keys) (known : Truth) → keys key ≡ known → Tells es (HasEachKeyOnce t)
+    → (KeysAreNew (with_new keys key) (fields_of ps) × RepeatsNoKey fs (with_new keys key) ps) ⊎ ((KeysAreNew (with_new keys key) (fields_of ps) → ⊥) × RepeatsKey fs (with_new keys key))
+    → (KeysAreNew keys (fields_of ((key, t) ∷ ps)) × RepeatsNoKey (Key line key ∷ (es ++ fs)) keys ((key, t) ∷ ps)) ⊎ ((KeysAreNew keys (fields_of ((key, t) ∷ ps)) → ⊥) × RepeatsKey (Key line key ∷ (es ++ fs)) keys)
+tells_key line es fs key t ps keys true is h k = inr (
+  (λ new. true≢false (sym is ∙ new.0)),
+  (λ all rest. (line, ap (λ b. line_or b line (repeated (with_new keys key ∷ all) ((es ++ fs) ++ rest))) is)),
+)
+tells_key line es fs key t ps keys false is (inl h) (inl k) = inl (
+  (is, h.0, k.0),
+  (λ all rest. ap (λ b. line_or b line (repeated (with_new keys key ∷ all) ((es ++ fs) ++ rest))) is
+      ∙ ap (λ es. repeated (with_new keys key ∷ all) es) (append_assoc es fs rest)
+      ∙ h.1 (with_new keys key ∷ all) (fs ++ rest)
+      ∙ k.1 all rest),
+)
+tells_key line es fs key t ps keys false is (inl h) (inr k) = inr (
+  (λ new. k.0 new.2),
+  (λ all rest. let found = k.1 all rest in key_passed line es fs rest key keys all is (found.0, h.1 (with_new keys key ∷ all) (fs ++ rest) ∙ found.1)),
+)
+tells_key line es fs key t ps keys false is (inr h) k = inr (
+  (λ new. h.0 new.1),
+  (λ all rest. key_passed line es fs rest key keys all is (h.1 (with_new keys key ∷ all) (fs ++ rest))),
+)
 
 pub more_entries : (line : ℕ) (es fs : List Event) (key : List ℕ) (t : Tree) (ps : List (List ℕ × Tree)) → Makes es t → MakesEntries fs ps → MakesEntries (Key line key ∷ (es ++ fs)) ((key, t) ∷ ps)
 more_entries line es fs key t ps h k = (
@@ -111,24 +174,33 @@ more_entries line es fs key t ps h k = (
       ∙ k.0 (before ++ (key, t) ∷ []) all rest
       ∙ ap (λ ps. made None (MapOf ps ∷ all) rest) (append_assoc before ((key, t) ∷ []) ps)),
   nests_key line key (es ++ fs) (max (depth t) (depth_keyed (fields_of ps))) (nests_append es fs (depth t) (depth_keyed (fields_of ps)) h.1 k.1),
-  (λ keys all rest new. ap (λ b. line_or b line (repeated (with_new keys key ∷ all) ((es ++ fs) ++ rest))) new.0
-      ∙ ap (λ es. repeated (with_new keys key ∷ all) es) (append_assoc es fs rest)
-      ∙ h.2 new.1 (with_new keys key ∷ all) (fs ++ rest)
-      ∙ k.2 (with_new keys key) all rest new.2),
+  (λ keys. tells_key line es fs key t ps keys (keys key) refl h.2 (k.2 (with_new keys key))),
 )
+
+closed : (es rest : List Event) (all : List Keys) → repeated (no_keys ∷ all) ((es ++ Close ∷ []) ++ rest) ≡ repeated (no_keys ∷ all) (es ++ Close ∷ rest)
+closed es rest all = ap (λ es. repeated (no_keys ∷ all) es) (append_assoc es (Close ∷ []) rest)
+
+tells_list : (es : List Event) (once : Type 0) → Tells es once → Tells (OpenList ∷ (es ++ Close ∷ [])) once
+tells_list es once (inl h) = inl (h.0, (λ all rest. closed es rest all ∙ h.1 (no_keys ∷ all) (Close ∷ rest)))
+tells_list es once (inr h) = inr (h.0, (λ all rest. let found = h.1 (no_keys ∷ all) (Close ∷ rest) in (found.0, closed es rest all ∙ found.1)))
+
+tells_map : (es : List Event) (ps : List (List ℕ × Tree)) → (KeysAreNew no_keys (fields_of ps) × RepeatsNoKey es no_keys ps) ⊎ ((KeysAreNew no_keys (fields_of ps) → ⊥) × RepeatsKey es no_keys)
+    → Tells (OpenMap ∷ (es ++ Close ∷ [])) (HasEachKeyOnce (map (fields_of ps)))
+tells_map es ps (inl h) = inl (h.0, (λ all rest. closed es rest all ∙ h.1 all (Close ∷ rest)))
+tells_map es ps (inr h) = inr (h.0, (λ all rest. let found = h.1 all (Close ∷ rest) in (found.0, closed es rest all ∙ found.1)))
 
 pub makes_list : (es : List Event) (ts : List Tree) → MakesItems es ts → Makes (OpenList ∷ (es ++ Close ∷ [])) (list (trees_of ts))
 makes_list es ts h = (
   (λ all rest. ap (λ es. made None (ListOf [] ∷ all) es) (append_assoc es (Close ∷ []) rest) ∙ h.0 [] all (Close ∷ rest)),
   nests_within OpenList es (depth_all (trees_of ts)) (λ n. refl) h.1,
-  (λ once all rest. ap (λ es. repeated (no_keys ∷ all) es) (append_assoc es (Close ∷ []) rest) ∙ h.2 once (no_keys ∷ all) (Close ∷ rest)),
+  tells_list es (HaveEachKeyOnce (trees_of ts)) h.2,
 )
 
 pub makes_map : (es : List Event) (ps : List (List ℕ × Tree)) → MakesEntries es ps → Makes (OpenMap ∷ (es ++ Close ∷ [])) (map (fields_of ps))
 makes_map es ps h = (
   (λ all rest. ap (λ es. made None (MapOf [] ∷ all) es) (append_assoc es (Close ∷ []) rest) ∙ h.0 [] all (Close ∷ rest)),
   nests_within OpenMap es (depth_keyed (fields_of ps)) (λ n. refl) h.1,
-  (λ once all rest. ap (λ es. repeated (no_keys ∷ all) es) (append_assoc es (Close ∷ []) rest) ∙ h.2 no_keys all (Close ∷ rest) once),
+  tells_map es ps (h.2 no_keys),
 )
 
 -- where nothing is open, that tree is the whole
@@ -141,4 +213,15 @@ nests_whole es t h =
     ap (λ es. nesting 0 es) (sym (append-nil es)) ∙ h.1 0 [] ∙ all
 
 pub repeats_whole : (es : List Event) (t : Tree) → Makes es t → HasEachKeyOnce t → repeated [] es ≡ None
-repeats_whole es t h once = ap (λ es. repeated [] es) (sym (append-nil es)) ∙ h.2 once [] []
+repeats_whole es t h once = by h.2
+  where
+    by : Tells es (HasEachKeyOnce t) → repeated [] es ≡ None
+    by (inl none) = ap (λ es. repeated [] es) (sym (append-nil es)) ∙ none.1 [] []
+    by (inr found) = absurd (found.0 once)
+
+pub repeats_in_whole : (es : List Event) (t : Tree) → Makes es t → (HasEachKeyOnce t → ⊥) → (line : ℕ) × (repeated [] es ≡ Some line)
+repeats_in_whole es t h twice = by h.2
+  where
+    by : Tells es (HasEachKeyOnce t) → (line : ℕ) × (repeated [] es ≡ Some line)
+    by (inl none) = absurd (twice none.0)
+    by (inr found) = let here = found.1 [] [] in (here.0, ap (λ es. repeated [] es) (sym (append-nil es)) ∙ here.1)

@@ -21,6 +21,7 @@ pub mod Canon
 pub mod Json
 pub mod Reading
 pub mod Limits
+pub mod Order
 pub mod SpelledWord
 pub mod SpelledFlow
 pub mod SpelledBlock

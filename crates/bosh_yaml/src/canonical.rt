@@ -1,10 +1,14 @@
 //! The canonical text of a node: compact JSON with each map's keys in byte order.
 
-ghost use Rattle.std.specs.Prelude.{◌≡◌, IfErr, IfOk, string_bytes};
+ghost use Rattle.std.specs.Prelude.{◌≡◌, ◌≤◌, IfErr, IfOk, OnOk, Ok, length, string_bytes};
+ghost use Rattle.std.specs.Str.{IsUtf8};
 ghost use Rattle.serde_json.specs.Data.{no_members};
 ghost use Rattle.serde_json.specs.View.{items_view, members_view, view};
 ghost use Rattle.bosh_yaml.specs.Canon.{canon_text, data_items, data_members, data_of};
-ghost use Rattle.bosh_yaml.specs.Tree.{fields_of, trees_of};
+ghost use Rattle.bosh_yaml.specs.Limits.{depth};
+ghost use Rattle.bosh_yaml.specs.Order.{AreWritable, HaveWritable, in_key_order, IsWritable};
+ghost use Rattle.bosh_yaml.specs.Reading.{reading};
+ghost use Rattle.bosh_yaml.specs.Tree.{Fields, fields_of, map as map_tree, trees_of};
 ghost use Rattle.bosh_yaml.specs.View.{tree_of};
 
 use crate::fault::ReadFault;
@@ -14,9 +18,13 @@ use serde_json::{Map, Number, Value};
 use std::alloc::{AllocError, Global};
 use std::str;
 
-/// The node as compact JSON, with each map's keys in byte order.
+/// The node as compact JSON, with each map's keys in byte order. Of a map the text is read back by `read`, as the map in
+/// the order of its keys, where it has at most 1,048,576 bytes and nests at most 64 lists and maps.
 pub fn canon(alloc: Global, node: &Node) -> Result<Vec<u8>, ReadFault>
     ensures text { IfOk result (λ v. v.items ≡ canon_text (tree_of node.now)) }
+    ensures read { IfOk result (λ v. (fs : Fields) → tree_of node.now ≡ map_tree fs
+        → depth (tree_of node.now) ≤ 64 → length v.items ≤ 1048576
+        → reading v.items ≡ Ok (in_key_order (tree_of node.now))) }
     ensures memory { IfErr result (λ e. e ≡ ReadFault.Memory) }
 {
     let value = value_of(alloc, node)?;
@@ -24,7 +32,8 @@ pub fn canon(alloc: Global, node: &Node) -> Result<Vec<u8>, ReadFault>
 }
 
 fn string_of(alloc: Global, text: &Str) -> Result<String, AllocError>
-    ensures { IfOk result (λ s. string_bytes s ≡ text.now) }
+    ensures text { IfOk result (λ s. string_bytes s ≡ text.now) }
+    ensures utf8 { OnOk result (IsUtf8 text.now) }
 {
     match str::from_utf8(text.as_bytes()) {
         Ok(text) => String::from_str(alloc, text),
@@ -34,7 +43,8 @@ fn string_of(alloc: Global, text: &Str) -> Result<String, AllocError>
 
 #[cycle(canon)]
 fn value_of(alloc: Global, node: &Node) -> Result<Value, AllocError>
-    ensures { IfOk result (λ v. view v ≡ data_of (tree_of node.now)) }
+    ensures as_data { IfOk result (λ v. view v ≡ data_of (tree_of node.now)) }
+    ensures writable { OnOk result (IsWritable (tree_of node.now)) }
 {
     match node {
         Node::Null => Ok(Value::Null),
@@ -48,7 +58,8 @@ fn value_of(alloc: Global, node: &Node) -> Result<Value, AllocError>
 
 #[cycle(canon)]
 fn values_of(alloc: Global, items: &Items) -> Result<Vec<Value>, AllocError>
-    ensures { IfOk result (λ v. items_view v.items ≡ data_items (trees_of items.now)) }
+    ensures as_data { IfOk result (λ v. items_view v.items ≡ data_items (trees_of items.now)) }
+    ensures writable { OnOk result (AreWritable (trees_of items.now)) }
 {
     let mut values = Vec::new(alloc);
     for node in &items.nodes {
@@ -59,7 +70,8 @@ fn values_of(alloc: Global, items: &Items) -> Result<Vec<Value>, AllocError>
 
 #[cycle(canon)]
 fn members_of(alloc: Global, pairs: &Pairs) -> Result<Map<String, Value>, AllocError>
-    ensures { IfOk result (λ m. members_view m.entries ≡ data_members (fields_of pairs.now) no_members) }
+    ensures as_data { IfOk result (λ m. members_view m.entries ≡ data_members (fields_of pairs.now) no_members) }
+    ensures writable { OnOk result (HaveWritable (fields_of pairs.now)) }
 {
     let mut members = Map::new(alloc);
     for (key, value) in &pairs.entries {

@@ -1,10 +1,13 @@
 //! Laws of the texts. Each is the contract of a function that does nothing.
-ghost use Rattle.std.specs.Prelude.{◌≡◌, ◌<◌, ◌≤◌, ℕ, List, Result, Ok, Err, length};
+ghost use Rattle.std.specs.Prelude.{◌≡◌, ◌<◌, ◌≤◌, ℕ, List, Result, Ok, Err, length, option_map};
+ghost use Rattle.bosh_yaml.specs.Canon.{canon_text};
 ghost use Rattle.bosh_yaml.specs.declared.fault.ReadFault.TheVariants.{Number, RepeatedKey, Syntax, TooDeep};
+ghost use Rattle.bosh_yaml.specs.Keys.{found};
 ghost use Rattle.bosh_yaml.specs.Limits.{depth, HasEachKeyOnce};
+ghost use Rattle.bosh_yaml.specs.Order.{in_key_order, IsInKeyOrder, IsWritable};
 ghost use Rattle.bosh_yaml.specs.Reading.{reading};
 ghost use Rattle.bosh_yaml.specs.Spelling.{Spells};
-ghost use Rattle.bosh_yaml.specs.Tree.{Tree};
+ghost use Rattle.bosh_yaml.specs.Tree.{Tree, Fields, map};
 
 /// A text spells at most one tree.
 pub fn spelled_once()
@@ -32,4 +35,20 @@ pub fn refused_spells_none()
     ensures number { (text : List ℕ) → reading text ≡ Err Number → (t : Tree) → ¬ Spells text t }
     ensures repeated { (text : List ℕ) (line : ℕ) → reading text ≡ Err (RepeatedKey line)
         → (t : Tree) → Spells text t → ¬ HasEachKeyOnce t }
+{}
+
+/// The canonical text of a map is read as the map in the order of its keys, where it has at most 1,048,576 bytes and
+/// nests at most 64 lists and maps. Each node's texts are UTF-8 and its integers within 64 bits; `canon` has the law
+/// for nodes.
+pub fn what_is_canonical_is_read()
+    ensures { (fs : Fields) → IsWritable (map fs) → depth (map fs) ≤ 64
+        → length (canon_text (map fs)) ≤ 1048576
+        → reading (canon_text (map fs)) ≡ Ok (in_key_order (map fs)) }
+{}
+
+/// In key order, the keys of each map ascend; and where each key stands once, each has the value that it had.
+pub fn key_order_keeps_values()
+    ensures ascending { (t : Tree) → IsInKeyOrder (in_key_order t) }
+    ensures values { (t : Tree) → HasEachKeyOnce t → (key : List ℕ)
+        → found key (in_key_order t) ≡ option_map in_key_order (found key t) }
 {}

@@ -11,7 +11,7 @@ mod copied;
 mod event;
 mod fault;
 mod flow;
-mod json;
+mod json_value;
 mod laws;
 mod line;
 mod literal;

@@ -11,7 +11,7 @@ use crate::build::node_of;
 use crate::check::{first_repeated, nesting};
 use crate::event::Event;
 use crate::fault::ReadFault;
-use crate::json::{push_value, value_of};
+use crate::json_value::{push_value, value_of};
 use crate::line::begins;
 use crate::node::Node;
 use crate::scan::events_of;

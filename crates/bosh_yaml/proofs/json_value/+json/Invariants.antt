@@ -2,7 +2,7 @@ use Rattle.std.proofs.Common.{◌≡◌, ◌++◌, ◌&&◌, List, drop}
 use Rattle.serde_json.specs.View.{items_view, members_view}
 use Rattle.serde_json.proofs.Views.{Entry}
 use Rattle.bosh_yaml.specs.Json.{item_events, items_have_integers, member_events, members_have_integers}
-use Rattle.bosh_yaml.proofs.json.+json.Given as goal
+use Rattle.bosh_yaml.proofs.json_value.+json.Given as goal
 
 abbrev pub invariant-push_items-loop-item : goal.invariant-push_items-loop-item
 invariant-push_items-loop-item l =

@@ -3,7 +3,7 @@ use Rattle.serde_json.specs.View.{members_view}
 use Rattle.serde_json.proofs.Views.{Entry}
 use Rattle.bosh_yaml.specs.Json.{member_events, members_have_integers}
 use Rattle.bosh_yaml.proofs.JsonLemmas.{member_events_more, members_all, members_not, one_done}
-use Rattle.bosh_yaml.proofs.json.+json.Goals as goal
+use Rattle.bosh_yaml.proofs.json_value.+json.Goals as goal
 
 pub push_members-loop-key-preserved-then-all : goal.push_members-loop-key-preserved-then-all
 push_members-loop-key-preserved-then-all t c =
