@@ -26,6 +26,7 @@ pub mod OrderLemmas
 pub mod WrittenLemmas
 pub mod CanonReadLemmas
 pub mod JsonOnceLemmas
+pub mod RepeatedLemmas
 pub mod ReadWordLemmas
 pub mod ReadFlowLemmas
 pub mod ReadFrameLemmas

@@ -6,7 +6,7 @@ ghost use Rattle.bosh_yaml.specs.Keys.{found};
 ghost use Rattle.bosh_yaml.specs.Limits.{depth, HasEachKeyOnce};
 ghost use Rattle.bosh_yaml.specs.Order.{in_key_order, IsInKeyOrder, IsWritable};
 ghost use Rattle.bosh_yaml.specs.Reading.{reading};
-ghost use Rattle.bosh_yaml.specs.Spelling.{Spells};
+ghost use Rattle.bosh_yaml.specs.Spelling.{Spells, SpellsJson};
 ghost use Rattle.bosh_yaml.specs.Tree.{Tree, Fields, map};
 
 /// A text spells at most one tree.
@@ -35,6 +35,14 @@ pub fn refused_spells_none()
     ensures number { (text : List ℕ) → reading text ≡ Err Number → (t : Tree) → ¬ Spells text t }
     ensures repeated { (text : List ℕ) (line : ℕ) → reading text ≡ Err (RepeatedKey line)
         → (t : Tree) → Spells text t → ¬ HasEachKeyOnce t }
+{}
+
+/// A text of at most 1,048,576 bytes that spells a tree in which a key stands twice in a map is refused for that. No JSON
+/// text spells one: of a key that stands twice in an object the last value stays.
+pub fn what_repeats_a_key_is_refused()
+    ensures refused { (text : List ℕ) (t : Tree) → Spells text t → ¬ HasEachKeyOnce t
+        → length text ≤ 1048576 → (line : ℕ) × (reading text ≡ Err (RepeatedKey line)) }
+    ensures json { (text : List ℕ) (t : Tree) → SpellsJson text t → HasEachKeyOnce t }
 {}
 
 /// The canonical text of a map is read as the map in the order of its keys, where it has at most 1,048,576 bytes and

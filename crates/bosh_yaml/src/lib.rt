@@ -29,7 +29,8 @@ pub use canonical::canon;
 pub use copied::{Copied, CopyFault};
 pub use fault::ReadFault;
 pub use laws::{
-    refused_spells_none, spelled_once, what_is_read_is_spelled, what_is_spelled_is_read,
+    key_order_keeps_values, refused_spells_none, spelled_once, what_is_canonical_is_read,
+    what_is_read_is_spelled, what_is_spelled_is_read, what_repeats_a_key_is_refused,
 };
 pub use node::{Items, Node, Pairs};
 pub use plain::scalar;
