@@ -1,13 +1,12 @@
 -- The filled nodes that are left, behind those that are filled; and that keys stay distinct.
 use Rattle.std.proofs.Common.{◌≡◌, ℕ, zero, suc, ◌<◌, ◌≤◌, Bool, true, false, ◌||◌, List, [], ◌∷◌, ◌++◌, map, length, get_or, Result, Ok, Err, arith, ap, sym, ◌∙◌, subst, refl}
 use Rattle.std.specs.Str.{bytes_eq}
-use Rattle.std.proofs.lemmas.Slice.Eq.{bytes_eq-Decides}
 use Rattle.bosh_yaml.specs.Code.{weight, forest, grove}
 use Rattle.bosh_yaml.specs.Keys.{has_key, HasDistinctKeys}
 use Rattle.bosh_yaml.specs.Tree.{Tree, Trees, Fields, no_trees, tree, no_fields, field, trees_of, fields_of}
 use Rattle.bosh_yaml.specs.View.{tree_of, pair_of}
 use Rattle.bosh_yaml.specs.declared.node.Node.{Node}
-use Rattle.bosh_yaml.proofs.KeyLemmas.{or_parts, or_both}
+use Rattle.bosh_yaml.proofs.KeyLemmas.{bytes_eq_flips, or_parts, or_both}
 use Rattle.bosh_vars.specs.declared.fault.VarsFault.{VarsFault}
 use Rattle.bosh_vars.specs.Filled.{Values, filled, filled_items, filled_fields}
 use Rattle.bosh_vars.specs.Result.{◌>>=◌, Gives, Refuses}
@@ -81,14 +80,6 @@ fields-refused values ps key t fs e h =
     Refuses-bind e (filled_fields values (field key t fs)) (λ more. Ok (fields_before ps more)) (Refuses-bind e (filled values t) (λ x. filled_fields values fs >>= λ more. Ok (field key x more)) h)
 
 -- keys of pairs one after another
-not_true : (b : Bool) → (b ≡ true → ⊥) → b ≡ false
-not_true true h = absurd (h refl)
-not_true false h = refl
-
-bytes_eq_flips : (a b : List ℕ) → bytes_eq a b ≡ false → bytes_eq b a ≡ false
-bytes_eq_flips a b h =
-    not_true (bytes_eq b a) (λ e. let t : bytes_eq a b ≡ true = (bytes_eq-Decides a b).1 (sym ((bytes_eq-Decides b a).0 e)) in cc)
-
 has_key-between : (key : List ℕ) (ps : List Pair) (p : Pair) (qs : List Pair) → has_key key (ps ++ p ∷ qs) ≡ false → bytes_eq p.0 key ≡ false
 has_key-between key [] p qs h = (or_parts (bytes_eq p.0 key) (has_key key qs) h).0
 has_key-between key (q ∷ ps) p qs h = has_key-between key ps p qs (or_parts (bytes_eq q.0 key) (has_key key (ps ++ p ∷ qs)) h).1

@@ -1,7 +1,6 @@
 -- One more event of a node, where no key stands twice.
-use Rattle.std.proofs.Common.{◌≡◌, ℕ, Bool, true, false, ◌||◌, List, [], ◌∷◌, ◌++◌, map, Option, Some, None, Result, Ok, Err, refl, ap, sym, ◌∙◌, subst}
+use Rattle.std.proofs.Common.{◌≡◌, ℕ, Bool, true, false, List, [], ◌∷◌, ◌++◌, map, Option, Some, None, Result, Ok, refl, ap, sym, ◌∙◌, subst}
 use Rattle.std.specs.Option.{is_some, option_map}
-use Rattle.std.specs.Str.{bytes_eq}
 use Rattle.bosh_yaml.specs.declared.build.Open.{Open}
 use Rattle.bosh_yaml.specs.declared.build.Open.TheVariants.{List as ListOf, Map as MapOf, Entry as EntryOf}
 use Rattle.bosh_yaml.specs.declared.event.Event.{Event}
@@ -9,7 +8,7 @@ use Rattle.bosh_yaml.specs.declared.event.Event.TheVariants.{Scalar, OpenList, O
 use Rattle.bosh_yaml.specs.declared.fault.ReadFault.{ReadFault}
 use Rattle.bosh_yaml.specs.Keys.{has_key}
 use Rattle.bosh_yaml.specs.Nodes.{Keys, Step, line_or, repeated, with_value, with_key, with_close, with_event, made, IsNewIn, keys_of_open}
-use Rattle.bosh_yaml.specs.Result.{◌>>=◌, Refuses}
+use Rattle.bosh_yaml.specs.Result.{Refuses}
 use Rattle.bosh_yaml.specs.Scalar.{leaf_tree}
 use Rattle.bosh_yaml.specs.Tree.{Tree, list, map as map_tree, trees_of, fields_of}
 use Rattle.bosh_yaml.proofs.KeyLemmas.{has_key-push}

@@ -1,5 +1,5 @@
 -- The JSON data of a writable tree is canonical: integers within 64 bits, and texts that are UTF-8.
-use Rattle.std.proofs.Common.{◌≡◌, ◌<◌, ℕ, ◌^◌, Bool, true, ◌&&◌, List, ℤ, pos, negsuc, Some, Ordering, Less, Equal, Greater, nat_cmp, IsUtf8, refl, ap, ◌∙◌, arith, FitsSigned, w64}
+use Rattle.std.proofs.Common.{◌≡◌, ◌<◌, ℕ, ◌^◌, Bool, true, ◌&&◌, List, ℤ, pos, negsuc, Some, Ordering, Less, Equal, Greater, nat_cmp, IsUtf8, refl, FitsSigned, w64}
 use Rattle.std.specs.Cmp.Lexicographic.{slice_cmp}
 use Rattle.std.specs.Ordering.{match_ordering}
 use Rattle.std.proofs.lemmas.Bool.{lt-ltb}

@@ -1,13 +1,13 @@
 -- What stands on a line behind a dash or a key that was placed.
-use Rattle.std.proofs.Common.{◌≡◌, ℕ, suc, ◌+◌, Bool, true, false, ◌&&◌, List, [], ◌∷◌, ◌++◌, Option, Some, None, Result, Ok, Err, append_assoc, refl, ap, sym, ◌∙◌, subst, eqb, arith}
+use Rattle.std.proofs.Common.{◌≡◌, ℕ, ◌+◌, true, List, ◌∷◌, ◌++◌, Option, Some, Result, Ok, Err, append_assoc, refl, ap, sym, ◌∙◌}
 use Rattle.bosh_yaml.specs.declared.block.Frame.{Frame}
 use Rattle.bosh_yaml.specs.declared.event.Event.{Event}
 use Rattle.bosh_yaml.specs.declared.fault.ReadFault.{ReadFault}
 use Rattle.bosh_yaml.specs.declared.word.Word.{Word}
 use Rattle.bosh_yaml.specs.Lines.{is_gap}
 use Rattle.bosh_yaml.specs.Block.{Placed, after_events, place_dash, place_key}
-use Rattle.bosh_yaml.specs.Content.{Outcome, add_events, items_at, key_at, key_or_scalar, entry_at}
-use Rattle.bosh_yaml.specs.Result.{◌>>=◌, Refuses}
+use Rattle.bosh_yaml.specs.Content.{Outcome, add_events, items_at, key_or_scalar, entry_at}
+use Rattle.bosh_yaml.specs.Result.{◌>>=◌}
 use Rattle.bosh_yaml.specs.Word.{key_of}
 use Rattle.bosh_yaml.proofs.ResultLemmas.{ok_same}
 

@@ -1,14 +1,13 @@
 -- One more sign of a flow form.
-use Rattle.std.proofs.Common.{◌≡◌, ℕ, zero, suc, ◌+◌, ◌-◌, ◌<◌, ◌≤◌, Bool, true, false, List, [], ◌∷◌, ◌++◌, Result, Ok, Err, length, arith, refl, ap, sym, ◌∙◌, subst}
+use Rattle.std.proofs.Common.{◌≡◌, ℕ, zero, suc, ◌-◌, ◌<◌, false, List, [], ◌∷◌, ◌++◌, Result, Ok, Err, length, arith, ap, ◌∙◌, subst}
 use Rattle.bosh_yaml.specs.declared.event.Event.{Event}
 use Rattle.bosh_yaml.specs.declared.fault.ReadFault.{ReadFault}
-use Rattle.bosh_yaml.specs.declared.fault.ReadFault.TheVariants.{Syntax}
 use Rattle.bosh_yaml.specs.declared.flow.Nest.{Nest}
 use Rattle.bosh_yaml.specs.declared.flow.Sign.{Sign}
 use Rattle.bosh_yaml.specs.Lines.{is_end, skip_spaces}
-use Rattle.bosh_yaml.specs.Flow.{sign_at, signs_of, form, turn, after_turn, is_whole}
-use Rattle.bosh_yaml.specs.Result.{◌>>=◌, Refuses, Gives, with_front}
-use Rattle.bosh_yaml.proofs.ResultLemmas.{Refuses-bind, with_front_twice, with_front_bind, ok_same}
+use Rattle.bosh_yaml.specs.Flow.{sign_at, signs_of, form, turn, after_turn}
+use Rattle.bosh_yaml.specs.Result.{◌>>=◌, Refuses, with_front}
+use Rattle.bosh_yaml.proofs.ResultLemmas.{Refuses-bind, with_front_twice, ok_same}
 
 abbrev Signs : Type 0
 Signs = Result (List Sign) ReadFault

@@ -1,5 +1,5 @@
 -- What a JSON text spells has the keys of each map in order, so each stands once.
-use Rattle.std.proofs.Common.{◌≡◌, ℕ, ℤ, Bool, true, false, List, [], Option, Some, None, Result, Ok, Err, if◌then◌else◌, option_map, option_and_then, refl, sym, ap, ◌∙◌, subst}
+use Rattle.std.proofs.Common.{◌≡◌, ℕ, ℤ, Bool, true, false, List, Option, Some, None, Ok, Err, if◌then◌else◌, option_map, option_and_then, sym, subst}
 use Rattle.std.specs.Str.{is_utf8}
 use Rattle.json.specs.Json as text
 use Rattle.json.specs.Lex.{tokens}
@@ -7,13 +7,12 @@ use Rattle.json.specs.Token.{Token}
 use Rattle.serde_json.specs.Data as json
 use Rattle.serde_json.specs.Find.{as_i64}
 use Rattle.serde_json.specs.Read.{max_depth, number_of, of_items, of_json, of_members, read}
-use Rattle.bosh_yaml.specs.declared.fault.ReadFault.{ReadFault}
 use Rattle.bosh_yaml.specs.declared.fault.ReadFault.TheVariants.{Syntax}
-use Rattle.bosh_yaml.specs.Json.{data_or_refused, json_data}
+use Rattle.bosh_yaml.specs.Json.{data_or_refused}
 use Rattle.bosh_yaml.specs.Limits.{HasEachKeyOnce}
 use Rattle.bosh_yaml.specs.Order.{AreInKeyOrder, HaveKeyOrder, IsInKeyOrder}
-use Rattle.bosh_yaml.specs.Spelling.{json_items, json_members, json_tree, number_tree, SpellsJson}
-use Rattle.bosh_yaml.specs.Tree.{Tree, Fields, trees_of}
+use Rattle.bosh_yaml.specs.Spelling.{json_items, json_tree, number_tree, SpellsJson}
+use Rattle.bosh_yaml.specs.Tree.{Tree, trees_of}
 use Rattle.bosh_yaml.proofs.ResultLemmas.{ok_same}
 use Rattle.bosh_yaml.proofs.OrderLemmas.{as_fields, as_fields-put, Ascend, ascend_put, in_order_once, none_ascends, order_put}
 

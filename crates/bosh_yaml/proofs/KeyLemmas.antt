@@ -1,5 +1,5 @@
 -- Keys stay distinct when a new one is added at the end, and a key is found where it is.
-use Rattle.std.proofs.Common.{◌≡◌, ℕ, Bool, true, false, ◌||◌, List, [], ◌∷◌, ◌++◌, map, refl, sym, ◌∙◌, ap, subst, Option, Some, None, cond}
+use Rattle.std.proofs.Common.{◌≡◌, ℕ, Bool, true, false, ◌||◌, List, [], ◌∷◌, ◌++◌, map, refl, sym, ◌∙◌, ap, Option, Some, None, cond}
 use Rattle.std.specs.Option.{is_some, option_map}
 use Rattle.std.proofs.lemmas.List.{map_push}
 use Rattle.bosh_yaml.specs.declared.node.Node.{Node}
@@ -7,17 +7,17 @@ use Rattle.bosh_yaml.specs.View.{pair_of}
 use Rattle.std.specs.Str.{bytes_eq}
 use Rattle.std.proofs.lemmas.Slice.Eq.{bytes_eq-Decides}
 use Rattle.std.proofs.Math.Bool.{or-false}
-use Rattle.bosh_yaml.specs.Tree.{Tree, Fields, fields_of}
+use Rattle.bosh_yaml.specs.Tree.{Tree, fields_of}
 use Rattle.bosh_yaml.specs.Keys.{has_key, HasDistinctKeys, value_at, found_field}
 
 abbrev Pair : Type 0
 Pair = List ℕ × Tree
 
-not_true : (b : Bool) → (b ≡ true → ⊥) → b ≡ false
+pub not_true : (b : Bool) → (b ≡ true → ⊥) → b ≡ false
 not_true true h = absurd (h refl)
 not_true false h = refl
 
-bytes_eq_flips : (a b : List ℕ) → bytes_eq a b ≡ false → bytes_eq b a ≡ false
+pub bytes_eq_flips : (a b : List ℕ) → bytes_eq a b ≡ false → bytes_eq b a ≡ false
 bytes_eq_flips a b h =
     not_true (bytes_eq b a) (λ e. let t : bytes_eq a b ≡ true = (bytes_eq-Decides a b).1 (sym ((bytes_eq-Decides b a).0 e)) in cc)
 

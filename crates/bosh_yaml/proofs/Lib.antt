@@ -32,3 +32,6 @@ pub mod ReadFlowLemmas
 pub mod ReadFrameLemmas
 pub mod ReadLineLemmas
 pub mod ReadSpellingLemmas
+pub mod NumberedLemmas
+pub mod NumberedLineLemmas
+pub mod NamedLineLemmas

@@ -1,5 +1,5 @@
 -- Events that make a tree, wherever it stands: they build it, nest as deep as it does, and repeat a key where it does, and only there.
-use Rattle.std.proofs.Common.{◌≡◌, ◌≤◌, ℕ, suc, ◌+◌, ◌-◌, max, Bool as Truth, true, false, true≢false, ◌⊎◌, inl, inr, List, [], ◌∷◌, ◌++◌, Option, Some, None, Result, Ok, Err, append_assoc, append-nil, refl, ap, sym, ◌∙◌, subst, arith}
+use Rattle.std.proofs.Common.{◌≡◌, ℕ, suc, ◌+◌, ◌-◌, max, Bool as Truth, true, false, true≢false, ◌⊎◌, inl, inr, List, [], ◌∷◌, ◌++◌, Some, None, Result, Ok, append_assoc, append-nil, refl, ap, sym, ◌∙◌, subst, arith}
 use Rattle.bosh_yaml.specs.declared.build.Open.{Open}
 use Rattle.bosh_yaml.specs.declared.build.Open.TheVariants.{List as ListOf, Map as MapOf, Entry as EntryOf}
 use Rattle.bosh_yaml.specs.declared.event.Event.{Event}
@@ -8,7 +8,7 @@ use Rattle.bosh_yaml.specs.declared.fault.ReadFault.{ReadFault}
 use Rattle.bosh_yaml.specs.declared.plain.Leaf.{Leaf}
 use Rattle.bosh_yaml.specs.declared.plain.Leaf.TheVariants.{Null, Bool, Int, Text}
 use Rattle.bosh_yaml.specs.Limits.{depth, depth_all, depth_keyed, HasEachKeyOnce, HaveEachKeyOnce, KeysAreNew}
-use Rattle.bosh_yaml.specs.Nodes.{Keys, no_keys, with_new, line_or, made, nesting, open_after, repeated, with_value, with_event}
+use Rattle.bosh_yaml.specs.Nodes.{Keys, no_keys, with_new, line_or, made, nesting, open_after, repeated, with_value}
 use Rattle.bosh_yaml.specs.Result.{◌>>=◌}
 use Rattle.bosh_yaml.specs.Scalar.{leaf_tree}
 use Rattle.bosh_yaml.specs.Tree.{Tree, list, map, trees_of, fields_of}

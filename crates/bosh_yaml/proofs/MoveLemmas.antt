@@ -1,18 +1,16 @@
 -- How readable lines move the reader: blank lines, lines with content, and the lines of a literal.
-use Rattle.std.proofs.Common.{◌≡◌, ◌≤◌, ◌<◌, ℕ, zero, suc, ◌+◌, Bool, true, false, not, ◌&&◌, ◌||◌, List, [], ◌∷◌, ◌++◌, Option, Some, None, Result, Ok, Err, append_assoc, append-nil, refl, ap, sym, ◌∙◌, subst, arith, nat_lt, nat_le, eqb, ◌==◌, if◌then◌else◌, inl, inr, ⊎_elim, ◌⊎◌}
+use Rattle.std.proofs.Common.{◌≡◌, ◌≤◌, ◌<◌, ℕ, zero, suc, ◌+◌, Bool, true, false, not, ◌&&◌, ◌||◌, List, [], ◌∷◌, ◌++◌, Option, Some, None, Result, Ok, Err, append_assoc, append-nil, refl, ap, sym, ◌∙◌, arith, ◌==◌, if◌then◌else◌, inl, inr}
 use Rattle.std.proofs.lemmas.Bool.Decides.{nat_tests}
 use Rattle.std.specs.Str.{is_utf8}
 use Rattle.bosh_yaml.specs.declared.block.Frame.{Frame}
 use Rattle.bosh_yaml.specs.declared.event.Event.{Event}
 use Rattle.bosh_yaml.specs.declared.event.Event.TheVariants.{Scalar}
 use Rattle.bosh_yaml.specs.declared.fault.ReadFault.{ReadFault}
-use Rattle.bosh_yaml.specs.declared.literal.Chomping.{Chomping}
 use Rattle.bosh_yaml.specs.declared.literal.Header.{Header}
 use Rattle.bosh_yaml.specs.declared.plain.Leaf.TheVariants.{Text}
-use Rattle.bosh_yaml.specs.declared.scan.Mode.{Mode}
-use Rattle.bosh_yaml.specs.declared.scan.Mode.TheVariants.{Start, Outside, Literal}
+use Rattle.bosh_yaml.specs.declared.scan.Mode.TheVariants.{Outside, Literal}
 use Rattle.bosh_yaml.specs.Content.{Outcome, add_events, items_at}
-use Rattle.bosh_yaml.specs.Events.{Scan, Scanned, content_line, end_by_mode, events_from, fixed_indent, is_readable, line_by_mode, literal_event, literal_line, more_body, plain_line, scan_of}
+use Rattle.bosh_yaml.specs.Events.{Scan, Scanned, end_by_mode, events_from, fixed_indent, line_by_mode, plain_line, scan_of}
 use Rattle.bosh_yaml.specs.Lines.{begins, is_blank, is_comment, is_end, skip_spaces}
 use Rattle.bosh_yaml.specs.Literal.{indentation, is_spaces, literal_text}
 use Rattle.bosh_yaml.specs.Result.{◌>>=◌, with_front}

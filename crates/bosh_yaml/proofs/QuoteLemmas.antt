@@ -1,7 +1,5 @@
 -- A text goes on behind its front.
-use Rattle.std.proofs.Common.{◌≡◌, ◌≢◌, ◌<◌, ◌≤◌, ℕ, ◌++◌, ◌∷◌, [], List, Option, Some, None, length, take, drop, get_or, append_assoc, sym, ap, ◌∙◌, refl, arith, eqb}
-use Rattle.std.proofs.lemmas.Bool.Decides.{nat_tests}
-use Rattle.std.proofs.lemmas.Grind.{common_steps}
+use Rattle.std.proofs.Common.{◌≡◌, ◌≢◌, ◌<◌, ◌≤◌, ℕ, ◌++◌, ◌∷◌, [], List, Some, None, length, take, drop, get_or, append_assoc, sym, ap, ◌∙◌, refl, arith}
 use Rattle.std.specs.Char.{encode_utf8}
 use Rattle.bosh_yaml.specs.Quotes.{Quoted, after_text, double_quoted, double_escaped, double_unicode, after_character, character, four_hex}
 use Rattle.bosh_yaml.proofs.LineLemmas.{differs}

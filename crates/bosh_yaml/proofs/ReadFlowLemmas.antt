@@ -1,5 +1,5 @@
 -- A flow form that is read is spelled so.
-use Rattle.std.proofs.Common.{◌≡◌, ℕ, zero, suc, ◌+◌, Bool, true, false, not, ◌&&◌, ◌||◌, List, [], ◌∷◌, ◌++◌, Option, Some, None, Result, Ok, Err, length, refl, ap, sym, ◌∙◌, subst, arith, eqb, if◌then◌else◌, ◌==◌, inl, inr, ◌⊎◌}
+use Rattle.std.proofs.Common.{◌≡◌, ℕ, zero, suc, Bool, true, false, ◌||◌, List, [], ◌∷◌, ◌++◌, Some, None, Result, Ok, length, refl, ap, sym, subst, arith, if◌then◌else◌, ◌==◌, inl, inr, ◌⊎◌}
 use Rattle.std.proofs.lemmas.Bool.Decides.{nat_tests}
 use Rattle.bosh_yaml.specs.declared.bare.Place.TheVariants.{Flow}
 use Rattle.bosh_yaml.specs.declared.event.Event.{Event}
@@ -9,10 +9,9 @@ use Rattle.bosh_yaml.specs.declared.flow.Nest.{Nest}
 use Rattle.bosh_yaml.specs.declared.flow.Nest.TheVariants.{BeforeForm, AfterForm, BeforeItem, AfterItem, BeforeKey, AfterKey, AfterEntry}
 use Rattle.bosh_yaml.specs.declared.flow.Sign.{Sign}
 use Rattle.bosh_yaml.specs.declared.flow.Sign.TheVariants.{OpenList, OpenMap, CloseList, CloseMap, Comma, Scalar, Key}
-use Rattle.bosh_yaml.specs.declared.plain.Leaf.{Leaf}
 use Rattle.bosh_yaml.specs.declared.word.Word.{Word}
-use Rattle.bosh_yaml.specs.Flow.{Turn, ends_key, word_sign, sign_of, sign_at, sign_or_word, signs_of, after_value, after_key, comma, close_list, close_map, turn, form, form_of, is_whole}
-use Rattle.bosh_yaml.specs.Lines.{begins, is_end, is_gap, skip_spaces}
+use Rattle.bosh_yaml.specs.Flow.{Turn, ends_key, word_sign, sign_at, sign_or_word, signs_of, after_value, after_key, comma, close_list, close_map, turn, form, form_of, is_whole}
+use Rattle.bosh_yaml.specs.Lines.{begins, is_end, skip_spaces}
 use Rattle.bosh_yaml.specs.Result.{◌>>=◌, with_front}
 use Rattle.bosh_yaml.specs.Scalar.{leaf_tree}
 use Rattle.bosh_yaml.specs.SpelledWord.{SpellsWord, IsKey}
@@ -20,8 +19,8 @@ use Rattle.bosh_yaml.specs.SpelledFlow.{SpellsFlow, SpellsFlowItems, SpellsFlowE
 use Rattle.bosh_yaml.specs.Tree.{Tree, null, list, map, trees_of, fields_of}
 use Rattle.bosh_yaml.specs.Word.{word_at, leaf_of, key_of, refused}
 use Rattle.bosh_yaml.proofs.ResultLemmas.{ok_same}
-use Rattle.bosh_yaml.proofs.ReadWordLemmas.{bind_ok, if_ok, unless_ok, word_ok, key_ok}
-use Rattle.bosh_yaml.proofs.SpelledWordLemmas.{word_opens, OpensWord, Opens}
+use Rattle.bosh_yaml.proofs.ReadWordLemmas.{bind_ok, if_ok, word_ok, key_ok}
+use Rattle.bosh_yaml.proofs.SpelledWordLemmas.{word_opens, Opens}
 
 -- the sign that stands at the front
 abbrev pub IsSign : List ℕ → Sign → List ℕ → Type 0

@@ -1,5 +1,5 @@
 -- What the lines that follow spell, where these frames are open.
-use Rattle.std.proofs.Common.{◌≡◌, ◌≤◌, ◌<◌, ℕ, zero, suc, ◌+◌, Bool, true, false, List, [], ◌∷◌, ◌++◌, Option, Some, None, Result, Ok, Err, refl, ap, sym, ◌∙◌, subst, arith, nat_lt, nat_le, eqb, if◌then◌else◌, ◌==◌, inl, inr, ◌⊎◌}
+use Rattle.std.proofs.Common.{◌≡◌, ◌≤◌, ◌<◌, ℕ, Bool, true, false, List, [], ◌∷◌, ◌++◌, Option, None, Result, Ok, refl, ap, sym, ◌∙◌, subst, arith, nat_lt, nat_le, if◌then◌else◌, ◌==◌, inl, inr, ◌⊎◌}
 use Rattle.std.proofs.lemmas.Bool.Decides.{nat_tests}
 use Rattle.bosh_yaml.specs.declared.block.Frame.{Frame}
 use Rattle.bosh_yaml.specs.declared.block.Frame.TheVariants.{Whole, Done, Item, List as ListAt, Entry, Map as MapAt}
@@ -7,8 +7,6 @@ use Rattle.bosh_yaml.specs.declared.event.Event.{Event}
 use Rattle.bosh_yaml.specs.declared.event.Event.TheVariants.{OpenList, OpenMap, Key, Close}
 use Rattle.bosh_yaml.specs.declared.fault.ReadFault.{ReadFault}
 use Rattle.bosh_yaml.specs.Block.{Placed, after_events, nothing, place_dash, place_key, place_value}
-use Rattle.bosh_yaml.specs.Result.{◌>>=◌}
-use Rattle.bosh_yaml.specs.Word.{refused}
 use Rattle.bosh_yaml.specs.SpelledBlock.{Each, spaces, IsBlank, begins_content, SpellsAt, SpellsItems, SpellsEntries, sequence, mapping}
 use Rattle.bosh_yaml.specs.Tree.{Tree, list, map, trees_of, fields_of}
 use Rattle.bosh_yaml.proofs.MoveLemmas.{Lines}

@@ -1,13 +1,11 @@
 -- What a line that is read spells, with the lines behind it.
-use Rattle.std.proofs.Common.{◌≡◌, ◌≤◌, ◌<◌, ℕ, zero, suc, ◌+◌, Bool, true, false, not, ◌&&◌, ◌||◌, List, [], ◌∷◌, ◌++◌, Option, Some, None, Result, Ok, Err, append_assoc, append-nil, refl, ap, sym, ◌∙◌, subst, arith, nat_lt, nat_le, eqb, if◌then◌else◌, ◌==◌, inl, inr, ◌⊎◌}
+use Rattle.std.proofs.Common.{◌≡◌, ◌<◌, ℕ, zero, suc, ◌+◌, Bool, true, false, ◌&&◌, ◌||◌, List, [], ◌∷◌, ◌++◌, Option, Some, None, Ok, append_assoc, refl, ap, sym, ◌∙◌, subst, arith, if◌then◌else◌, ◌==◌, inl, inr, ◌⊎◌}
 use Rattle.std.proofs.lemmas.Bool.Decides.{nat_tests}
 use Rattle.std.specs.Str.{is_utf8}
 use Rattle.bosh_yaml.specs.declared.bare.Place.TheVariants.{Block}
 use Rattle.bosh_yaml.specs.declared.block.Frame.{Frame}
-use Rattle.bosh_yaml.specs.declared.block.Frame.TheVariants.{Whole, Done, Item, List as ListAt, Entry, Map as MapAt}
-use Rattle.bosh_yaml.specs.declared.event.Event.{Event}
+use Rattle.bosh_yaml.specs.declared.block.Frame.TheVariants.{Item, List as ListAt, Entry, Map as MapAt}
 use Rattle.bosh_yaml.specs.declared.event.Event.TheVariants.{Scalar, OpenList, OpenMap, Key}
-use Rattle.bosh_yaml.specs.declared.fault.ReadFault.{ReadFault}
 use Rattle.bosh_yaml.specs.declared.literal.Chomping.{Chomping}
 use Rattle.bosh_yaml.specs.declared.literal.Chomping.TheVariants.{Clip, Strip}
 use Rattle.bosh_yaml.specs.declared.literal.Header.{Header}
@@ -16,23 +14,23 @@ use Rattle.bosh_yaml.specs.declared.scan.Mode.TheVariants.{Start, Outside, Liter
 use Rattle.bosh_yaml.specs.declared.word.Word.{Word}
 use Rattle.bosh_yaml.specs.Block.{Placed, place_dash, place_key, place_value}
 use Rattle.bosh_yaml.specs.Content.{Outcome, add_events, scalar_at, flow_at, chomping_of, literal_at, begins_form, form_at, value_at, entry_at, key_at, key_or_scalar, content_at, items_at}
-use Rattle.bosh_yaml.specs.Events.{Scan, next_mode, scan_of}
+use Rattle.bosh_yaml.specs.Events.{next_mode}
 use Rattle.bosh_yaml.specs.Flow.{form_of}
 use Rattle.bosh_yaml.specs.Lines.{begins, is_blank, is_comment, is_end, is_gap, skip_spaces}
-use Rattle.bosh_yaml.specs.Literal.{indentation, is_spaces, literal_text}
-use Rattle.bosh_yaml.specs.Result.{◌>>=◌, with_front}
+use Rattle.bosh_yaml.specs.Literal.{literal_text}
+use Rattle.bosh_yaml.specs.Result.{◌>>=◌}
 use Rattle.bosh_yaml.specs.Scalar.{leaf_tree}
-use Rattle.bosh_yaml.specs.SpelledBlock.{Each, spaces, IsBlank, begins_content, IsBodyLine, IsWithin, IsIndentation, IsTail, SpellsChomping, clip, strip, SpellsValue, SpellsNode, SpellsAt, SpellsItems, SpellsItem, SpellsEntries, SpellsEntry, scalar, flow, literal, node, value, sequence, mapping, last_item, item, null_item, item_below, item_beside, last_entry, entry, null_value, value_below, items_level, value_beside}
+use Rattle.bosh_yaml.specs.SpelledBlock.{Each, spaces, begins_content, IsBodyLine, IsWithin, IsIndentation, IsTail, SpellsChomping, clip, strip, SpellsValue, SpellsItem, SpellsEntry, scalar, flow, literal, node, value, last_item, item, null_item, item_below, item_beside, last_entry, entry, null_value, value_below, items_level, value_beside}
 use Rattle.bosh_yaml.specs.SpelledFlow.{SpellsFlow}
 use Rattle.bosh_yaml.specs.SpelledWord.{SpellsWord, IsKey}
-use Rattle.bosh_yaml.specs.Tree.{Tree, null, text, list, map, trees_of, fields_of}
+use Rattle.bosh_yaml.specs.Tree.{Tree, null, text, list, trees_of}
 use Rattle.bosh_yaml.specs.Word.{word_at, leaf_of, key_of, refused}
 use Rattle.bosh_yaml.proofs.FrameLemmas.{is_less}
 use Rattle.bosh_yaml.proofs.MoveLemmas.{skip_indentation}
 use Rattle.bosh_yaml.proofs.MoveLemmas.{Lines}
 use Rattle.bosh_yaml.proofs.ReadFlowLemmas.{form_ok}
 use Rattle.bosh_yaml.proofs.ReadFrameLemmas.{Follows, Closed, Sequence, Mapping, Node, AtItems, AtEntries, At, list_node, map_node, dash_fits, key_fits, value_belongs}
-use Rattle.bosh_yaml.proofs.ReadWordLemmas.{bind_ok, if_ok, unless_ok, word_ok, key_ok}
+use Rattle.bosh_yaml.proofs.ReadWordLemmas.{bind_ok, if_ok, word_ok, key_ok}
 use Rattle.bosh_yaml.proofs.ResultLemmas.{ok_same}
 
 -- how a literal goes on: its indentation may be fixed already

@@ -1,10 +1,9 @@
 -- What is read is spelled so.
-use Rattle.std.proofs.Common.{◌≡◌, ◌≤◌, ◌<◌, ℕ, zero, suc, ◌+◌, Bool, true, false, not, ◌&&◌, ◌||◌, List, [], ◌∷◌, ◌++◌, length, Option, Some, None, Result, Ok, Err, append_assoc, append-nil, refl, ap, sym, ◌∙◌, subst, arith, nat_lt, nat_le, eqb, if◌then◌else◌, ◌==◌, inl, inr, ◌⊎◌}
+use Rattle.std.proofs.Common.{◌≡◌, ◌≤◌, ◌<◌, ℕ, ◌+◌, Bool, true, false, List, [], ◌∷◌, ◌++◌, length, Option, Some, None, Result, Ok, append_assoc, append-nil, refl, ap, sym, ◌∙◌, subst, arith, nat_lt, nat_le, if◌then◌else◌, inl, inr}
 use Rattle.std.proofs.lemmas.Bool.Decides.{nat_tests}
 use Rattle.std.specs.Str.{is_utf8}
-use Rattle.serde_json.specs.Data as json
 use Rattle.bosh_yaml.specs.declared.block.Frame.{Frame}
-use Rattle.bosh_yaml.specs.declared.block.Frame.TheVariants.{Whole, Done}
+use Rattle.bosh_yaml.specs.declared.block.Frame.TheVariants.{Whole}
 use Rattle.bosh_yaml.specs.declared.event.Event.{Event}
 use Rattle.bosh_yaml.specs.declared.event.Event.TheVariants.{Scalar}
 use Rattle.bosh_yaml.specs.declared.fault.ReadFault.{ReadFault}
@@ -13,22 +12,22 @@ use Rattle.bosh_yaml.specs.declared.plain.Leaf.TheVariants.{Text}
 use Rattle.bosh_yaml.specs.declared.scan.Mode.{Mode}
 use Rattle.bosh_yaml.specs.declared.scan.Mode.TheVariants.{Start, Outside, Literal}
 use Rattle.bosh_yaml.specs.Block.{place_end}
-use Rattle.bosh_yaml.specs.Content.{Outcome, items_at}
-use Rattle.bosh_yaml.specs.Events.{Scan, Scanned, content_line, end_by_mode, events_of, events_from, first_line, fixed_indent, is_marker, is_readable, line_by_mode, literal_event, literal_line, more_body, one_line, plain_line, scan_of, start}
+use Rattle.bosh_yaml.specs.Content.{items_at}
+use Rattle.bosh_yaml.specs.Events.{Scan, Scanned, content_line, end_by_mode, events_of, events_from, fixed_indent, is_marker, is_readable, line_by_mode, literal_event, literal_line, more_body, one_line, plain_line, scan_of, start}
 use Rattle.bosh_yaml.specs.Json.{has_integers, json_data, json_events}
 use Rattle.bosh_yaml.specs.Lines.{begins, is_blank, lines_of, skip_spaces}
 use Rattle.bosh_yaml.specs.Literal.{indentation, is_spaces, literal_text}
 use Rattle.bosh_yaml.specs.Nodes.{made, nesting, repeated}
 use Rattle.bosh_yaml.specs.Reading.{reading, yaml_reading, json_reading, json_checked, checked, integers_only}
 use Rattle.bosh_yaml.specs.Result.{◌>>=◌, with_front}
-use Rattle.bosh_yaml.specs.SpelledBlock.{Each, spaces, IsBlank, IsBodyLine, IsWithin, IsIndentation, IsTail, SpellsNode, SpellsAt, node}
-use Rattle.bosh_yaml.specs.Spelling.{IsReadable, SpellsContent, nothing, content, is_marked, SpellsLines, marked, unmarked, SpellsJson, Spells, as_json, as_yaml, json_tree}
+use Rattle.bosh_yaml.specs.SpelledBlock.{Each, spaces, IsBlank, IsTail, SpellsNode, node}
+use Rattle.bosh_yaml.specs.Spelling.{IsReadable, SpellsContent, nothing, content, SpellsLines, marked, unmarked, Spells, as_json, as_yaml, json_tree}
 use Rattle.bosh_yaml.specs.Tree.{Tree, null}
-use Rattle.bosh_yaml.specs.Word.{refused, text_of}
+use Rattle.bosh_yaml.specs.Word.{text_of}
 use Rattle.bosh_yaml.proofs.MakesLemmas.{Makes, makes_whole}
-use Rattle.bosh_yaml.proofs.MoveLemmas.{Lines, Events, moves}
-use Rattle.bosh_yaml.proofs.ReadFrameLemmas.{Follows, Closed, Node, At, nowhere}
-use Rattle.bosh_yaml.proofs.ReadLineLemmas.{Indents, InLiteral, Fit, FitOutcome, line_got}
+use Rattle.bosh_yaml.proofs.MoveLemmas.{Lines, moves}
+use Rattle.bosh_yaml.proofs.ReadFrameLemmas.{Follows, Closed, At, nowhere}
+use Rattle.bosh_yaml.proofs.ReadLineLemmas.{Indents, InLiteral, Fit, line_got}
 use Rattle.bosh_yaml.proofs.ReadWordLemmas.{bind_ok, if_ok, unless_ok}
 use Rattle.bosh_yaml.proofs.ResultLemmas.{ok_same}
 use Rattle.bosh_yaml.proofs.SpellingLemmas.{json_makes, yaml_is_read}
@@ -204,6 +203,14 @@ all_readable (bytes ∷ lines) line scan es h =
     let m = bind_ok (events_from (line + 1) n.0.1 lines) (λ fs. Ok (n.0.0 ++ fs)) es n.2 in
     let k = all_readable lines (line + 1) n.0.1 m.0 m.1 in
     ((r.0, k.0), ap (λ read. read >>= λ next. with_front next.0 (moves (line + 1) next.1 lines)) r.1 ∙ ap (λ read. with_front n.0.0 read) k.1 ∙ m.2)
+
+-- events that are read make a tree
+pub events_make : (text : List ℕ) (es : List Event) → events_of text ≡ Ok es → (t : Tree) × Makes es t
+events_make text es h =
+    let r = all_readable (lines_of text) 1 start es h in
+    let s = start_fits (lines_of text) 1 es r.1 in
+    let y = yaml_is_read text s.0 r.0 s.1 in
+    (s.0, subst (λ es. Makes es s.0) (ok_same (sym y.1 ∙ h)) y.2)
 
 checked_made : (line : Option ℕ) (es : List Event) (t : Tree) → checked line es ≡ Ok t → made None [] es ≡ Ok t
 checked_made (Some line) es t h = absurd (cc)

@@ -1,6 +1,6 @@
 -- A scalar that is read is spelled so.
-use Rattle.std.proofs.Common.{◌≡◌, ◌≢◌, ◌≤◌, ◌<◌, ℕ, zero, suc, ◌+◌, Bool, true, false, not, ◌&&◌, ◌||◌, List, [], ◌∷◌, ◌++◌, Option, Some, None, Result, Ok, Err, length, take, drop, codes, refl, ap, sym, ◌∙◌, subst, arith, eqb, if◌then◌else◌, ◌==◌}
-use Rattle.std.proofs.lemmas.Bool.Decides.{nat_tests, eqb_tells}
+use Rattle.std.proofs.Common.{◌≡◌, ℕ, suc, Bool, true, false, List, [], ◌∷◌, ◌++◌, Option, Some, None, Result, Ok, Err, length, take, drop, codes, refl, ap, sym, ◌∙◌, subst, arith, if◌then◌else◌, ◌==◌}
+use Rattle.std.proofs.lemmas.Bool.Decides.{nat_tests}
 use Rattle.std.specs.Str.{is_utf8, bytes_eq}
 use Rattle.bosh_yaml.specs.declared.bare.Place.{Place}
 use Rattle.bosh_yaml.specs.declared.fault.ReadFault.{ReadFault}
@@ -10,7 +10,7 @@ use Rattle.bosh_yaml.specs.Bare.{ends_plain, plain_len, starts_plain, trim_end}
 use Rattle.bosh_yaml.specs.Quotes.{single_quoted, double_quoted}
 use Rattle.bosh_yaml.specs.Result.{◌>>=◌}
 use Rattle.bosh_yaml.specs.SpelledWord.{SpellsWord, GoesOn, Stops, IsKey, in_single_quotes, in_double_quotes, unquoted}
-use Rattle.bosh_yaml.specs.Word.{word_at, quoted_word, plain_word, key_of, text_of, refused}
+use Rattle.bosh_yaml.specs.Word.{word_at, quoted_word, plain_word, key_of, text_of}
 use Rattle.bosh_yaml.proofs.ResultLemmas.{ok_same}
 
 -- a step that was taken: what it gave, and what was made of it

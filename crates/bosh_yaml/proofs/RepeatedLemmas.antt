@@ -1,5 +1,5 @@
 -- A text that spells a tree in which a key stands twice in its map is refused for it.
-use Rattle.std.proofs.Common.{◌≡◌, ◌≤◌, ℕ, List, Result, Err, length, refl}
+use Rattle.std.proofs.Common.{◌≡◌, ◌≤◌, ℕ, List, Err, length, refl}
 use Rattle.bosh_yaml.specs.declared.fault.ReadFault.TheVariants.{RepeatedKey}
 use Rattle.bosh_yaml.specs.Limits.{HasEachKeyOnce}
 use Rattle.bosh_yaml.specs.Reading.{reading}

@@ -1,8 +1,8 @@
 -- Refusals go on through the steps that follow, and fronts add up.
-use Rattle.std.proofs.Common.{◌≡◌, ℕ, List, [], ◌∷◌, ◌++◌, Result, Ok, Err, append_assoc, refl, ap, sym, ◌∙◌, subst}
+use Rattle.std.proofs.Common.{◌≡◌, List, ◌++◌, Result, Ok, Err, append_assoc, refl, ap}
 use Rattle.bosh_yaml.specs.declared.fault.ReadFault.{ReadFault}
 use Rattle.bosh_yaml.specs.declared.fault.ReadFault.TheVariants.{Syntax, RepeatedKey, TooDeep, TooLarge, Number, Memory}
-use Rattle.bosh_yaml.specs.Result.{◌>>=◌, Refuses, Gives, with_front}
+use Rattle.bosh_yaml.specs.Result.{◌>>=◌, Refuses, with_front}
 
 pub Refuses-bind : {A B : Type 0} (e : ReadFault) (read : Result A ReadFault) (f : A → Result B ReadFault) → Refuses e read → Refuses e (read >>= f)
 Refuses-bind Memory read f h = tt

@@ -1,13 +1,12 @@
 -- A set holds a new key beside those that it held.
-use Rattle.std.proofs.Common.{◌≡◌, ℕ, Bool, true, false, ◌||◌, not, cond, List, [], ◌∷◌, Option, Some, None, refl, ap, sym, ◌∙◌, Bor}
+use Rattle.std.proofs.Common.{◌≡◌, ℕ, Bool, true, false, ◌||◌, not, cond, List, ◌∷◌, Some, refl, ◌∙◌}
 use Rattle.std.specs.Str.{bytes_eq}
 use Rattle.std.specs.Ordering.{nat_cmp, is_eq}
 use Rattle.std.specs.Cmp.Lexicographic.{slice_cmp}
 use Rattle.std.proofs.lemmas.Map.Text.{is_eq-slice_cmp}
 use Rattle.bosh_yaml.specs.declared.event.Event.{Event}
 use Rattle.bosh_yaml.specs.declared.event.Event.TheVariants.{Key}
-use Rattle.bosh_yaml.specs.Nodes.{Keys, with_new, line_or, repeated, no_keys}
-use Rattle.bosh_yaml.specs.Seen.{keys_in, keys_of_set, line_or_else}
+use Rattle.bosh_yaml.specs.Nodes.{Keys, with_new, repeated}
 
 -- two tests that agree on each key are one
 pub same_keys : (a b : Keys) → ((key : List ℕ) → a key ≡ b key) → a ≡ b

@@ -1,26 +1,24 @@
 -- A node that is spelled by lines is read.
-use Rattle.std.proofs.Common.{◌≡◌, ◌≤◌, ◌<◌, ℕ, zero, suc, ◌+◌, Bool, true, false, not, ◌&&◌, ◌||◌, List, [], ◌∷◌, ◌++◌, Option, Some, None, Result, Ok, Err, append_assoc, append-nil, refl, ap, sym, ◌∙◌, subst, arith, eqb, ◌==◌, if◌then◌else◌}
+use Rattle.std.proofs.Common.{◌≡◌, ◌≤◌, ℕ, zero, suc, ◌+◌, Bool, true, false, not, ◌&&◌, ◌||◌, List, [], ◌∷◌, ◌++◌, Option, Some, None, Result, Ok, append_assoc, append-nil, refl, ap, sym, ◌∙◌, subst, arith, ◌==◌}
 use Rattle.bosh_yaml.specs.declared.bare.Place.TheVariants.{Block}
 use Rattle.bosh_yaml.specs.declared.block.Frame.{Frame}
 use Rattle.bosh_yaml.specs.declared.block.Frame.TheVariants.{Item, List as ListAt, Entry, Map as MapAt}
 use Rattle.bosh_yaml.specs.declared.event.Event.{Event}
-use Rattle.bosh_yaml.specs.declared.event.Event.TheVariants.{Scalar, OpenList, OpenMap, Key, Close}
+use Rattle.bosh_yaml.specs.declared.event.Event.TheVariants.{OpenList, OpenMap, Key, Close}
 use Rattle.bosh_yaml.specs.declared.fault.ReadFault.{ReadFault}
 use Rattle.bosh_yaml.specs.declared.plain.Leaf.TheVariants.{Null}
 use Rattle.bosh_yaml.specs.declared.word.Word.{Word}
-use Rattle.bosh_yaml.specs.Block.{Placed, nothing, place_dash, place_key, place_end}
-use Rattle.bosh_yaml.specs.Content.{Outcome, add_events, value_at, entry_at, key_at, key_or_scalar, content_at, items_at}
-use Rattle.bosh_yaml.specs.Events.{scan_of}
-use Rattle.bosh_yaml.specs.Lines.{begins, is_blank, is_comment, is_end, is_gap, skip_spaces}
+use Rattle.bosh_yaml.specs.Block.{nothing, place_dash, place_key, place_end}
+use Rattle.bosh_yaml.specs.Content.{Outcome, add_events, value_at, entry_at, key_or_scalar, items_at}
+use Rattle.bosh_yaml.specs.Lines.{is_blank, is_comment, is_end, is_gap, skip_spaces}
 use Rattle.bosh_yaml.specs.Literal.{indentation, is_spaces}
-use Rattle.bosh_yaml.specs.Result.{◌>>=◌, with_front}
-use Rattle.bosh_yaml.specs.SpelledBlock.{Each, spaces, IsBlank, begins_content, SpellsValue, SpellsNode, SpellsAt, SpellsItems, SpellsItem, SpellsEntries, SpellsEntry, node, value, sequence, mapping, last_item, item, null_item, item_below, item_beside, last_entry, entry, null_value, value_below, items_level, value_beside}
+use Rattle.bosh_yaml.specs.Result.{with_front}
+use Rattle.bosh_yaml.specs.SpelledBlock.{Each, spaces, IsBlank, begins_content, SpellsNode, SpellsAt, SpellsItems, SpellsItem, SpellsEntries, SpellsEntry, node, value, sequence, mapping, last_item, item, null_item, item_below, item_beside, last_entry, entry, null_value, value_below, items_level, value_beside}
 use Rattle.bosh_yaml.specs.SpelledWord.{SpellsWord, IsKey}
 use Rattle.bosh_yaml.specs.Tree.{Tree, null, list, map, trees_of, fields_of}
-use Rattle.bosh_yaml.specs.Word.{key_of}
 use Rattle.bosh_yaml.proofs.FrameLemmas.{Within, Below, below_within, within_below, within_less, within_append, below_append, end_append, Accepts, filled, dash_placed, key_placed, dash_again, dash_after_none, key_again, key_after_none, dash_level}
 use Rattle.bosh_yaml.proofs.MakesLemmas.{Makes, MakesItems, MakesEntries, makes_scalar, makes_list, makes_map, no_items, more_items, no_entries, more_entries}
-use Rattle.bosh_yaml.proofs.MoveLemmas.{Lines, Events, moves, after_lines, after_append, outside, after_outcome, after_add, blank_moves, content_moves, skip_content, skip_indentation, items_spaces, items_end, Halts}
+use Rattle.bosh_yaml.proofs.MoveLemmas.{Lines, moves, after_lines, after_append, outside, after_outcome, after_add, blank_moves, content_moves, skip_indentation, items_spaces, items_end, Halts}
 use Rattle.bosh_yaml.proofs.ResultLemmas.{with_front_twice}
 use Rattle.bosh_yaml.proofs.SpelledFlowLemmas.{with_none}
 use Rattle.bosh_yaml.proofs.SpelledValueLemmas.{OpensContent, word_content, items_content, Owns, ValueRead, word_is_read, value_is_read, value_opens}

@@ -1,6 +1,5 @@
 -- A flow form that is spelled is read: its signs stand in the bytes, and they make its tree.
-use Rattle.std.proofs.Common.{◌≡◌, ◌≤◌, ◌<◌, ℕ, zero, suc, ◌+◌, ◌-◌, Bool, true, false, not, ◌&&◌, ◌||◌, List, [], ◌∷◌, ◌++◌, Option, Some, None, Result, Ok, Err, length, append_assoc, append-nil, refl, ap, sym, ◌∙◌, subst, arith, eqb, if◌then◌else◌, ◌==◌}
-use Rattle.std.proofs.lemmas.Bool.Decides.{nat_tests, eqb_tells}
+use Rattle.std.proofs.Common.{◌≡◌, ◌≤◌, ◌<◌, ℕ, zero, suc, Bool, true, false, ◌&&◌, ◌||◌, List, [], ◌∷◌, ◌++◌, Some, None, Result, Ok, Err, length, append_assoc, append-nil, refl, ap, sym, ◌∙◌, subst, arith, if◌then◌else◌, ◌==◌}
 use Rattle.bosh_yaml.specs.declared.bare.Place.TheVariants.{Flow}
 use Rattle.bosh_yaml.specs.declared.event.Event.{Event}
 use Rattle.bosh_yaml.specs.declared.event.Event.TheVariants as event
@@ -9,20 +8,16 @@ use Rattle.bosh_yaml.specs.declared.flow.Nest.{Nest}
 use Rattle.bosh_yaml.specs.declared.flow.Nest.TheVariants.{BeforeForm, AfterForm, BeforeItem, AfterItem, BeforeKey, AfterKey, AfterEntry}
 use Rattle.bosh_yaml.specs.declared.flow.Sign.{Sign}
 use Rattle.bosh_yaml.specs.declared.flow.Sign.TheVariants.{OpenList, OpenMap, CloseList, CloseMap, Comma, Scalar, Key}
-use Rattle.bosh_yaml.specs.declared.build.Open.{Open}
-use Rattle.bosh_yaml.specs.declared.build.Open.TheVariants.{List as ListOf, Map as MapOf, Entry as EntryOf}
-use Rattle.bosh_yaml.specs.declared.plain.Leaf.{Leaf}
 use Rattle.bosh_yaml.specs.declared.plain.Leaf.TheVariants as leaf
 use Rattle.bosh_yaml.specs.declared.word.Word.{Word}
-use Rattle.bosh_yaml.specs.Flow.{ends_key, word_sign, sign_of, sign_at, sign_or_word, signs_of, after_value, turn, form, form_of, is_whole}
-use Rattle.bosh_yaml.specs.Lines.{begins, is_blank, is_comment, is_end, is_gap, skip_spaces}
-use Rattle.bosh_yaml.specs.Nodes.{Step, made, with_value, with_event}
+use Rattle.bosh_yaml.specs.Flow.{ends_key, word_sign, sign_of, sign_at, sign_or_word, signs_of, after_value, form, form_of}
+use Rattle.bosh_yaml.specs.Lines.{begins, is_comment, is_end, skip_spaces}
 use Rattle.bosh_yaml.specs.Result.{◌>>=◌, with_front}
 use Rattle.bosh_yaml.specs.Scalar.{leaf_tree}
-use Rattle.bosh_yaml.specs.SpelledWord.{SpellsWord, IsKey, in_single_quotes, in_double_quotes, unquoted}
+use Rattle.bosh_yaml.specs.SpelledWord.{SpellsWord, IsKey}
 use Rattle.bosh_yaml.specs.SpelledFlow.{SpellsFlow, SpellsFlowItems, SpellsFlowEntries, SpellsFlowEntry, scalar, sequence, mapping, no_item, last_item, item, no_entry, last_entry, entry, bare_key, valued_key}
 use Rattle.bosh_yaml.specs.Tree.{Tree, null, list, map, trees_of, fields_of}
-use Rattle.bosh_yaml.specs.Word.{word_at, leaf_of, key_of, refused}
+use Rattle.bosh_yaml.specs.Word.{word_at, leaf_of}
 use Rattle.bosh_yaml.proofs.ResultLemmas.{with_front_twice}
 use Rattle.bosh_yaml.proofs.SpelledWordLemmas.{word_spelled, key_spelled, word_shorter, word_opens, OpensWord, Opens}
 use Rattle.bosh_yaml.proofs.MakesLemmas.{Makes, MakesItems, MakesEntries, makes_scalar, makes_list, makes_map, no_items, more_items, no_entries, more_entries}

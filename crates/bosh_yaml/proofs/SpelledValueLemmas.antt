@@ -1,33 +1,32 @@
 -- A scalar, a flow form or a literal that is spelled is read.
-use Rattle.std.proofs.Common.{◌≡◌, ◌≤◌, ◌<◌, ℕ, zero, suc, ◌+◌, Bool, true, false, not, ◌&&◌, ◌||◌, List, [], ◌∷◌, ◌++◌, Option, Some, None, Result, Ok, Err, append_assoc, append-nil, refl, ap, sym, ◌∙◌, subst, arith, eqb, ◌==◌, if◌then◌else◌, inl, inr, ⊎_elim, ◌⊎◌}
+use Rattle.std.proofs.Common.{◌≡◌, ◌≤◌, ℕ, ◌+◌, Bool, true, false, ◌&&◌, ◌||◌, List, [], ◌∷◌, ◌++◌, Option, Some, None, Ok, append_assoc, refl, ap, sym, ◌∙◌, arith, ◌==◌, inl, inr, ◌⊎◌}
 use Rattle.std.proofs.lemmas.Bool.Decides.{nat_tests}
 use Rattle.std.specs.Str.{is_utf8}
 use Rattle.bosh_yaml.specs.declared.bare.Place.TheVariants.{Block}
 use Rattle.bosh_yaml.specs.declared.block.Frame.{Frame}
 use Rattle.bosh_yaml.specs.declared.event.Event.{Event}
 use Rattle.bosh_yaml.specs.declared.event.Event.TheVariants.{Scalar}
-use Rattle.bosh_yaml.specs.declared.fault.ReadFault.{ReadFault}
 use Rattle.bosh_yaml.specs.declared.literal.Chomping.{Chomping}
-use Rattle.bosh_yaml.specs.declared.literal.Chomping.TheVariants.{Clip, Strip}
+use Rattle.bosh_yaml.specs.declared.literal.Chomping.TheVariants.{Clip}
 use Rattle.bosh_yaml.specs.declared.literal.Header.{Header}
 use Rattle.bosh_yaml.specs.declared.plain.Leaf.TheVariants.{Text}
 use Rattle.bosh_yaml.specs.declared.word.Word.{Word}
-use Rattle.bosh_yaml.specs.Content.{Outcome, scalar_at, flow_at, chomping_of, literal_at, begins_form, form_at, value_at, content_at, key_or_scalar, items_at}
+use Rattle.bosh_yaml.specs.Content.{Outcome, scalar_at, flow_at, chomping_of, literal_at, begins_form, value_at, content_at, key_or_scalar, items_at}
 use Rattle.bosh_yaml.specs.Block.{place_value}
 use Rattle.bosh_yaml.specs.Events.{scan_of}
 use Rattle.bosh_yaml.specs.Flow.{form_of}
-use Rattle.bosh_yaml.specs.Lines.{is_blank, is_comment, is_end, is_gap, skip_spaces}
-use Rattle.bosh_yaml.specs.Literal.{indentation, is_spaces, literal_text}
+use Rattle.bosh_yaml.specs.Lines.{is_blank, is_end, is_gap, skip_spaces}
+use Rattle.bosh_yaml.specs.Literal.{literal_text}
 use Rattle.bosh_yaml.specs.Result.{◌>>=◌, with_front}
 use Rattle.bosh_yaml.specs.Scalar.{leaf_tree}
 use Rattle.bosh_yaml.specs.SpelledBlock.{Each, IsBlank, IsBodyLine, IsIndentation, IsTail, SpellsChomping, clip, strip, SpellsValue, scalar, flow, literal}
 use Rattle.bosh_yaml.specs.SpelledFlow.{SpellsFlow}
-use Rattle.bosh_yaml.specs.SpelledWord.{SpellsWord, IsKey}
+use Rattle.bosh_yaml.specs.SpelledWord.{SpellsWord}
 use Rattle.bosh_yaml.specs.Tree.{Tree, text}
 use Rattle.bosh_yaml.specs.Word.{word_at, leaf_of}
 use Rattle.bosh_yaml.proofs.FrameLemmas.{Accepts, filled, value_placed}
 use Rattle.bosh_yaml.proofs.MakesLemmas.{Makes, makes_scalar}
-use Rattle.bosh_yaml.proofs.MoveLemmas.{Lines, Events, moves, after_lines, after_append, outside, after_outcome, blank_moves, within_literal, body_moves, Halts, literal_ends}
+use Rattle.bosh_yaml.proofs.MoveLemmas.{Lines, moves, after_lines, after_append, outside, blank_moves, within_literal, body_moves, Halts, literal_ends}
 use Rattle.bosh_yaml.proofs.SpelledFlowLemmas.{form_read, with_none}
 use Rattle.bosh_yaml.proofs.SpelledWordLemmas.{word_spelled, word_opens, OpensWord, Opens}
 

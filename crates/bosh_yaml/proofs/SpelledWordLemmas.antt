@@ -1,20 +1,18 @@
 -- A scalar that is spelled is read.
-use Rattle.std.proofs.Common.{◌≡◌, ◌≢◌, ◌≤◌, ◌<◌, ℕ, zero, suc, ◌+◌, Bool, true, false, not, ◌&&◌, ◌||◌, List, [], ◌∷◌, ◌++◌, Option, Some, None, Result, Ok, Err, length, take, drop, codes, refl, ap, sym, ◌∙◌, subst, arith, eqb, if◌then◌else◌, ◌==◌}
-use Rattle.std.proofs.lemmas.Bool.Decides.{nat_tests, eqb_tells}
-use Rattle.std.specs.Str.{is_utf8, bytes_eq}
+use Rattle.std.proofs.Common.{◌≡◌, ◌≤◌, ◌<◌, ℕ, suc, Bool, true, false, not, ◌&&◌, ◌||◌, List, [], ◌∷◌, ◌++◌, Option, Some, None, Ok, length, take, drop, refl, ap, ◌∙◌, subst, arith, if◌then◌else◌, ◌==◌}
+use Rattle.std.proofs.lemmas.Bool.Decides.{eqb_tells}
+use Rattle.std.specs.Str.{is_utf8}
 use Rattle.bosh_yaml.specs.declared.bare.Place.{Place}
-use Rattle.bosh_yaml.specs.declared.fault.ReadFault.{ReadFault}
 use Rattle.bosh_yaml.specs.declared.word.Word.{Word}
 use Rattle.bosh_yaml.specs.declared.word.Word.TheVariants.{Plain, Quoted}
-use Rattle.bosh_yaml.specs.Bare.{ends_plain, plain_len, starts_plain, trim_end}
+use Rattle.bosh_yaml.specs.Bare.{plain_len, starts_plain, trim_end}
 use Rattle.std.specs.Char.{encode_utf8}
 use Rattle.bosh_yaml.specs.Bare.{is_flow_sign, is_indicator, is_mark}
 use Rattle.bosh_yaml.specs.Lines.{is_gap}
 use Rattle.bosh_yaml.specs.Quotes.{Quoted as QuotedText, after_text, after_character, character, escaped, four_hex, single_quoted, double_quoted, double_escaped, double_unicode}
-use Rattle.bosh_yaml.specs.Result.{◌>>=◌}
 use Rattle.bosh_yaml.specs.SpelledWord.{SpellsWord, GoesOn, Stops, IsKey, in_single_quotes, in_double_quotes, unquoted}
 use Rattle.bosh_yaml.proofs.LineLemmas.{differs}
-use Rattle.bosh_yaml.specs.Word.{word_at, quoted_word, plain_word, key_of, text_of, refused}
+use Rattle.bosh_yaml.specs.Word.{word_at, quoted_word, plain_word, key_of}
 
 -- a byte that begins a plain scalar is no quote
 pub begins_unquoted : (b : ℕ) (bs : List ℕ) → starts_plain (b ∷ bs) ≡ true → ((b == 39) ≡ false) × ((b == 34) ≡ false)

@@ -1,27 +1,24 @@
 -- A text that is spelled is read, so it spells one tree.
-use Rattle.std.proofs.Common.{◌≡◌, ◌≤◌, ◌<◌, ℕ, zero, suc, ◌+◌, Bool, true, false, not, ◌&&◌, ◌||◌, List, [], ◌∷◌, ◌++◌, length, nat_lt, ℤ, Option, Some, None, Result, Ok, Err, append_assoc, append-nil, refl, ap, sym, ◌∙◌, subst, arith, eqb, ◌==◌, if◌then◌else◌, inl, inr, ◌⊎◌}
+use Rattle.std.proofs.Common.{◌≡◌, ◌≤◌, ◌<◌, ℕ, ◌+◌, Bool, true, false, List, [], ◌∷◌, ◌++◌, length, nat_lt, ℤ, Option, Some, None, Result, Ok, Err, append-nil, refl, ap, sym, ◌∙◌, subst, arith, ◌==◌, if◌then◌else◌, inl, inr, ◌⊎◌}
 use Rattle.std.proofs.lemmas.Bool.Decides.{nat_tests}
-use Rattle.bosh_yaml.specs.declared.block.Frame.{Frame}
 use Rattle.bosh_yaml.specs.declared.block.Frame.TheVariants.{Whole, Done}
 use Rattle.bosh_yaml.specs.declared.event.Event.{Event}
 use Rattle.bosh_yaml.specs.declared.fault.ReadFault.{ReadFault}
 use Rattle.bosh_yaml.specs.Block.{nothing as null_event, place_end}
-use Rattle.bosh_yaml.specs.Events.{content_line, events_of, events_from, first_line, is_marker, is_readable, start}
-use Rattle.bosh_yaml.specs.Json.{json_data, json_events}
-use Rattle.bosh_yaml.specs.Lines.{begins, is_blank, is_comment, is_end, lines_of, skip_spaces}
+use Rattle.bosh_yaml.specs.Events.{events_of, is_marker, start}
+use Rattle.bosh_yaml.specs.Json.{json_events}
+use Rattle.bosh_yaml.specs.Lines.{begins, is_blank, is_comment, lines_of, skip_spaces}
 use Rattle.bosh_yaml.specs.Nodes.{made}
-use Rattle.bosh_yaml.specs.Result.{◌>>=◌, with_front}
-use Rattle.bosh_yaml.specs.SpelledBlock.{Each, IsBlank, SpellsNode}
+use Rattle.bosh_yaml.specs.SpelledBlock.{Each, IsBlank}
 use Rattle.bosh_yaml.specs.Spelling.{IsReadable, SpellsContent, nothing, content, is_marked, SpellsLines, marked, unmarked, SpellsJson, Spells, as_json, as_yaml, json_tree, json_items, json_members, number_tree}
-use Rattle.bosh_yaml.specs.Tree.{Tree, null}
+use Rattle.bosh_yaml.specs.Tree.{Tree}
 use Rattle.serde_json.specs.Data as json
 use Rattle.serde_json.specs.Find.{as_i64}
-use Rattle.bosh_yaml.specs.declared.event.Event.TheVariants.{Key}
 use Rattle.bosh_yaml.specs.declared.fault.ReadFault.TheVariants.{Syntax, TooDeep, RepeatedKey, TooLarge, Number}
 use Rattle.bosh_yaml.specs.Json.{has_integers, item_events, member_events, leaf_or_null}
 use Rattle.bosh_yaml.specs.Limits.{depth, HasEachKeyOnce}
 use Rattle.bosh_yaml.specs.Nodes.{nesting, repeated}
-use Rattle.bosh_yaml.specs.Reading.{reading, yaml_reading, json_reading, json_checked, checked, integers_only}
+use Rattle.bosh_yaml.specs.Reading.{reading, yaml_reading, json_reading, json_checked, checked}
 use Rattle.bosh_yaml.specs.Scalar.{leaf_tree}
 use Rattle.bosh_yaml.proofs.FrameLemmas.{end_append, not_less, is_less}
 use Rattle.bosh_yaml.proofs.MakesLemmas.{Makes, MakesItems, MakesEntries, makes_scalar, makes_list, makes_map, no_items, no_entries, more_items, more_entries, makes_whole, nests_whole, repeats_whole}
@@ -179,7 +176,7 @@ yaml_refuses text t fault r s h =
         none p q = cc
     by events m (inr f) = inr f
 
-json_refuses : (text : List ℕ) (t : Tree) (fault : ReadFault) → SpellsJson text t → json_reading text ≡ Err fault → ((line : ℕ) × (HasEachKeyOnce t → ⊥) × (fault ≡ RepeatedKey line)) ⊎ (fault ≡ TooDeep)
+pub json_refuses : (text : List ℕ) (t : Tree) (fault : ReadFault) → SpellsJson text t → json_reading text ≡ Err fault → ((line : ℕ) × (HasEachKeyOnce t → ⊥) × (fault ≡ RepeatedKey line)) ⊎ (fault ≡ TooDeep)
 json_refuses text t fault s h =
     let m : Makes (json_events s.0) t = subst (λ t. Makes (json_events s.0) t) s.3 (json_makes s.0) in
     by (nat_lt 64 (nesting 0 (json_events s.0))) m (rw (s.1, s.2) at h)

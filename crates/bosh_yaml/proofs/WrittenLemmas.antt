@@ -1,5 +1,5 @@
 -- Canonical data is read from its compact text, which is UTF-8.
-use Rattle.std.proofs.Common.{◌≡◌, ◌≤◌, ℕ, suc, ◌^◌, Bool, true, false, List, [], ◌∷◌, ◌++◌, ℤ, pos, negsuc, Option, Some, None, Ok, option_map, option_and_then, Less, IsUtf8, refl, sym, ap, ◌∙◌, subst, arith, append-nil, FitsSigned, w64}
+use Rattle.std.proofs.Common.{◌≡◌, ◌≤◌, ℕ, suc, Bool, true, false, List, [], ◌∷◌, ℤ, pos, negsuc, Option, Some, None, Ok, option_map, option_and_then, IsUtf8, refl, sym, ap, ◌∙◌, subst, arith, append-nil, FitsSigned, w64}
 use Rattle.std.specs.List.Sorted.{IsStrictlySortedBy}
 use Rattle.std.specs.Ordering.{match_ordering}
 use Rattle.std.proofs.lemmas.Fmt.{IsAscii-decimal, IsAscii-signed}
@@ -23,7 +23,7 @@ use Rattle.bosh_yaml.specs.Json.{json_data}
 use Rattle.bosh_yaml.specs.Limits.{depth, depth_all, depth_keyed}
 use Rattle.bosh_yaml.specs.Spelling.{json_items, json_members, json_tree, number_tree}
 use Rattle.bosh_yaml.specs.Order.{AreInKeyOrder, HaveKeyOrder, IsInKeyOrder}
-use Rattle.bosh_yaml.specs.Tree.{Fields, trees_of, fields_of}
+use Rattle.bosh_yaml.specs.Tree.{trees_of, fields_of}
 use Rattle.bosh_yaml.proofs.CanonicalLemmas.{IsCanonical, AreCanonical, HaveCanonical, small}
 use Rattle.bosh_yaml.proofs.OrderLemmas.{as_fields, Ascend, IsBelow, less_turns}
 

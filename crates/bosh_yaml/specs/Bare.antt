@@ -1,5 +1,5 @@
 -- Where a plain scalar begins and ends on its line (YAML 1.2, "Plain Style", in this project's profile).
-use Rattle.std.specs.Prelude.{ℕ, suc, ◌+◌, Bool, true, false, not, ◌&&◌, ◌||◌, List, [], ◌∷◌, ◌++◌, ◌==◌, if◌then◌else◌}
+use Rattle.std.specs.Prelude.{ℕ, suc, Bool, false, not, ◌&&◌, ◌||◌, List, [], ◌∷◌, ◌==◌, if◌then◌else◌}
 use Rattle.bosh_yaml.specs.Lines.{begins, is_gap}
 use Rattle.bosh_yaml.specs.declared.bare.Place.{Place}
 use Rattle.bosh_yaml.specs.declared.bare.Place.TheVariants.{Block, Flow}

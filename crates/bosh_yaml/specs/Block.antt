@@ -1,5 +1,5 @@
 -- Block mappings and sequences by their columns (YAML 1.2, "Block Collection Styles", in this project's profile). What is open is a list of frames, the innermost first; each dash, key and value closes the frames that it does not belong to.
-use Rattle.std.specs.Prelude.{ℕ, Bool, true, false, List, [], ◌∷◌, ◌++◌, Result, Ok, Err, nat_le, nat_lt, ◌==◌, if◌then◌else◌}
+use Rattle.std.specs.Prelude.{ℕ, List, [], ◌∷◌, ◌++◌, Result, Ok, nat_le, nat_lt, ◌==◌, if◌then◌else◌}
 use Rattle.bosh_yaml.specs.declared.block.Frame.{Frame}
 use Rattle.bosh_yaml.specs.declared.block.Frame.TheVariants.{Whole, Done, Item, List as ListAt, Entry, Map as MapAt}
 use Rattle.bosh_yaml.specs.declared.event.Event.{Event}

@@ -1,6 +1,6 @@
 -- A tree as a list of signs, the parts before the whole, which gives the tree back; and how large a tree is.
-use Rattle.std.specs.Prelude.{◌≡◌, ℕ, zero, suc, ◌+◌, ℤ, pos, Bool, true, false, List, [], ◌∷◌, refl}
-use Rattle.std.proofs.Common.{◌∙◌, arith, ap}
+use Rattle.std.specs.Prelude.{◌≡◌, ℕ, zero, suc, ◌+◌, ℤ, pos, true, false, List, [], ◌∷◌, refl}
+use Rattle.std.proofs.Common.{◌∙◌, ap}
 use Rattle.std.specs.Coded.{Coded, code_by, coded×, coded_list, coded_ℕ, coded_ℤ}
 use Rattle.bosh_yaml.specs.Tree.{Tree, Trees, Fields, null, boolean, integer, text, list, map, no_trees, tree, no_fields, field, trees_of, fields_of}
 

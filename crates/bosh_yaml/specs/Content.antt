@@ -1,5 +1,5 @@
 -- One line with content (this project's profile of YAML 1.2): dashes, then a key, a value or both.
-use Rattle.std.specs.Prelude.{ℕ, ◌+◌, Bool, true, false, ◌&&◌, ◌||◌, List, [], ◌∷◌, ◌++◌, Option, Some, None, Result, Ok, Err, ◌==◌, if◌then◌else◌}
+use Rattle.std.specs.Prelude.{ℕ, ◌+◌, Bool, ◌&&◌, ◌||◌, List, [], ◌∷◌, ◌++◌, Option, Some, None, Result, Ok, ◌==◌, if◌then◌else◌}
 use Rattle.bosh_yaml.specs.declared.bare.Place.TheVariants.{Block}
 use Rattle.bosh_yaml.specs.declared.block.Frame.{Frame}
 use Rattle.bosh_yaml.specs.declared.event.Event.{Event}

@@ -1,5 +1,5 @@
 -- Flow forms on one line (YAML 1.2, "Flow Collection Styles", in this project's profile): their signs from left to right, and the events that the signs stand for.
-use Rattle.std.specs.Prelude.{ℕ, zero, suc, Bool, true, false, ◌&&◌, ◌||◌, List, [], ◌∷◌, ◌++◌, Option, Some, None, Result, Ok, Err, length, codes, ◌==◌, if◌then◌else◌}
+use Rattle.std.specs.Prelude.{ℕ, zero, suc, Bool, true, false, ◌||◌, List, [], ◌∷◌, ◌++◌, Option, Some, None, Result, Ok, length, ◌==◌, if◌then◌else◌}
 use Rattle.bosh_yaml.specs.declared.bare.Place.TheVariants.{Flow}
 use Rattle.bosh_yaml.specs.declared.event.Event.{Event}
 use Rattle.bosh_yaml.specs.declared.event.Event.TheVariants as event

@@ -1,5 +1,5 @@
 -- Keys of a map, in their written order, and what stands at a key.
-use Rattle.std.specs.Prelude.{◌≡◌, ℕ, Bool, true, false, ◌||◌, List, [], ◌∷◌, Option, Some, None, if◌then◌else◌}
+use Rattle.std.specs.Prelude.{◌≡◌, ℕ, Bool, false, ◌||◌, List, [], ◌∷◌, Option, Some, None, if◌then◌else◌}
 use Rattle.std.specs.Str.{bytes_eq}
 use Rattle.bosh_yaml.specs.Tree.{Tree, Fields, null, boolean, integer, text, list, map, no_fields, field}
 

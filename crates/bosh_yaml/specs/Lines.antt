@@ -1,5 +1,5 @@
 -- The lines of a text (this project's profile of YAML 1.2, "Line Break Characters"): each ends with LF or with the text; one CR before an LF is dropped.
-use Rattle.std.specs.Prelude.{ℕ, ◌<◌, Bool, true, false, ◌&&◌, ◌||◌, List, [], ◌∷◌, ◌++◌, nat_le, ◌==◌, if◌then◌else◌}
+use Rattle.std.specs.Prelude.{ℕ, Bool, true, false, ◌&&◌, ◌||◌, List, [], ◌∷◌, nat_le, ◌==◌, if◌then◌else◌}
 
 -- the bytes begin with this one
 abbrev pub begins : ℕ → List ℕ → Bool

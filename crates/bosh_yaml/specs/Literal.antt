@@ -1,8 +1,7 @@
 -- Literals (YAML 1.2, "Literal Style", in this project's profile): lines whose common indentation is removed, joined by LF.
-use Rattle.std.specs.Prelude.{ℕ, zero, suc, ◌+◌, ◌-◌, Bool, true, false, List, [], ◌∷◌, ◌++◌, Option, Some, None, length, ◌==◌, if◌then◌else◌}
+use Rattle.std.specs.Prelude.{ℕ, zero, suc, Bool, true, false, List, [], ◌∷◌, ◌++◌, Option, Some, None, ◌==◌, if◌then◌else◌}
 use Rattle.bosh_yaml.specs.declared.literal.Chomping.{Chomping}
 use Rattle.bosh_yaml.specs.declared.literal.Chomping.TheVariants.{Clip, Strip}
-use Rattle.bosh_yaml.specs.Lines.{skip_spaces}
 
 -- how many spaces stand at the front of a line
 abbrev pub indentation : List ℕ → ℕ

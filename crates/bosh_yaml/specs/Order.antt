@@ -1,5 +1,5 @@
 -- A tree with each map's fields in the byte order of their keys, and what the tree of a node always has.
-use Rattle.std.specs.Prelude.{◌≡◌, ℕ, List, [], ◌∷◌, FitsSigned}
+use Rattle.std.specs.Prelude.{ℕ, List, [], ◌∷◌, FitsSigned}
 use Rattle.std.specs.Cmp.Lexicographic.{slice_cmp}
 use Rattle.std.specs.Int.{w64}
 use Rattle.std.specs.List.Sorted.{IsStrictlySortedBy}

@@ -1,5 +1,5 @@
 -- Quoted scalars, from behind the opening quote (YAML 1.2, "Single-Quoted Style" and "Double-Quoted Style", in this project's profile).
-use Rattle.std.specs.Prelude.{ℕ, ◌+◌, ◌-◌, ◌*◌, Bool, true, false, not, ◌&&◌, ◌||◌, List, [], ◌∷◌, ◌++◌, Option, Some, None, ◌==◌, nat_le, nat_lt, if◌then◌else◌}
+use Rattle.std.specs.Prelude.{ℕ, ◌+◌, ◌-◌, ◌*◌, ◌&&◌, List, [], ◌∷◌, ◌++◌, Option, Some, None, ◌==◌, nat_le, if◌then◌else◌}
 use Rattle.std.specs.Char.{encode_utf8}
 
 -- a text and the bytes after its closing quote

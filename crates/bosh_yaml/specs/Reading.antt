@@ -1,9 +1,9 @@
 -- What a text reads as, or the first refusal in their order.
-use Rattle.std.specs.Prelude.{ℕ, Bool, true, false, List, [], ◌∷◌, Option, Some, None, Result, Ok, Err, length, nat_lt, if◌then◌else◌}
+use Rattle.std.specs.Prelude.{ℕ, Bool, true, false, List, [], Option, Some, None, Result, Err, length, nat_lt, if◌then◌else◌}
 use Rattle.serde_json.specs.Data.{Data}
 use Rattle.bosh_yaml.specs.declared.event.Event.{Event}
 use Rattle.bosh_yaml.specs.declared.fault.ReadFault.{ReadFault}
-use Rattle.bosh_yaml.specs.declared.fault.ReadFault.TheVariants.{Syntax, RepeatedKey, TooDeep, TooLarge, Number}
+use Rattle.bosh_yaml.specs.declared.fault.ReadFault.TheVariants.{RepeatedKey, TooDeep, TooLarge, Number}
 use Rattle.bosh_yaml.specs.Events.{events_of}
 use Rattle.bosh_yaml.specs.Json.{has_integers, json_data, json_events}
 use Rattle.bosh_yaml.specs.Lines.{begins}

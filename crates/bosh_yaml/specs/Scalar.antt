@@ -1,5 +1,5 @@
 -- What a plain scalar stands for (this project's profile of the YAML 1.2 core schema): null where it is empty, `~` or `null`; a truth value where it is `true` or `false`; an integer where it is `0`, or an optional `-` and digits that begin with 1 to 9, within 64 bits; else text.
-use Rattle.std.specs.Prelude.{ℕ, ◌+◌, ◌^◌, ℤ, pos, neg_ℤ, Bool as Truth, true, false, ◌&&◌, ◌||◌, List, [], ◌∷◌, Option, Some, None, codes, drop, nat_lt, nat_le, ◌==◌, if◌then◌else◌}
+use Rattle.std.specs.Prelude.{ℕ, ◌+◌, ◌^◌, ℤ, pos, neg_ℤ, Bool as Truth, true, false, ◌&&◌, ◌||◌, List, [], ◌∷◌, Option, Some, None, codes, drop, nat_lt, nat_le, if◌then◌else◌}
 use Rattle.std.specs.Str.{bytes_eq, all_ascii_digits}
 use Rattle.std.specs.Str.Parse.{digits_value, starts_with_minus}
 use Rattle.bosh_yaml.specs.declared.plain.Leaf.{Leaf}

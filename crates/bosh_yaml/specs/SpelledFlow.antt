@@ -1,5 +1,5 @@
 -- How flow forms are spelled on one line (this project's profile of YAML 1.2): values between `[` and `]` or entries between `{` and `}`, separated by `,`, one of which may stand behind the last; spaces may stand before and after each sign.
-use Rattle.std.specs.Prelude.{◌≡◌, ℕ, true, false, List, [], ◌∷◌}
+use Rattle.std.specs.Prelude.{◌≡◌, ℕ, false, List, [], ◌∷◌}
 use Rattle.bosh_yaml.specs.declared.bare.Place.TheVariants.{Flow}
 use Rattle.bosh_yaml.specs.declared.word.Word.{Word}
 use Rattle.bosh_yaml.specs.Lines.{begins, skip_spaces}

@@ -1,5 +1,5 @@
 -- How one scalar is spelled at the front of the bytes of a line, quoted or plain, and what follows it (this project's profile of YAML 1.2).
-use Rattle.std.specs.Prelude.{◌≡◌, ℕ, Bool, true, false, List, [], ◌∷◌, ◌++◌, Some, codes}
+use Rattle.std.specs.Prelude.{◌≡◌, ℕ, true, false, List, [], ◌∷◌, ◌++◌, Some, codes}
 use Rattle.std.specs.Str.{is_utf8, bytes_eq}
 use Rattle.bosh_yaml.specs.declared.bare.Place.{Place}
 use Rattle.bosh_yaml.specs.declared.word.Word.{Word}

@@ -1,5 +1,5 @@
 -- What a node is, whatever memory holds it: a tree of lists and maps. It may be of any depth, and a map may repeat a key (this project's profile of YAML 1.2, "Representation Graph").
-use Rattle.std.specs.Prelude.{ℕ, ◌+◌, ℤ, Bool, List, [], ◌∷◌, Option, Some, None}
+use Rattle.std.specs.Prelude.{ℕ, ℤ, Bool, List, [], ◌∷◌}
 
 mutual
   pub data Tree : Type 0 where

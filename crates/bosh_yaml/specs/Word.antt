@@ -1,5 +1,5 @@
 -- One scalar at the front of the bytes of a line, quoted or plain, and what follows it.
-use Rattle.std.specs.Prelude.{ℕ, Bool, true, false, ◌&&◌, ◌||◌, List, [], ◌∷◌, Option, Some, None, Result, Ok, Err, take, drop, codes, ◌==◌, if◌then◌else◌}
+use Rattle.std.specs.Prelude.{ℕ, List, [], ◌∷◌, Option, Some, None, Result, Ok, Err, take, drop, codes, ◌==◌, if◌then◌else◌}
 use Rattle.std.specs.Str.{is_utf8, bytes_eq}
 use Rattle.bosh_yaml.specs.declared.bare.Place.{Place}
 use Rattle.bosh_yaml.specs.declared.fault.ReadFault.{ReadFault}

@@ -1,9 +1,10 @@
 //! Laws of the texts. Each is the contract of a function that does nothing.
-ghost use Rattle.std.specs.Prelude.{◌≡◌, ◌<◌, ◌≤◌, ℕ, List, Result, Ok, Err, length, option_map};
+ghost use Rattle.std.specs.Prelude.{◌≡◌, ◌<◌, ◌≤◌, ℕ, false, true, List, Result, Ok, Err, length, option_map};
 ghost use Rattle.bosh_yaml.specs.Canon.{canon_text};
 ghost use Rattle.bosh_yaml.specs.declared.fault.ReadFault.TheVariants.{Number, RepeatedKey, Syntax, TooDeep};
 ghost use Rattle.bosh_yaml.specs.Keys.{found};
 ghost use Rattle.bosh_yaml.specs.Limits.{depth, HasEachKeyOnce};
+ghost use Rattle.bosh_yaml.specs.Lines.{begins, lines_of};
 ghost use Rattle.bosh_yaml.specs.Order.{in_key_order, IsInKeyOrder, IsWritable};
 ghost use Rattle.bosh_yaml.specs.Reading.{reading};
 ghost use Rattle.bosh_yaml.specs.Spelling.{Spells, SpellsJson};
@@ -43,6 +44,19 @@ pub fn what_repeats_a_key_is_refused()
     ensures refused { (text : List ℕ) (t : Tree) → Spells text t → ¬ HasEachKeyOnce t
         → length text ≤ 1048576 → (line : ℕ) × (reading text ≡ Err (RepeatedKey line)) }
     ensures json { (text : List ℕ) (t : Tree) → SpellsJson text t → HasEachKeyOnce t }
+{}
+
+/// A refusal for a repeated key or for syntax names a line of the text, counted from 1. JSON is refused for its syntax at
+/// line 0, and never for a key.
+pub fn refusals_name_a_line()
+    ensures repeated { (text : List ℕ) (line : ℕ) → reading text ≡ Err (RepeatedKey line)
+        → (1 ≤ line) × (line ≤ length (lines_of text)) }
+    ensures syntax { (text : List ℕ) (line : ℕ) → begins 123 text ≡ false → reading text ≡ Err (Syntax line)
+        → (1 ≤ line) × (line ≤ length (lines_of text)) }
+    ensures json_syntax { (text : List ℕ) (line : ℕ) → begins 123 text ≡ true
+        → reading text ≡ Err (Syntax line) → line ≡ 0 }
+    ensures json_keys { (text : List ℕ) (line : ℕ) → begins 123 text ≡ true
+        → ¬ (reading text ≡ Err (RepeatedKey line)) }
 {}
 
 /// The canonical text of a map is read as the map in the order of its keys, where it has at most 1,048,576 bytes and

@@ -1,5 +1,4 @@
-use Rattle.std.proofs.Common.{◌≡◌, ◌∙◌, sym, length, arith, take, ◌≤◌, ℕ, List}
-use Rattle.bosh_yaml.specs.Bare.{trim_end}
+use Rattle.std.proofs.Common.{◌∙◌, sym, arith}
 use Rattle.bosh_yaml.proofs.LineLemmas.{trim_end-shorter, trim_end-done, trim_end-none}
 use Rattle.bosh_yaml.proofs.bare.trim_end.Goals as goal
 use Rattle.bosh_yaml.proofs.bare.trim_end.Goals.{then-loop-len-test+else-bytes-len-eq32, else-loop-len-test}

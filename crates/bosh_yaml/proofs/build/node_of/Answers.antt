@@ -1,7 +1,7 @@
-use Rattle.std.proofs.Common.{◌≡◌, [], None, map}
+use Rattle.std.proofs.Common.{[], None}
 use Rattle.std.specs.Option.{option_map}
 use Rattle.std.specs.Vec.Iter.{into_iter_items}
-use Rattle.bosh_yaml.specs.Nodes.{Step, keys_of_open, made, repeated}
+use Rattle.bosh_yaml.specs.Nodes.{Step, made}
 use Rattle.bosh_yaml.specs.View.{tree_of}
 use Rattle.bosh_yaml.proofs.BuildLemmas.{event_keys, event_more, none_mapped}
 use Rattle.bosh_yaml.proofs.build.node_of.Goals as goal

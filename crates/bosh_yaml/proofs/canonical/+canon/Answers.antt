@@ -1,7 +1,7 @@
-use Rattle.std.proofs.Common.{◌≡◌, ◌∙◌, sym, ap, map, take, arith, length, List, subst, ℕ}
+use Rattle.std.proofs.Common.{◌≡◌, ◌∙◌, ap, map, List, subst, ℕ}
 use Rattle.bosh_yaml.specs.declared.node.Node.{Node}
 use Rattle.serde_json.specs.Data.{no_members}
-use Rattle.serde_json.specs.View.{items_of, items_view, view}
+use Rattle.serde_json.specs.View.{items_of}
 use Rattle.bosh_yaml.specs.Canon.{data_of, data_items, data_members}
 use Rattle.bosh_yaml.specs.Order.{AreWritable, HaveWritable}
 use Rattle.bosh_yaml.specs.Tree.{fields_of, trees_of}

@@ -1,4 +1,4 @@
-use Rattle.std.proofs.Common.{◌≡◌, ◌∙◌, sym, ap, Vec, Global, ℕ}
+use Rattle.std.proofs.Common.{◌∙◌, ap, Vec, Global, ℕ}
 use Rattle.serde_json.specs.Written.{compact_text, has_float}
 use Rattle.bosh_yaml.specs.View.{tree_of}
 use Rattle.bosh_yaml.proofs.CanonLemmas.{no_float}

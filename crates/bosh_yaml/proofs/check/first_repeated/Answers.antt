@@ -1,6 +1,4 @@
-use Rattle.std.proofs.Common.{◌≡◌, ◌+◌, ◌∙◌, sym, ap, map, drop, ◌∷◌, refl}
-use Rattle.bosh_yaml.specs.Nodes.{repeated}
-use Rattle.bosh_yaml.specs.Seen.{keys_of_set, line_or_else}
+use Rattle.std.proofs.Common.{◌+◌, ◌∙◌, sym, drop, refl}
 use Rattle.bosh_yaml.proofs.NestingLemmas.{next_item}
 use Rattle.bosh_yaml.proofs.check.first_repeated.Goals as goal
 

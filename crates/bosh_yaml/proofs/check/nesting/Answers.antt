@@ -1,5 +1,5 @@
-use Rattle.std.proofs.Common.{◌≡◌, ◌≤◌, ◌+◌, max, drop, arith, sym}
-use Rattle.bosh_yaml.specs.Nodes.{nesting, open_after}
+use Rattle.std.proofs.Common.{arith}
+use Rattle.bosh_yaml.specs.Nodes.{nesting}
 use Rattle.bosh_yaml.proofs.NestingLemmas.{nesting_more}
 use Rattle.bosh_yaml.proofs.check.nesting.Goals as goal
 

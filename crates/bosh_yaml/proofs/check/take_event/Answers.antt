@@ -1,4 +1,4 @@
-use Rattle.std.proofs.Common.{◌≡◌, map, List, ℕ, Bool, true, false}
+use Rattle.std.proofs.Common.{◌≡◌, map, true, false}
 use Rattle.bosh_yaml.specs.Nodes.{with_new}
 use Rattle.bosh_yaml.specs.Seen.{keys_of_set}
 use Rattle.bosh_yaml.proofs.SeenLemmas.{key_is_new, key_is_old, with_new_key, not_true_of, not_false_of}

@@ -1,4 +1,4 @@
-use Rattle.std.proofs.Common.{◌≡◌, sym, ap, subst, ◌∙◌, Result, List, ℕ}
+use Rattle.std.proofs.Common.{sym, ap, subst, ◌∙◌, Result, List, ℕ}
 use Rattle.bosh_yaml.specs.declared.fault.ReadFault.{ReadFault}
 use Rattle.bosh_yaml.specs.Content.{Outcome, add_events, key_or_scalar}
 use Rattle.bosh_yaml.specs.Result.{Gives}

@@ -1,4 +1,4 @@
-use Rattle.std.proofs.Common.{◌≡◌, sym, ap, arith, ◌∙◌, length, ◌∷◌}
+use Rattle.std.proofs.Common.{sym, arith, ◌∙◌}
 use Rattle.bosh_yaml.proofs.ContentLemmas.{dash_then}
 use Rattle.bosh_yaml.proofs.content.take_line.Goals as goal
 

@@ -1,8 +1,7 @@
-use Rattle.std.proofs.Common.{◌≡◌, ◌+◌, ◌-◌, ◌≤◌, ◌<◌, length, arith, sym, ap, ◌∙◌}
+use Rattle.std.proofs.Common.{◌≡◌, ◌+◌, ◌-◌, ◌≤◌, length, arith, sym}
 use Rattle.std.proofs.lemmas.Result.{err_from_is_err_and}
 use Rattle.std.proofs.lemmas.List.{length_push}
-use Rattle.bosh_yaml.specs.Result.{Refuses}
-use Rattle.bosh_yaml.specs.Flow.{signs_of, sign_at}
+use Rattle.bosh_yaml.specs.Flow.{signs_of}
 use Rattle.bosh_yaml.proofs.FlowLemmas.{end_empty, signs_refused, signs_more}
 use Rattle.bosh_yaml.proofs.flow.signs.Goals as goal
 

@@ -1,4 +1,3 @@
-use Rattle.std.proofs.Common.{◌≡◌, sym, ap}
 use Rattle.std.specs.Vec.Iter.{into_iter_items}
 use Rattle.bosh_yaml.proofs.FlowLemmas.{form_more}
 use Rattle.bosh_yaml.proofs.flow.take_signs.Goals as goal

@@ -1,7 +1,5 @@
-use Rattle.std.proofs.Common.{◌≡◌, ◌++◌, ◌∷◌, [], string_bytes, sym}
-use Rattle.serde_json.specs.View.{members_view}
+use Rattle.std.proofs.Common.{◌++◌, ◌∷◌, []}
 use Rattle.serde_json.proofs.Views.{Entry}
-use Rattle.bosh_yaml.specs.Json.{member_events, members_have_integers}
 use Rattle.bosh_yaml.proofs.JsonLemmas.{member_events_more, members_all, members_not, one_done}
 use Rattle.bosh_yaml.proofs.json_value.+json.Goals as goal
 

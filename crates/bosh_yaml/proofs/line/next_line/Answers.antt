@@ -1,6 +1,5 @@
-use Rattle.std.proofs.Common.{◌≡◌, ◌∙◌, sym, ap, length, arith, ◌-◌, ◌+◌, ◌∷◌, drop, take, ℕ, List}
+use Rattle.std.proofs.Common.{arith, ◌+◌}
 use Rattle.std.proofs.lemmas.Bool.Decides.{nat_tests}
-use Rattle.bosh_yaml.specs.Lines.{lines_of, without_return}
 use Rattle.bosh_yaml.proofs.LineLemmas.{lines_cut, lines_whole, take_rest}
 use Rattle.bosh_yaml.proofs.line.next_line.Goals as goal
 

@@ -1,7 +1,7 @@
-use Rattle.std.proofs.Common.{◌≡◌, ◌∙◌, ap, sym, subst, w64, List, ℕ}
+use Rattle.std.proofs.Common.{◌∙◌, ap, sym, subst, w64, List, ℕ}
 use Rattle.std.specs.Str.Parse.{ParsesSigned}
 use Rattle.bosh_yaml.specs.Scalar.{is_counting}
-use Rattle.bosh_yaml.proofs.IntegerLemmas.{integer_parsed, integer_none}
+use Rattle.bosh_yaml.proofs.IntegerLemmas.{integer_parsed}
 use Rattle.bosh_yaml.proofs.plain.integer.Goals as goal
 
 pub returns : goal.returns

@@ -1,4 +1,4 @@
-use Rattle.std.proofs.Common.{◌≡◌, arith, map}
+use Rattle.std.proofs.Common.{arith, map}
 use Rattle.std.proofs.lemmas.Result.{err_from_is_err_and}
 use Rattle.bosh_yaml.specs.Lines.{lines_of}
 use Rattle.bosh_yaml.specs.Events.{events_of}

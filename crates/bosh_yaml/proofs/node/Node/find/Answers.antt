@@ -1,4 +1,4 @@
-use Rattle.std.proofs.Common.{◌≡◌, ◌∙◌, ap, sym}
+use Rattle.std.proofs.Common.{◌∙◌, sym}
 use Rattle.bosh_yaml.proofs.KeyLemmas.{found_field-fields_of}
 use Rattle.bosh_yaml.proofs.node.Node.find.Goals as goal
 

@@ -1,4 +1,4 @@
-use Rattle.std.proofs.Common.{◌≡◌, ◌∙◌, ap, sym}
+use Rattle.std.proofs.Common.{◌∙◌, ap, sym}
 use Rattle.std.specs.Option.{is_some}
 use Rattle.bosh_yaml.specs.View.{tree_of}
 use Rattle.bosh_yaml.proofs.KeyLemmas.{is_some-value_at, is_some-option_map}

@@ -1,4 +1,4 @@
-use Rattle.std.proofs.Common.{◌≡◌, sym, ap, subst, ◌∙◌}
+use Rattle.std.proofs.Common.{ap, ◌∙◌}
 use Rattle.std.specs.Result.{is_ok}
 use Rattle.bosh_yaml.specs.Keys.{has_key}
 use Rattle.bosh_yaml.proofs.KeyLemmas.{HasDistinctKeys-pushed}
