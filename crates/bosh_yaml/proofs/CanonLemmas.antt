@@ -1,5 +1,5 @@
 -- A node as JSON data: the items of a list, one more key of a map, and that no float is in it.
-use Rattle.std.proofs.Common.{◌≡◌, ℕ, ◌+◌, ◌<◌, false, List, [], ◌∷◌, ◌++◌, map, length, take, drop, arith, ◌≤◌, get_or, String, Global, Ordering, Less, Equal, Greater, string_bytes, string_cmp, nat_cmp, ℤ, pos, negsuc, IsUtf8, refl, sym, ap, ◌∙◌, subst}
+use Rattle.std.proofs.Common.{◌≡◌, ℕ, ◌+◌, ◌<◌, false, List, [], ◌∷◌, ◌++◌, map, length, take, drop, arith, ◌≤◌, get_or, String, Global, Ordering, Less, Equal, Greater, string_bytes, string_cmp, nat_cmp, ℤ, pos, negsuc, refl, ap, ◌∙◌}
 use Rattle.std.specs.Ordering.{match_ordering}
 use Rattle.std.specs.BTreeMap.{insert_entry}
 use Rattle.std.specs.Cmp.Lexicographic.{slice_cmp}
@@ -11,11 +11,9 @@ use Rattle.serde_json.specs.declared.value.Value.{Value}
 use Rattle.serde_json.proofs.Views.{Entry, members_view-insert_entry}
 use Rattle.bosh_yaml.specs.declared.node.Node.{Node}
 use Rattle.bosh_yaml.specs.Canon.{data_of, data_items, data_members}
-use Rattle.bosh_yaml.specs.Order.{AreWritable, HaveWritable, IsWritable}
 use Rattle.bosh_yaml.specs.Tree.{Tree, Trees, Fields, null, boolean, integer, text, list, map as map_tree, no_trees, tree, no_fields, field, trees_of, fields_of}
 use Rattle.bosh_yaml.specs.View.{pair_of, tree_of}
 use Rattle.std.proofs.lemmas.Grind.{common_steps}
-use Rattle.std.proofs.lemmas.List.{drop_all}
 use Rattle.bosh_yaml.proofs.KeyLemmas.{or_parts, or_both}
 use Rattle.bosh_yaml.proofs.NestingLemmas.{next_item}
 
@@ -66,20 +64,3 @@ mutual
   no_float_members : (fs : Fields) (found : json.Members) → members_have_float found ≡ false → members_have_float (data_members fs found) ≡ false
   no_float_members no_fields found h = h
   no_float_members (field k t fs) found h = no_float_members fs (json.put k (data_of t) found) (no_float_put k (data_of t) found (no_float t) h)
-
--- ---- each node that was written is writable
-
--- one more item, or one more key with its value
-pub items_writable_more : (items : List Node) (i : ℕ) (n : Node) → i < length items → n ≡ get_or items i n → (AreWritable (trees_of (map tree_of (drop i items))) → AreWritable (trees_of (map tree_of items))) → IsWritable (tree_of n)
-    → AreWritable (trees_of (map tree_of (drop (i + 1) items))) → AreWritable (trees_of (map tree_of items))
-items_writable_more items i n h g all w rest = all (subst (λ ns. AreWritable (trees_of (map tree_of ns))) (sym (next_item items i n h g)) (w, rest))
-
-pub members_writable_more : (items : List (List ℕ × Node)) (i : ℕ) (e : List ℕ × Node) → i < length items → e ≡ get_or items i e → (HaveWritable (fields_of (map pair_of (drop i items))) → HaveWritable (fields_of (map pair_of items))) → IsUtf8 e.0 → IsWritable (tree_of e.1)
-    → HaveWritable (fields_of (map pair_of (drop (i + 1) items))) → HaveWritable (fields_of (map pair_of items))
-members_writable_more items i e h g all u w rest = all (subst (λ es. HaveWritable (fields_of (map pair_of es))) (sym (next_item items i e h g)) (u, w, rest))
-
-pub items_writable : (items : List Node) (i : ℕ) → length items ≤ i → (AreWritable (trees_of (map tree_of (drop i items))) → AreWritable (trees_of (map tree_of items))) → AreWritable (trees_of (map tree_of items))
-items_writable items i past all = all (subst (λ ns. AreWritable (trees_of (map tree_of ns))) (sym (drop_all i items past)) tt)
-
-pub members_writable : (items : List (List ℕ × Node)) (i : ℕ) → length items ≤ i → (HaveWritable (fields_of (map pair_of (drop i items))) → HaveWritable (fields_of (map pair_of items))) → HaveWritable (fields_of (map pair_of items))
-members_writable items i past all = all (subst (λ es. HaveWritable (fields_of (map pair_of es))) (sym (drop_all i items past)) tt)

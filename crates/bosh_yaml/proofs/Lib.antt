@@ -23,6 +23,7 @@ pub mod SpelledBlockLemmas
 pub mod SpellingLemmas
 pub mod CanonicalLemmas
 pub mod OrderLemmas
+pub mod NodeTreeLemmas
 pub mod WrittenLemmas
 pub mod CanonReadLemmas
 pub mod JsonOnceLemmas

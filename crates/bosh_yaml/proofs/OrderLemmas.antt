@@ -163,11 +163,11 @@ mutual
 -- ---- keys that ascend stand once in their map
 
 -- none of these keys is there already
-abbrev AreUnknown : Keys → Fields → Type 0
+abbrev pub AreUnknown : Keys → Fields → Type 0
 AreUnknown keys no_fields = Unit {0}
 AreUnknown keys (field k t fs) = (keys k ≡ false) × AreUnknown keys fs
 
-none_known : (fs : Fields) → AreUnknown no_keys fs
+pub none_known : (fs : Fields) → AreUnknown no_keys fs
 none_known no_fields = tt
 none_known (field k t fs) = (refl, none_known fs)
 

@@ -5,6 +5,7 @@ use Rattle.std.specs.Int.{w64}
 use Rattle.std.specs.List.Sorted.{IsStrictlySortedBy}
 use Rattle.std.specs.Ordering.{match_ordering, nat_cmp}
 use Rattle.std.specs.Str.{IsUtf8}
+use Rattle.bosh_yaml.specs.Limits.{HasEachKeyOnce}
 use Rattle.bosh_yaml.specs.Tree.{Tree, Trees, Fields, null, boolean, integer, text, list, map, no_trees, tree, no_fields, field}
 
 -- the fields with one more, before the first of a greater key, or in place of the one of its key
@@ -52,7 +53,7 @@ abbrev mutual
   HaveKeyOrder no_fields = Unit {0}
   HaveKeyOrder (field k t fs) = IsInKeyOrder t × HaveKeyOrder fs
 
--- texts and keys are UTF-8, and integers fit 64 bits: what the tree of a node always has
+-- texts and keys are UTF-8, and integers fit 64 bits
 abbrev mutual
   pub IsWritable : Tree → Type 0
   IsWritable null = Unit {0}
@@ -69,3 +70,7 @@ abbrev mutual
   pub HaveWritable : Fields → Type 0
   HaveWritable no_fields = Unit {0}
   HaveWritable (field k t fs) = IsUtf8 k × IsWritable t × HaveWritable fs
+
+-- what the tree of a node always has
+abbrev pub IsOfNode : Tree → Type 0
+IsOfNode t = IsWritable t × HasEachKeyOnce t

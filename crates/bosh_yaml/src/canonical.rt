@@ -1,14 +1,15 @@
 //! The canonical text of a node: compact JSON with each map's keys in byte order.
 
-ghost use Rattle.std.specs.Prelude.{◌≡◌, ◌≤◌, IfErr, IfOk, OnOk, Ok, length, string_bytes};
+ghost use Rattle.std.specs.Prelude.{◌≡◌, ◌≤◌, ℕ, List, IfErr, IfOk, OnOk, Ok, length, option_map, string_bytes};
 ghost use Rattle.std.specs.Str.{IsUtf8};
 ghost use Rattle.serde_json.specs.Data.{no_members};
 ghost use Rattle.serde_json.specs.View.{items_view, members_view, view};
 ghost use Rattle.bosh_yaml.specs.Canon.{canon_text, data_items, data_members, data_of};
+ghost use Rattle.bosh_yaml.specs.Keys.{found};
 ghost use Rattle.bosh_yaml.specs.Limits.{depth};
-ghost use Rattle.bosh_yaml.specs.Order.{AreWritable, HaveWritable, in_key_order, IsWritable};
+ghost use Rattle.bosh_yaml.specs.Order.{in_key_order, IsOfNode};
 ghost use Rattle.bosh_yaml.specs.Reading.{reading};
-ghost use Rattle.bosh_yaml.specs.Tree.{Fields, fields_of, map as map_tree, trees_of};
+ghost use Rattle.bosh_yaml.specs.Tree.{Fields, fields_of, list, map as map_tree, trees_of};
 ghost use Rattle.bosh_yaml.specs.View.{tree_of};
 
 use crate::fault::ReadFault;
@@ -19,12 +20,15 @@ use std::alloc::{AllocError, Global};
 use std::str;
 
 /// The node as compact JSON, with each map's keys in byte order. Of a map the text is read back by `read`, as the map in
-/// the order of its keys, where it has at most 1,048,576 bytes and nests at most 64 lists and maps.
+/// the order of its keys, where it has at most 1,048,576 bytes and nests at most 64 lists and maps; each key has the value
+/// that it had.
 pub fn canon(alloc: Global, node: &Node) -> Result<Vec<u8>, ReadFault>
     ensures text { IfOk result (λ v. v.items ≡ canon_text (tree_of node.now)) }
     ensures read { IfOk result (λ v. (fs : Fields) → tree_of node.now ≡ map_tree fs
         → depth (tree_of node.now) ≤ 64 → length v.items ≤ 1048576
         → reading v.items ≡ Ok (in_key_order (tree_of node.now))) }
+    ensures values { OnOk result ((key : List ℕ) → found key (in_key_order (tree_of node.now))
+        ≡ option_map in_key_order (found key (tree_of node.now))) }
     ensures memory { IfErr result (λ e. e ≡ ReadFault.Memory) }
 {
     let value = value_of(alloc, node)?;
@@ -44,7 +48,7 @@ fn string_of(alloc: Global, text: &Str) -> Result<String, AllocError>
 #[cycle(canon)]
 fn value_of(alloc: Global, node: &Node) -> Result<Value, AllocError>
     ensures as_data { IfOk result (λ v. view v ≡ data_of (tree_of node.now)) }
-    ensures writable { OnOk result (IsWritable (tree_of node.now)) }
+    ensures of_node { OnOk result (IsOfNode (tree_of node.now)) }
 {
     match node {
         Node::Null => Ok(Value::Null),
@@ -59,7 +63,7 @@ fn value_of(alloc: Global, node: &Node) -> Result<Value, AllocError>
 #[cycle(canon)]
 fn values_of(alloc: Global, items: &Items) -> Result<Vec<Value>, AllocError>
     ensures as_data { IfOk result (λ v. items_view v.items ≡ data_items (trees_of items.now)) }
-    ensures writable { OnOk result (AreWritable (trees_of items.now)) }
+    ensures of_node { OnOk result (IsOfNode (list (trees_of items.now))) }
 {
     let mut values = Vec::new(alloc);
     for node in &items.nodes {
@@ -71,7 +75,7 @@ fn values_of(alloc: Global, items: &Items) -> Result<Vec<Value>, AllocError>
 #[cycle(canon)]
 fn members_of(alloc: Global, pairs: &Pairs) -> Result<Map<String, Value>, AllocError>
     ensures as_data { IfOk result (λ m. members_view m.entries ≡ data_members (fields_of pairs.now) no_members) }
-    ensures writable { OnOk result (HaveWritable (fields_of pairs.now)) }
+    ensures of_node { OnOk result (IsOfNode (map_tree (fields_of pairs.now))) }
 {
     let mut members = Map::new(alloc);
     for (key, value) in &pairs.entries {
