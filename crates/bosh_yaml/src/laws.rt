@@ -46,8 +46,8 @@ pub fn what_repeats_a_key_is_refused()
     ensures json { (text : List ℕ) (t : Tree) → SpellsJson text t → HasEachKeyOnce t }
 {}
 
-/// A refusal for a repeated key or for syntax names a line of the text, counted from 1. JSON is refused for its syntax at
-/// line 0, and never for a key.
+/// A refusal for a repeated key or for syntax names a line of the text, counted from 1. JSON, a text whose first byte is
+/// `{`, is refused for its syntax at line 0, and never for a key.
 pub fn refusals_name_a_line()
     ensures repeated { (text : List ℕ) (line : ℕ) → reading text ≡ Err (RepeatedKey line)
         → (1 ≤ line) × (line ≤ length (lines_of text)) }
