@@ -1,11 +1,14 @@
 -- The part at the front of a text, and the parts of what follows it; and that names are ASCII.
 use Rattle.std.proofs.Common.{◌≡◌, ℕ, zero, suc, ◌+◌, ◌<◌, Bool, true, false, cond, List, [], ◌∷◌, ◌++◌, Some, None, length, take, drop, arith, ap, sym, ◌∙◌, subst, refl}
 use Rattle.std.specs.Prelude.{codes}
+use Rattle.std.specs.List.{list_all}
 use Rattle.std.specs.Str.{IsUtf8}
+use Rattle.std.proofs.lemmas.Bool.{and_parts}
 use Rattle.std.proofs.lemmas.Bool.Decides.{nat_tests}
 use Rattle.std.proofs.lemmas.Str.{IsUtf8-append, IsUtf8-nil}
 use Rattle.bosh_vars.specs.Filled.{only_name}
 use Rattle.bosh_vars.specs.Placeholder.{is_name_letter, name_len, name_at, plain, placeholder, part_of, more_of, parts_past, parts}
+use Rattle.bosh_vars.specs.Spelling.{is_name}
 use Rattle.bosh_vars.proofs.TextLemmas.{IsUtf8-ascii, IsUtf8-cut}
 
 letter_ascii : (b : ℕ) → is_name_letter b ≡ true → b < 128
@@ -19,6 +22,17 @@ one_more_letter false b bs low u = IsUtf8-nil
 pub letters_utf8 : (bs : List ℕ) → IsUtf8 (take (name_len bs) bs)
 letters_utf8 [] = IsUtf8-nil
 letters_utf8 (b ∷ bs) = one_more_letter (is_name_letter b) b bs (letter_ascii b) (letters_utf8 bs)
+
+name_letters_utf8 : (bs : List ℕ) → list_all is_name_letter bs ≡ true → IsUtf8 bs
+name_letters_utf8 [] all = IsUtf8-nil
+name_letters_utf8 (b ∷ bs) all =
+    let parts = and_parts (is_name_letter b) (list_all is_name_letter bs) all in
+    IsUtf8-append (b ∷ []) bs (IsUtf8-ascii b (letter_ascii b parts.0)) (name_letters_utf8 bs parts.1)
+
+-- a name is a text
+pub name_utf8 : (bs : List ℕ) → is_name bs ≡ true → IsUtf8 bs
+name_utf8 [] is = cc
+name_utf8 (b ∷ bs) is = name_letters_utf8 (b ∷ bs) is
 
 pub parts_past-drop : (n : ℕ) (bs : List ℕ) → parts_past n bs ≡ parts (drop n bs)
 parts_past-drop zero bs = refl

@@ -12,4 +12,5 @@ mod var;
 pub use fault::VarsFault;
 pub use filling::fill;
 pub use law::parts_are_the_text;
+pub use placeholder::is_name;
 pub use var::Var;

@@ -1,15 +1,36 @@
 //! Placeholders, as `((name))`.
 
 ghost use Rattle.std.specs.Prelude.{◌≡◌, ◌≤◌, ◌++◌, codes, drop, length, take, IfSome};
+ghost use Rattle.std.specs.Bool.{OnTrue};
+ghost use Rattle.std.specs.List.{list_all};
 ghost use Rattle.std.specs.Option.{option_map};
 ghost use Rattle.std.specs.Str.{IsUtf8};
 ghost use Rattle.bosh_vars.specs.Placeholder.{closed_name, is_name_letter as name_letter, name_at, name_len as letters};
+ghost use Rattle.bosh_vars.specs.Spelling.{is_name};
 
 // Whether a name may have this byte.
 fn is_name_letter(byte: u8) -> bool
     ensures { result ≡ name_letter byte }
 {
     byte.is_ascii_alphanumeric() || matches!(byte, b'_' | b'-' | b'.' | b'/')
+}
+
+fn are_name_letters(bytes: &[u8]) -> bool
+    ensures { result ≡ list_all name_letter bytes.now }
+{
+    bytes.iter().all(|byte| is_name_letter(*byte))
+}
+
+/// Whether bytes are the name of a placeholder. Those of a name are ASCII.
+#[tactic(auto, using(crate::proofs::PlaceholderLemmas::name_utf8))]
+pub fn is_name(bytes: &[u8]) -> bool
+    ensures name { result ≡ is_name bytes.now }
+    ensures utf8 { OnTrue result (IsUtf8 bytes.now) }
+{
+    match bytes {
+        [] => false,
+        [_, ..] => are_name_letters(bytes),
+    }
 }
 
 // How many bytes at the front a name may have.
