@@ -1,46 +1,75 @@
--- The fields of a JSON object that a manifest is read from (this project's profile).
-use Rattle.std.specs.Prelude.{ℕ, List, [], ◌∷◌, Option, Some, None, nat_le, if◌then◌else◌}
-use Rattle.serde_json.specs.Data.{Data, Items, no_items, item}
-use Rattle.serde_json.specs.Find.{as_array, as_number, as_str, as_u64, get}
+-- The fields of a mapping that a manifest is read from (this project's profile).
+use Rattle.std.specs.Prelude.{ℕ, ℤ, pos, negsuc, List, [], ◌∷◌, Option, Some, None, nat_le, if◌then◌else◌}
 use Rattle.bosh_base.specs.Name.{is_name}
+use Rattle.bosh_yaml.specs.Keys.{found}
+use Rattle.bosh_yaml.specs.Tree.{Tree, Trees, null, boolean, integer, text, list, map, no_trees, tree}
 use Rattle.bosh_manifest.specs.Reading.{◌>>=◌}
 
 -- the name that a text is
-abbrev pub name_of : Data → Option (List ℕ)
-name_of value = do
-  text ← as_str value
-  if is_name text then Some text else None
+abbrev pub name_of : Tree → Option (List ℕ)
+name_of null = None
+name_of (boolean b) = None
+name_of (integer n) = None
+name_of (text s) = if is_name s then Some s else None
+name_of (list ts) = None
+name_of (map fs) = None
 
 -- the name at a key
-abbrev pub name_at : List ℕ → Data → Option (List ℕ)
+abbrev pub name_at : List ℕ → Tree → Option (List ℕ)
 name_at key holder = do
-  value ← get key holder
+  value ← found key holder
   name_of value
 
--- the number of instances at a key, at most 256
-abbrev pub count_at : List ℕ → Data → Option ℕ
+-- a number of instances, 0 to 256
+abbrev pub instances_of : ℤ → Option ℕ
+instances_of (pos n) = if nat_le n 256 then Some n else None
+instances_of (negsuc n) = None
+
+-- the number of instances that an integer is
+abbrev pub count_of : Tree → Option ℕ
+count_of null = None
+count_of (boolean b) = None
+count_of (integer n) = instances_of n
+count_of (text s) = None
+count_of (list ts) = None
+count_of (map fs) = None
+
+-- the number of instances at a key
+abbrev pub count_at : List ℕ → Tree → Option ℕ
 count_at key holder = do
-  value ← get key holder
-  number ← as_number value
-  count ← as_u64 number
-  if nat_le count 256 then Some count else None
+  value ← found key holder
+  count_of value
+
+-- the items of a list
+abbrev pub items_of : Tree → Option Trees
+items_of null = None
+items_of (boolean b) = None
+items_of (integer n) = None
+items_of (text s) = None
+items_of (list ts) = Some ts
+items_of (map fs) = None
+
+-- the items of the list at a key
+abbrev pub items_at : List ℕ → Tree → Option Trees
+items_at key holder = do
+  value ← found key holder
+  items_of value
 
 -- the names that all items of a list are
-abbrev pub names_of : Items → Option (List (List ℕ))
-names_of no_items = Some []
-names_of (item value values) = do
-  name ← name_of value
-  names ← names_of values
+abbrev pub names_of : Trees → Option (List (List ℕ))
+names_of no_trees = Some []
+names_of (tree t ts) = do
+  name ← name_of t
+  names ← names_of ts
   Some (name ∷ names)
 
 -- the names of a list that has one at least
-abbrev pub zones_of : Items → Option (List (List ℕ))
-zones_of no_items = None
-zones_of (item value values) = names_of (item value values)
+abbrev pub zones_of : Trees → Option (List (List ℕ))
+zones_of no_trees = None
+zones_of (tree t ts) = names_of (tree t ts)
 
 -- the zones at a key
-abbrev pub zones_at : List ℕ → Data → Option (List (List ℕ))
+abbrev pub zones_at : List ℕ → Tree → Option (List (List ℕ))
 zones_at key holder = do
-  value ← get key holder
-  values ← as_array value
-  zones_of values
+  items ← items_at key holder
+  zones_of items

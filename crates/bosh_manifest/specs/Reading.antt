@@ -16,13 +16,8 @@ abbrev pub fault_of : OfFault → ManFault
 fault_of of.NotOne = NotBare
 fault_of of.Memory = Memory
 
--- what is read, seen by a view, is the value, and `NotBare` comes where there is none; want of memory says
--- nothing of the text
-abbrev pub ReadsBy : {A B : Type 0} → (A → B) → Result A ManFault → Option B → Type 0
-ReadsBy view (Ok read) value = value ≡ Some (view read)
-ReadsBy view (Err NotBare) value = value ≡ None
-ReadsBy view (Err Memory) value = Unit {0}
-
--- the same, where contracts see what is read as it is
+-- what is read is the value, and `NotBare` comes where there is none; want of memory says nothing of the node
 abbrev pub Reads : {A : Type 0} → Result A ManFault → Option A → Type 0
-Reads = ReadsBy (λ read. read)
+Reads (Ok read) value = value ≡ Some read
+Reads (Err NotBare) value = value ≡ None
+Reads (Err Memory) value = Unit {0}

@@ -5,7 +5,7 @@ ghost use Rattle.bosh_manifest.specs.declared.fault.ManFault.TheVariants.{Memory
 use bosh_base::OfFault;
 use std::alloc::{AllocError, AllocFailed};
 
-/// Why a text was not read as a manifest.
+/// Why a node was not read as a manifest.
 #[derive(Clone, Copy, Debug, PartialEq, Eq)]
 pub enum ManFault {
     /// It is no manifest of one group of bare machines for the deployment.

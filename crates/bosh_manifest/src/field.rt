@@ -1,72 +1,106 @@
-//! The fields of a JSON object.
-ghost use Rattle.std.specs.Prelude.{◌≡◌, ◌<◌, IfOk, length};
-ghost use Rattle.serde_json.specs.View.{items_view, view};
-ghost use Rattle.bosh_manifest.specs.Field.{count_at, name_at, name_of, names_of, zones_at};
+//! The fields of a mapping.
+ghost use Rattle.std.specs.Prelude.{◌≡◌, ◌<◌, IfOk, length, map};
+ghost use Rattle.std.specs.Option.{option_map};
+ghost use Rattle.bosh_yaml.specs.Tree.{trees_of};
+ghost use Rattle.bosh_yaml.specs.View.{tree_of};
+ghost use Rattle.bosh_manifest.specs.Field.{count_at, count_of, instances_of, items_at, items_of, name_at, name_of, names_of, zones_at};
 ghost use Rattle.bosh_manifest.specs.Reading.{Reads};
 
 use crate::ManFault;
 use bosh_base::{Name, Seq};
-use serde_json::Value;
+use bosh_yaml::{Items, Node};
 use std::alloc::Global;
 
 // The greatest number of instances in a group.
-const MAX_INSTANCES: u64 = 256;
+const MAX_INSTANCES: u32 = 256;
 
-fn name_of(alloc: Global, value: &Value) -> Result<Name, ManFault>
-    ensures { Reads result (name_of (view value.now)) }
+fn name_of(alloc: Global, node: &Node) -> Result<Name, ManFault>
+    ensures { Reads result (name_of (tree_of node.now)) }
 {
-    match value.as_str() {
-        Some(text) => Ok(Name::of(alloc, text.as_bytes())?),
-        None => Err(ManFault::NotBare),
-    }
-}
-
-pub(crate) fn name_at(alloc: Global, object: &Value, key: &str) -> Result<Name, ManFault>
-    ensures { Reads result (name_at key.now (view object.now)) }
-{
-    match object.get(key) {
-        Some(value) => name_of(alloc, value),
-        None => Err(ManFault::NotBare),
-    }
-}
-
-/// A number of instances.
-pub(crate) fn count_at(object: &Value, key: &str) -> Result<u32, ManFault>
-    ensures { Reads result (count_at key.now (view object.now)) }
-{
-    let Some(value) = object.get(key) else {
-        return Err(ManFault::NotBare);
-    };
-    match value.as_u64() {
-        Some(count) if count <= MAX_INSTANCES => Ok(count as u32),
+    match node {
+        Node::Text(text) => Ok(Name::of(alloc, text.as_bytes())?),
         _ => Err(ManFault::NotBare),
     }
 }
 
-fn names_of(alloc: Global, values: &[Value]) -> Result<Seq<Name>, ManFault>
-    ensures reads { Reads result (names_of (items_view values.now)) }
-    ensures count { IfOk result (λ names. length names ≡ length values.now) }
+pub(crate) fn name_at(alloc: Global, holder: &Node, key: &[u8]) -> Result<Name, ManFault>
+    ensures { Reads result (name_at key.now (tree_of holder.now)) }
+{
+    match holder.find(key) {
+        Some(node) => name_of(alloc, node),
+        None => Err(ManFault::NotBare),
+    }
+}
+
+fn instances_of(count: i64) -> Result<u32, ManFault>
+    ensures { Reads result (instances_of count) }
+{
+    match u32::try_from(count) {
+        Ok(count) if count <= MAX_INSTANCES => Ok(count),
+        _ => Err(ManFault::NotBare),
+    }
+}
+
+fn count_of(node: &Node) -> Result<u32, ManFault>
+    ensures { Reads result (count_of (tree_of node.now)) }
+{
+    match node {
+        Node::Int(count) => instances_of(*count),
+        _ => Err(ManFault::NotBare),
+    }
+}
+
+/// A number of instances.
+pub(crate) fn count_at(holder: &Node, key: &[u8]) -> Result<u32, ManFault>
+    ensures { Reads result (count_at key.now (tree_of holder.now)) }
+{
+    match holder.find(key) {
+        Some(node) => count_of(node),
+        None => Err(ManFault::NotBare),
+    }
+}
+
+fn items_of(node: &Node) -> Option<&Items>
+    ensures { option_map (λ items. trees_of items.now) result ≡ items_of (tree_of node.now) }
+{
+    match node {
+        Node::List(items) => Some(items),
+        _ => None,
+    }
+}
+
+/// The items of a list.
+pub(crate) fn items_at<'a>(holder: &'a Node, key: &[u8]) -> Option<&'a Items>
+    ensures { option_map (λ items. trees_of items.now) result ≡ items_at key.now (tree_of holder.now) }
+{
+    match holder.find(key) {
+        Some(node) => items_of(node),
+        None => None,
+    }
+}
+
+fn names_of(alloc: Global, nodes: &[Node]) -> Result<Seq<Name>, ManFault>
+    ensures reads { Reads result (names_of (trees_of (map tree_of nodes.now))) }
+    ensures count { IfOk result (λ names. length names ≡ length nodes.now) }
 {
     let mut names = Vec::new(alloc);
-    for value in values {
-        names.push(name_of(alloc, value)?)?;
+    for node in nodes {
+        names.push(name_of(alloc, node)?)?;
     }
     Ok(Seq::from(names))
 }
 
 /// The names of a list that has one at least.
-pub(crate) fn zones_at(alloc: Global, object: &Value, key: &str) -> Result<Seq<Name>, ManFault>
-    ensures reads { Reads result (zones_at key.now (view object.now)) }
+pub(crate) fn zones_at(alloc: Global, holder: &Node, key: &[u8]) -> Result<Seq<Name>, ManFault>
+    ensures reads { Reads result (zones_at key.now (tree_of holder.now)) }
     ensures some { IfOk result (λ zones. 0 < length zones) }
 {
-    let Some(value) = object.get(key) else {
+    let Some(items) = items_at(holder, key) else {
         return Err(ManFault::NotBare);
     };
-    let Some(values) = value.as_array() else {
-        return Err(ManFault::NotBare);
-    };
-    if values.is_empty() {
+    let nodes = items.as_slice();
+    if nodes.is_empty() {
         return Err(ManFault::NotBare);
     }
-    names_of(alloc, values.as_slice())
+    names_of(alloc, nodes)
 }

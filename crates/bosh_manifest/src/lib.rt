@@ -1,4 +1,4 @@
-//! Deployment manifests: so far those of one group of bare machines, written as JSON.
+//! Deployment manifests: so far those of one group of bare machines.
 #![tactic(auto)]
 
 mod bare;

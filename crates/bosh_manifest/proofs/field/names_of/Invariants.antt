@@ -1,5 +1,7 @@
-use Rattle.std.proofs.Common.{◌≡◌, ℕ, List, ◌++◌, Option, Some, None, drop, length}
-use Rattle.serde_json.specs.View.{items_view}
+use Rattle.std.proofs.Common.{◌≡◌, ℕ, List, ◌++◌, Option, Some, None, drop, length, map}
+use Rattle.bosh_yaml.specs.Tree.{trees_of}
+use Rattle.bosh_yaml.specs.View.{tree_of}
+use Rattle.bosh_yaml.specs.declared.node.Node.{Node}
 use Rattle.bosh_manifest.specs.Field.{names_of}
 use Rattle.bosh_manifest.proofs.field.names_of.Given as goal
 
@@ -8,7 +10,11 @@ abbrev pub with_front : List (List ℕ) → Option (List (List ℕ)) → Option 
 with_front front None = None
 with_front front (Some names) = Some (front ++ names)
 
--- the names so far, and those of the other values, are those of all values
-abbrev pub invariant-loop-value : goal.invariant-loop-value
-invariant-loop-value l =
-    (names_of (items_view l.values) ≡ with_front l.names.items (names_of (items_view (drop l.value-index l.values)))) × (length l.names.items ≡ l.value-index)
+-- the names of nodes
+abbrev pub names_in : List Node → Option (List (List ℕ))
+names_in nodes = names_of (trees_of (map tree_of nodes))
+
+-- the names so far, and those of the other nodes, are those of all nodes
+abbrev pub invariant-loop-node : goal.invariant-loop-node
+invariant-loop-node l =
+    (names_in l.nodes ≡ with_front l.names.items (names_in (drop l.node-index l.nodes))) × (length l.names.items ≡ l.node-index)
