@@ -6,6 +6,7 @@ use Rattle.bosh_base.specs.Name.{is_name}
 use Rattle.bosh_lines.specs.declared.command.Command.{Command}
 use Rattle.bosh_lines.specs.declared.command.Command.TheVariants.{File, Deploy, Cloud}
 use Rattle.bosh_lines.specs.Path.{is_path}
+use Rattle.bosh_lines.specs.Variable.{variables_of}
 use Rattle.bosh_lines.specs.Words.{only, words}
 
 -- a path and nothing after it
@@ -16,9 +17,11 @@ path_of words = option_and_then (λ word. if is_path word then Some word else No
 abbrev pub file_of : List (List ℕ) → Option Command
 file_of words = option_map (λ path. File path) (path_of words)
 
--- `PATH`, after `-d DEPLOYMENT deploy`
+-- `PATH` and the options of variables, after `-d DEPLOYMENT deploy`
 abbrev pub deploy_of : List ℕ → List (List ℕ) → Option Command
-deploy_of dep words = if is_name dep then option_map (λ path. Deploy dep path) (path_of words) else None
+deploy_of dep [] = None
+deploy_of dep (path ∷ options) =
+    if is_name dep then (if is_path path then option_map (λ vars. Deploy dep path vars) (variables_of options) else None) else None
 
 -- `DEPLOYMENT` and what is asked of it, after `-d`
 abbrev pub of_deployment : List (List ℕ) → Option Command

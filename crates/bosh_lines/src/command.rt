@@ -7,23 +7,32 @@ ghost use Rattle.bosh_lines.specs.declared.fault.LineFault.TheVariants.{Memory};
 
 use crate::LineFault;
 use crate::path::is_path;
+use crate::variable::{Variable, are_variables, variables};
 use crate::word::{first_word, only_word};
-use bosh_base::{Name, Text};
+use bosh_base::{Name, Seq, Text};
 use std::alloc::Global;
 
 /// What a line asks for.
-#[derive(Debug, Drop)]
+#[derive(Drop)]
 pub enum Command {
     /// Keeps the lines that follow as the file of this path.
-    File { path: Text },
-    /// Brings a deployment to the state that the manifest of this path writes.
-    Deploy { dep: Name, path: Text },
+    File {
+        path: Text,
+    },
+    /// Brings a deployment to the state that the manifest of this path writes, with these variables in it.
+    Deploy {
+        dep: Name,
+        path: Text,
+        /// In the order of the line, which may give several for one name.
+        vars: Seq<Variable>,
+    },
     /// Lists the machines and disks of the cloud.
     Cloud,
 }
 
 /// The command that a line is, without its line end. Its words have spaces between them, any number, and
-/// may have them at both ends. The forms are `file PATH`, `-d DEPLOYMENT deploy PATH` and `!cloud`.
+/// may have them at both ends. The forms are `file PATH`, `-d DEPLOYMENT deploy PATH`, after which any number
+/// of options `-v NAME=VALUE` may stand, and `!cloud`.
 pub fn parse_line(alloc: Global, line: &[u8]) -> Result<Command, LineFault>
     ensures { Reads result (command_of line.now) }
 {
@@ -68,14 +77,16 @@ fn for_deployment(alloc: Global, line: &[u8]) -> Result<Command, LineFault>
 fn deploy(alloc: Global, dep: &[u8], line: &[u8]) -> Result<Command, LineFault>
     ensures { Reads result (deploy_of dep.now (words line.now)) }
 {
-    let Some(path) = only_path(line) else {
+    let Some((path, options)) = first_word(line) else {
         return Err(LineFault::UnknownCommand);
     };
+    if !is_path(path) || !are_variables(options) {
+        return Err(LineFault::UnknownCommand);
+    }
     let dep = Name::of(alloc, dep)?;
-    Ok(Command::Deploy {
-        dep,
-        path: copied(alloc, path)?,
-    })
+    let path = copied(alloc, path)?;
+    let vars = variables(alloc, options)?;
+    Ok(Command::Deploy { dep, path, vars })
 }
 
 fn cloud(line: &[u8]) -> Result<Command, LineFault>

@@ -3,7 +3,7 @@ ghost use Rattle.bosh_lines.specs.Fault.{fault_of};
 ghost use Rattle.bosh_lines.specs.declared.fault.LineFault.TheVariants.{Memory};
 
 use bosh_base::OfFault;
-use std::alloc::AllocError;
+use std::alloc::{AllocError, AllocFailed};
 
 /// Why a line is no command.
 #[derive(Clone, Copy, Debug, PartialEq, Eq)]
@@ -17,6 +17,14 @@ impl From<AllocError> for LineFault {
     ghost from_gives = { λ _ fault. fault ≡ Memory };
 
     fn from(_: AllocError) -> Self {
+        LineFault::Memory
+    }
+}
+
+impl<T: Drop> From<AllocFailed<T>> for LineFault {
+    ghost from_gives = { λ _ fault. fault ≡ Memory };
+
+    fn from(_: AllocFailed<T>) -> Self {
         LineFault::Memory
     }
 }

@@ -4,10 +4,12 @@
 mod command;
 mod fault;
 mod path;
+mod variable;
 mod word;
 
 pub use command::{Command, parse_line};
 pub use fault::LineFault;
+pub use variable::Variable;
 
 #[cfg(test)]
 mod tests;

@@ -8,7 +8,7 @@ use std::str;
 const MAX_PATH: usize = 255;
 
 #[tactic(auto, using(crate::proofs::TextLemmas::tests_text))]
-fn is_text(bytes: &[u8]) -> bool
+pub(crate) fn is_text(bytes: &[u8]) -> bool
     ensures { result ≡ is_utf8 bytes.now }
 {
     match str::from_utf8(bytes) {
