@@ -10,7 +10,7 @@ use Rattle.bosh_input.specs.declared.request.Request.{Request}
 abbrev pub keeps_file : Option Command → Bool
 keeps_file None = false
 keeps_file (Some (File path)) = true
-keeps_file (Some (Deploy dep path)) = false
+keeps_file (Some (Deploy dep path vars)) = false
 keeps_file (Some Cloud) = false
 
 -- what a line asks for
