@@ -13,7 +13,7 @@ use bosh_vars::is_name;
 use bosh_yaml::Str;
 use std::alloc::Global;
 
-/// A variable of a deploy, as it is written: what its value stands for is read later, as that of a plain scalar.
+/// A variable of a deploy, as it is written: what its value stands for is read later, as a plain scalar's.
 #[derive(Drop)]
 pub struct Variable {
     pub name: Str,
@@ -50,7 +50,8 @@ fn name_and_value(word: &[u8]) -> Option<(&[u8], &[u8])>
 
 // The variable of the option that a line begins with.
 fn first_variable(line: &[u8]) -> Option<Found<'_>>
-    ensures found { option_map (λ found. (variable found.name.now found.value.now, words found.rest.now)) result ≡ first_variable (words line.now) }
+    ensures found { option_map (λ found. (variable found.name.now found.value.now, words found.rest.now)) result
+        ≡ first_variable (words line.now) }
     ensures utf8 { IfSome result (λ found. IsUtf8 found.name.now × IsUtf8 found.value.now) }
 {
     let (option, rest) = first_word(line)?;
