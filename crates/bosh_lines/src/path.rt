@@ -1,5 +1,6 @@
 ghost use Rattle.std.specs.Prelude.{◌≡◌};
-ghost use Rattle.std.specs.Str.{is_utf8};
+ghost use Rattle.std.specs.Bool.{OnTrue};
+ghost use Rattle.std.specs.Str.{IsUtf8, is_utf8};
 ghost use Rattle.bosh_lines.specs.Path.{climbs, is_path};
 
 use std::str;
@@ -9,7 +10,8 @@ const MAX_PATH: usize = 255;
 
 #[tactic(auto, using(crate::proofs::TextLemmas::tests_text))]
 pub(crate) fn is_text(bytes: &[u8]) -> bool
-    ensures { result ≡ is_utf8 bytes.now }
+    ensures test { result ≡ is_utf8 bytes.now }
+    ensures utf8 { OnTrue result (IsUtf8 bytes.now) }
 {
     match str::from_utf8(bytes) {
         Ok(_) => true,
