@@ -1,13 +1,14 @@
 #!/usr/bin/env bash
 # Prints how long sessions take, and how the times grow: deploys of 16, 64 and 256 machines, and 1, 4 and 8 MiB of
 # comment lines. And how long it takes to put 64, 128 and 256 works in order of compilation, where each needs the one
-# before it and where each needs all before it. Each time is the least of five runs; only the ratios within one run say
-# something.
+# before it and where each needs all before it. And how long it takes to read texts of 64 KiB, 256 KiB and 1 MiB of one
+# form. Each time is the least of five runs; only the ratios within one run say something.
 set -u
 here=$(cd "$(dirname "$0")" && pwd)
 top=$(dirname "$here")
 program=$top/crates/boshd/out/boshd
 levels=$top/crates/bosh_compile_bench/out/bosh_compile_bench
+reader=$top/crates/bosh_yaml_bench/out/bosh_yaml_bench
 folder=$(mktemp -d)
 trap 'rm -rf "$folder"' EXIT
 
@@ -39,17 +40,17 @@ least() {
     echo "$best"
 }
 
-# The least time of five runs of `levels` over so many works of a form, in microseconds.
-least_of_levels() {
+# The least of five times that a program tells of itself, in microseconds. The words are the program and its own.
+least_told() {
     for _ in 1 2 3 4 5; do
-        "$levels" "$1" "$2"
+        "$@"
     done | sort -n | head -n 1
 }
 
-# One line, with the ratio to the time of the first: size, unit, time, first time.
+# One line, with the ratio to another time: size, unit, time, the other time, its name.
 line() {
-    awk -v size="$1" -v unit="$2" -v time="$3" -v first="$4" \
-        'BEGIN { printf "%4d %-32s %9.2f ms  %6.2f times the first\n", size, unit, time / 1000, time / first }'
+    awk -v size="$1" -v unit="$2" -v time="$3" -v other="$4" -v name="$5" \
+        'BEGIN { printf "%4d %-32s %9.2f ms  %6.2f times %s\n", size, unit, time / 1000, time / other, name }'
 }
 
 # One line for each size of a session.
@@ -61,7 +62,7 @@ table() {
         local time
         time=$(least "$folder/session")
         [ -n "$first" ] || first=$time
-        line "$size" "$unit" "$time" "$first"
+        line "$size" "$unit" "$time" "$first" "the first"
     done
 }
 
@@ -71,9 +72,21 @@ table_of_levels() {
     shift 2
     for size in "$@"; do
         local time
-        time=$(least_of_levels "$form" "$size")
+        time=$(least_told "$levels" "$form" "$size")
         [ -n "$first" ] || first=$time
-        line "$size" "$unit" "$time" "$first"
+        line "$size" "$unit" "$time" "$first" "the first"
+    done
+}
+
+# One line for each size of a text of a form.
+table_of_texts() {
+    local unit=$1 form=$2 before=
+    shift 2
+    for size in "$@"; do
+        local time
+        time=$(least_told "$reader" "$form" "$size")
+        line "$size" "$unit" "$time" "${before:-$time}" "the one before"
+        before=$time
     done
 }
 
@@ -81,3 +94,6 @@ table machines machines 16 64 256
 table "MiB of comment lines" comments 1 4 8
 table_of_levels "works, each on the one before" chain 64 128 256
 table_of_levels "works, each on all before" all 64 128 256
+table_of_texts "KiB of block mappings" mappings 64 256 1024
+table_of_texts "KiB of flow sequences" sequences 64 256 1024
+table_of_texts "KiB of a literal" literals 64 256 1024
