@@ -12,8 +12,9 @@ use Rattle.bosh_base.specs.declared.reply.Reply.{Reply}
 use Rattle.bosh_crew.specs.Work.{IsWork}
 use Rattle.bosh_history.specs.Moves.{nothing, durable, halts, is_halted}
 use Rattle.bosh_session.specs.Asks.{IsAsk}
-use Rattle.bosh_session.specs.Deploys.{Asked, IsDeploy, IsDeployed, IsDeployReply, IsOutcome, refusal_of}
+use Rattle.bosh_session.specs.Deploys.{IsDeploy, IsDeployed, IsDeployReply, IsOutcome, refusal_of}
 use Rattle.bosh_session.specs.declared.ask.Ask.{Ask}
+use Rattle.bosh_session.specs.declared.ask.Asked.{Asked}
 use Rattle.bosh_session.specs.declared.ask.Ask.TheVariants.{Goal as GoalAsked}
 use Rattle.bosh_session.specs.declared.files.KeptFile.{KeptFile}
 use Rattle.bosh_session.specs.declared.status.Status.{Status}

@@ -1,11 +1,10 @@
 -- The goal that a deploy asks for: it is of the deployment that the deploy names, and a task may open with it.
-use Rattle.std.proofs.Common.{◌≡◌, ℕ, zero, suc, ◌+◌, ◌<◌, ◌≤◌, Bool, true, false, Option, Some, None, List, refl, sym, ◌∙◌, ap, subst, cond, map, codes, arith, Bor}
+use Rattle.std.proofs.Common.{◌≡◌, ℕ, zero, suc, ◌+◌, ◌<◌, ◌≤◌, Bool, true, false, Option, Some, None, Result, Ok, Err, List, refl, sym, ◌∙◌, ap, subst, cond, map, arith, Bor}
 use Rattle.std.specs.Prelude.{count_by, is_some, if◌then◌else◌}
 use Rattle.std.specs.List.{range_with_len}
-use Rattle.std.specs.Option.{option_and_then, option_copied, option_map}
-use Rattle.std.specs.Str.{bytes_eq}
+use Rattle.std.specs.Option.{ok_or, option_and_then, option_copied, option_map}
+use Rattle.std.specs.Result.{result_ok}
 use Rattle.std.proofs.lemmas.List.Sums.{sum_by-cons}
-use Rattle.std.proofs.lemmas.Slice.Eq.{bytes_eq-Decides}
 use Rattle.bosh_base.specs.declared.entry.Entry.{Entry}
 use Rattle.bosh_base.specs.declared.goal.Goal.{Goal}
 use Rattle.bosh_base.specs.declared.goal.GoalRow.{GoalRow}
@@ -17,17 +16,21 @@ use Rattle.bosh_history.specs.Goals as goals
 use Rattle.bosh_history.specs.Goals.{IsSound}
 use Rattle.bosh_history.specs.Records.{goal_of}
 use Rattle.bosh_history.specs.Same.{same_inst}
-use Rattle.bosh_manifest.specs.Bare.{bare_manifest, json_of, only_group}
-use Rattle.bosh_manifest.specs.Field.{name_at}
-use Rattle.bosh_manifest.specs.Reading.{◌>>=◌}
+use Rattle.bosh_manifest.specs.Bare.{bare_manifest}
 use Rattle.bosh_manifest.specs.declared.bare.BareManifest.{BareManifest}
+use Rattle.bosh_yaml.specs.Tree.{Tree}
+use Rattle.bosh_session.proofs.NameLemmas.{named}
 use Rattle.bosh_session.specs.Asks.{IsAsk}
-use Rattle.bosh_session.specs.Deploys.{Asked, refusal_of_text, refusal_of_manifest}
+use Rattle.bosh_session.specs.Deploys.{manifest_in, refusal_of_text, refusal_of_manifest}
 use Rattle.bosh_session.specs.Files.{file_of}
+use Rattle.bosh_session.specs.Manifests.{◌>>=◌, filled_in, manifest_of_node}
 use Rattle.bosh_session.specs.Refusals.{not_yet}
 use Rattle.bosh_session.specs.declared.ask.Ask.TheVariants.{Goal as GoalAsked}
+use Rattle.bosh_session.specs.declared.ask.Asked.{Asked}
 use Rattle.bosh_session.specs.declared.files.KeptFile.{KeptFile}
 use Rattle.bosh_session.specs.declared.refusal.NotYet.TheVariants.{Deployment}
+use Rattle.bosh_session.specs.declared.text_fault.TextFault.{TextFault}
+use Rattle.bosh_session.specs.declared.text_fault.TextFault.TheVariants.{NotBare}
 
 -- ---- no instance stands in the goal twice
 
@@ -85,24 +88,16 @@ sound manifest = record {
 
 -- ---- the manifest is of the deployment
 
--- a value that a step reads, after a value before it
-step : {A B : Type 0} (before : Option A) (f : A → Option B) (b : B) → before >>= f ≡ Some b → (a : A) × (before ≡ Some a) × (f a ≡ Some b)
-step None f b is = absurd cc
-step (Some a) f b is = (a, refl, is)
+same_read : (a b : BareManifest) → ◌≡◌ {A = Result BareManifest TextFault} (Ok a) (Ok b) → a ≡ b
+same_read a b is = cc
 
-test_holds : {A : Type 0} (test : Bool) (value : Option A) (a : A) → (if test then value else None) ≡ Some a → test ≡ true
-test_holds true value a is = refl
-test_holds false value a is = absurd cc
+is_there : (found : Option BareManifest) (manifest : BareManifest) → ◌≡◌ {A = Result BareManifest TextFault} (ok_or found NotBare) (Ok manifest) → found ≡ Some manifest
+is_there None manifest is = absurd cc
+is_there (Some other) manifest is = ap Some (same_read other manifest is)
 
-same_manifest : (a b : BareManifest) → Some a ≡ Some b → a ≡ b
-same_manifest a b is = cc
-
-named : (dep text : List ℕ) (manifest : BareManifest) → bare_manifest dep text ≡ Some manifest → manifest.name ≡ dep
-named dep text manifest is =
-    let value = step (json_of text) _ manifest is in
-    let name = step (name_at (codes "name") value.0) _ manifest value.2 in
-    let group = step (if bytes_eq name.0 dep then only_group value.0 else None) _ manifest name.2 in
-    ap (λ (m : BareManifest). m.name) (sym (same_manifest _ manifest group.2)) ∙ (bytes_eq-Decides name.0 dep).0 (test_holds _ _ group.0 group.1)
+named_in_text : (dep : List ℕ) (read : Result Tree TextFault) (manifest : BareManifest) → (read >>= manifest_of_node dep) ≡ Ok manifest → manifest.name ≡ dep
+named_in_text dep (Ok t) manifest is = named dep t manifest (is_there (bare_manifest dep t) manifest is)
+named_in_text dep (Err fault) manifest is = absurd cc
 
 -- ---- what the deploy asks for
 
@@ -119,11 +114,11 @@ pub is_unknown : {A : Type 0} (found : Option (Bor A)) (value : Option A) → op
 is_unknown found value same none = ap is_some (sym same) ∙ none_copied found none
 
 -- it asks for the goal of the manifest of its file, where its deployment has no goal yet
-pub asks_goal : (files : List KeptFile) (entries : List Entry) (asked : Asked) (text : List ℕ) (manifest : BareManifest) (goal : Goal) → file_of files asked.path ≡ Some text → bare_manifest asked.dep text ≡ Some manifest → is_some (goal_of entries asked.dep) ≡ false → goal ≡ bare_goal manifest → IsAsk files entries asked (GoalAsked goal)
+pub asks_goal : (files : List KeptFile) (entries : List Entry) (asked : Asked) (text : List ℕ) (manifest : BareManifest) (goal : Goal) → file_of files asked.path ≡ Some text → manifest_in asked text ≡ Ok manifest → is_some (goal_of entries asked.dep) ≡ false → goal ≡ bare_goal manifest → IsAsk files entries asked (GoalAsked goal)
 asks_goal files entries asked text manifest goal file reads is_new is =
-    let dep : goal.dep ≡ asked.dep = ap (λ (g : Goal). g.dep) is ∙ named asked.dep text manifest reads in (
+    let dep : goal.dep ≡ asked.dep = ap (λ (g : Goal). g.dep) is ∙ named_in_text asked.dep (filled_in asked.vars text) manifest reads in (
       ap (refusal_of_text entries asked) file ∙ ap (refusal_of_manifest entries asked) reads ∙ ap (λ known. if known then Some (not_yet Deployment) else None) is_new,
-      ap (option_map bare_goal) (ap (option_and_then (bare_manifest asked.dep)) file ∙ reads) ∙ ap Some (sym is),
+      ap (option_map bare_goal) (ap (option_and_then (λ text. result_ok (manifest_in asked text))) file ∙ ap result_ok reads) ∙ ap Some (sym is),
       ap (goal_of entries) dep ∙ none_where (goal_of entries asked.dep) is_new,
       (bare_plan manifest.group, subst (λ g. IsSound g (bare_plan manifest.group)) (sym is) (sound manifest)),
     )

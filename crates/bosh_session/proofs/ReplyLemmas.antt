@@ -15,8 +15,9 @@ use Rattle.bosh_lines.specs.declared.command.Command.TheVariants.{File, Deploy, 
 use Rattle.bosh_history.specs.Moves.{nothing, durable}
 use Rattle.bosh_report.specs.Reply.{text_of}
 use Rattle.bosh_session.specs.Answers.{IsBroken, IsCommand, said}
-use Rattle.bosh_session.specs.Deploys.{Asked, IsBrokenOff, IsDeployReply, IsOpened, refusal_of}
+use Rattle.bosh_session.specs.Deploys.{IsBrokenOff, IsDeployReply, IsOpened, refusal_of}
 use Rattle.bosh_session.specs.Replies.{has_error, is_error, replied, replies, transcript}
+use Rattle.bosh_session.specs.declared.ask.Asked.{Asked}
 use Rattle.bosh_session.specs.declared.files.KeptFile.{KeptFile}
 
 -- work says nothing
@@ -48,15 +49,15 @@ deploy_says files asked None before after reply (inr is) = opened_says files ask
 pub command_says : (files : List KeptFile) (asked : Option Command) (before after : List Move) (reply : Reply) → IsCommand files asked before after reply → replies after ≡ replies before
 command_says files None before after reply is = ap replies is.1
 command_says files (Some (File path)) before after reply is = ap replies is.1
-command_says files (Some (Deploy dep path)) before after reply is = deploy_says files (record { dep = dep; path = path }) (refusal_of files (durable nothing before) (record { dep = dep; path = path })) before after reply is
+command_says files (Some (Deploy dep path vars)) before after reply is = deploy_says files (record { dep = dep; path = path; vars = vars }) (refusal_of files (durable nothing before) (record { dep = dep; path = path; vars = vars })) before after reply is
 command_says files (Some Cloud) before after reply is = ap replies is.1
 
 -- .. nor if it is broken off
 pub broken_says : (files : List KeptFile) (asked : Option Command) (before after : List Move) → IsBroken files asked before after → replies after ≡ replies before
 broken_says files None before after is = ap replies is
 broken_says files (Some (File path)) before after is = ap replies is
-broken_says files (Some (Deploy dep path)) before after (inl is) = ap replies is
-broken_says files (Some (Deploy dep path)) before after (inr is) = opened_says files (record { dep = dep; path = path }) before after is
+broken_says files (Some (Deploy dep path vars)) before after (inl is) = ap replies is
+broken_says files (Some (Deploy dep path vars)) before after (inr is) = opened_says files (record { dep = dep; path = path; vars = vars }) before after is
 broken_says files (Some Cloud) before after is = ap replies is
 
 deploy_breaks : (files : List KeptFile) (asked : Asked) (refusal : Option Reply) (before after : List Move) (reply : Reply) → IsDeployReply files asked refusal before after reply → IsBrokenOff files asked before after
@@ -68,7 +69,7 @@ deploy_breaks files asked None before after reply (inr is) = inr is.opened
 pub command_breaks : (files : List KeptFile) (asked : Option Command) (before after : List Move) (reply : Reply) → IsCommand files asked before after reply → IsBroken files asked before after
 command_breaks files None before after reply is = is.1
 command_breaks files (Some (File path)) before after reply is = is.1
-command_breaks files (Some (Deploy dep path)) before after reply is = deploy_breaks files (record { dep = dep; path = path }) (refusal_of files (durable nothing before) (record { dep = dep; path = path })) before after reply is
+command_breaks files (Some (Deploy dep path vars)) before after reply is = deploy_breaks files (record { dep = dep; path = path; vars = vars }) (refusal_of files (durable nothing before) (record { dep = dep; path = path; vars = vars })) before after reply is
 command_breaks files (Some Cloud) before after reply is = is.1
 
 -- one more reply

@@ -28,12 +28,12 @@ listed moves = if is_halted moves then stopped else cloud_reply (effects_of noth
 abbrev pub IsCommand : List KeptFile → Option Command → List Move → List Move → Reply → Type 0
 IsCommand files None before after reply = (reply ≡ unknown_command) × (after ≡ before)
 IsCommand files (Some (File path)) before after reply = (reply ≡ replies.Nothing) × (after ≡ before)
-IsCommand files (Some (Deploy dep path)) before after reply = IsDeploy files (record { dep = dep; path = path }) before after reply
+IsCommand files (Some (Deploy dep path vars)) before after reply = IsDeploy files (record { dep = dep; path = path; vars = vars }) before after reply
 IsCommand files (Some Cloud) before after reply = (reply ≡ listed before) × (after ≡ before)
 
 -- a command was broken off by want of memory
 abbrev pub IsBroken : List KeptFile → Option Command → List Move → List Move → Type 0
-IsBroken files (Some (Deploy dep path)) before after = IsBrokenOff files (record { dep = dep; path = path }) before after
+IsBroken files (Some (Deploy dep path vars)) before after = IsBrokenOff files (record { dep = dep; path = path; vars = vars }) before after
 IsBroken files asked before after = after ≡ before
 
 -- the files after a command that keeps one

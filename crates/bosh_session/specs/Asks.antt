@@ -6,8 +6,9 @@ use Rattle.bosh_base.specs.declared.reply.Reply.{Reply}
 use Rattle.bosh_book.specs.declared.fault.BookFault.TheVariants as faults
 use Rattle.bosh_history.specs.Goals.{IsSound}
 use Rattle.bosh_history.specs.Records.{goal_of}
-use Rattle.bosh_session.specs.Deploys.{Asked, goal_asked, refusal_of}
+use Rattle.bosh_session.specs.Deploys.{goal_asked, refusal_of}
 use Rattle.bosh_session.specs.Refusals.{full, stopped}
+use Rattle.bosh_session.specs.declared.ask.Asked.{Asked}
 use Rattle.bosh_session.specs.declared.ask.Ask.{Ask}
 use Rattle.bosh_session.specs.declared.ask.Ask.TheVariants.{Goal, Refused}
 use Rattle.bosh_session.specs.declared.files.KeptFile.{KeptFile}

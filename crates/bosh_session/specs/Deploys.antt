@@ -1,6 +1,7 @@
 -- What a deploy is answered, and what it does (this project's profile; bosh.io, "CLI v2", deploy).
-use Rattle.std.specs.Prelude.{◌≡◌, ◌⊎◌, ℕ, true, false, Option, Some, None, List, [], ◌∷◌, ◌++◌, All, is_some, if◌then◌else◌}
+use Rattle.std.specs.Prelude.{◌≡◌, ◌⊎◌, ℕ, true, false, Option, Some, None, Result, Ok, Err, List, [], ◌∷◌, ◌++◌, All, is_some, if◌then◌else◌}
 use Rattle.std.specs.Option.{option_and_then, option_map}
+use Rattle.std.specs.Result.{result_ok}
 use Rattle.bosh_base.specs.declared.entry.Entry.{Entry}
 use Rattle.bosh_base.specs.declared.entry.Entry.TheVariants.{TaskOpen}
 use Rattle.bosh_base.specs.declared.entry.TaskOpen as task_open
@@ -13,37 +14,38 @@ use Rattle.bosh_crew.specs.Work.{IsFull, IsWork}
 use Rattle.bosh_goal.specs.Bare.{bare_goal}
 use Rattle.bosh_history.specs.Moves.{nothing, durable, is_halted}
 use Rattle.bosh_history.specs.Records.{goal_of, is_task_open}
-use Rattle.bosh_manifest.specs.Bare.{bare_manifest}
 use Rattle.bosh_manifest.specs.declared.bare.BareManifest.{BareManifest}
 use Rattle.bosh_session.specs.Files.{file_of}
-use Rattle.bosh_session.specs.Refusals.{full, not_yet, stopped}
+use Rattle.bosh_session.specs.Manifests.{manifest_of_text}
+use Rattle.bosh_session.specs.Refusals.{full, not_yet, reply_of, stopped}
+use Rattle.bosh_session.specs.declared.ask.Asked.{Asked}
 use Rattle.bosh_session.specs.declared.files.KeptFile.{KeptFile}
-use Rattle.bosh_session.specs.declared.refusal.NotYet.TheVariants.{Path, Manifest, Deployment}
+use Rattle.bosh_session.specs.declared.refusal.NotYet.TheVariants.{Path, Deployment}
+use Rattle.bosh_session.specs.declared.text_fault.TextFault.{TextFault}
 
--- what a deploy asks for: its deployment, and the path of its manifest
-pub record Asked : Type 0 where
-  pub dep : List ℕ
-  pub path : List ℕ
+-- the manifest of a deploy that a text is, or its first fault
+abbrev pub manifest_in : Asked → List ℕ → Result BareManifest TextFault
+manifest_in asked text = manifest_of_text asked.dep asked.vars text
 
 -- the manifest that a deploy names, where its file is there and is one
 abbrev pub manifest_of : List KeptFile → Asked → Option BareManifest
-manifest_of files asked = option_and_then (bare_manifest asked.dep) (file_of files asked.path)
+manifest_of files asked = option_and_then (λ text. result_ok (manifest_in asked text)) (file_of files asked.path)
 
 -- the goal that it asks for
 abbrev pub goal_asked : List KeptFile → Asked → Option Goal
 goal_asked files asked = option_map bare_goal (manifest_of files asked)
 
 -- .. of a deployment that is new
-abbrev pub refusal_of_manifest : List Entry → Asked → Option BareManifest → Option Reply
-refusal_of_manifest entries asked None = Some (not_yet Manifest)
-refusal_of_manifest entries asked (Some manifest) = if is_some (goal_of entries asked.dep) then Some (not_yet Deployment) else None
+abbrev pub refusal_of_manifest : List Entry → Asked → Result BareManifest TextFault → Option Reply
+refusal_of_manifest entries asked (Err fault) = reply_of fault
+refusal_of_manifest entries asked (Ok manifest) = if is_some (goal_of entries asked.dep) then Some (not_yet Deployment) else None
 
 -- .. of a file that is a manifest
 abbrev pub refusal_of_text : List Entry → Asked → Option (List ℕ) → Option Reply
 refusal_of_text entries asked None = Some (not_yet Path)
-refusal_of_text entries asked (Some text) = refusal_of_manifest entries asked (bare_manifest asked.dep text)
+refusal_of_text entries asked (Some text) = refusal_of_manifest entries asked (manifest_in asked text)
 
--- the first of the reasons, in this order, to refuse a deploy: there is no file, it is no manifest, the deployment is known
+-- the first of the reasons, in this order, to refuse a deploy: there is no file, its text is not read, a placeholder has no value, it is no manifest, the deployment is known
 abbrev pub refusal_of : List KeptFile → List Entry → Asked → Option Reply
 refusal_of files entries asked = refusal_of_text entries asked (file_of files asked.path)
 

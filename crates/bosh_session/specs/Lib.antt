@@ -4,6 +4,7 @@ pub mod Deploys
 pub mod Ends
 pub mod Files
 pub mod Listing
+pub mod Manifests
 pub mod Refusals
 pub mod Replies
 pub mod Sessions

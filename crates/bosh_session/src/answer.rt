@@ -3,6 +3,7 @@ ghost use Rattle.bosh_crew.specs.Work.{KeepsStores};
 ghost use Rattle.bosh_session.specs.Answers.{IsBroken, IsCommand, files_after, listed};
 ghost use Rattle.bosh_session.specs.declared.status.Status.TheVariants.{Memory};
 
+use crate::ask::Asked;
 use crate::deploy::deploy;
 use crate::{Files, KeptFile, Status, cloud_listing, stopped, unknown_command};
 use bosh_base::Reply;
@@ -33,7 +34,9 @@ pub(crate) fn answer<K: Keeper, L: Keeper>(
             files.put(KeptFile { path, text: block })?;
             Ok(Reply::Nothing)
         }
-        Some(Command::Deploy { dep, path }) => deploy(alloc, &dep, &path, files, site),
+        Some(Command::Deploy { dep, path, vars }) => {
+            deploy(alloc, &Asked { dep, path, vars }, files, site)
+        }
         Some(Command::Cloud) => list_cloud(alloc, site),
     }
 }

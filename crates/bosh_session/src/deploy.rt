@@ -6,9 +6,9 @@ ghost use Rattle.bosh_session.specs.Asks.{IsRefusalReply};
 ghost use Rattle.bosh_session.specs.Deploys.{IsBrokenOff, IsDeploy, IsOutcome};
 ghost use Rattle.bosh_session.specs.declared.status.Status.TheVariants.{Memory};
 
-use crate::ask::{Ask, asked_of};
+use crate::ask::{Ask, Asked, asked_of};
 use crate::{Files, Status, full, stopped};
-use bosh_base::{Name, Reply, Text};
+use bosh_base::Reply;
 use bosh_book::BookFault;
 use bosh_crew::drive;
 use bosh_ports::Keeper;
@@ -18,18 +18,17 @@ use std::alloc::Global;
 /// Deploys what a manifest writes, and gives the reply.
 pub(crate) fn deploy<K: Keeper, L: Keeper>(
     alloc: Global,
-    dep: &Name,
-    path: &Text,
+    asked: &Asked,
     files: &Files,
     site: &mut Site<K, L>,
 ) -> Result<Reply, Status>
     requires idle { site.old.book.ledger.calls ≡ [] }
-    ensures reply { IfOk result (IsDeploy files.now (record { dep = dep.now; path = path.now }) site.old.moves site.new.moves) }
+    ensures reply { IfOk result (IsDeploy files.now asked.now site.old.moves site.new.moves) }
     ensures idle { OnOk result (site.new.book.ledger.calls ≡ []) }
     ensures stores { KeepsStores site.old site.new }
-    ensures broken_off { IfErr result (λ status. (status ≡ Memory) × IsBrokenOff files.now (record { dep = dep.now; path = path.now }) site.old.moves site.new.moves) }
+    ensures broken_off { IfErr result (λ status. (status ≡ Memory) × IsBrokenOff files.now asked.now site.old.moves site.new.moves) }
 {
-    let goal = match asked_of(alloc, dep, path, files, site.book().records())? {
+    let goal = match asked_of(alloc, asked, files, site.book().records())? {
         Ask::Goal(goal) => goal,
         Ask::Refused(reply) => return Ok(reply),
     };

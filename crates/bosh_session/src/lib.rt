@@ -6,14 +6,16 @@ mod ask;
 mod deploy;
 mod files;
 mod listing;
+mod manifest;
 mod output;
 mod program;
 mod refusal;
 mod reply;
 mod session;
 mod status;
+mod text_fault;
 
-pub use ask::Ask;
+pub use ask::{Ask, Asked};
 pub use files::{Files, KeptFile};
 pub use listing::cloud_listing;
 pub use output::write_all;
@@ -21,6 +23,7 @@ pub use program::run;
 pub use refusal::{NotYet, full, not_yet, stopped, unknown_command};
 pub use session::{Ended, session_plain};
 pub use status::Status;
+pub use text_fault::TextFault;
 
 #[cfg(test)]
 mod tests;

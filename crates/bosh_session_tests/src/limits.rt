@@ -36,3 +36,23 @@ fn a_byte_too_many_ends_the_session(rt: HostRuntime) -> Result<(), Fail> {
     assert_eq!(rt; written.as_slice(), FIRST_OUTPUT);
     Ok(())
 }
+
+#[test]
+fn a_file_has_at_most_a_mebibyte(rt: HostRuntime) -> Result<(), Fail> {
+    let alloc = rt.alloc();
+    let cases = [
+        (1_048_575, b"error: session NotYet manifest\n".as_slice()),
+        (1_048_576, b"error: yaml TooLarge\n"),
+    ];
+    for (size, wanted) in cases {
+        let mut session = b"file m.yml\n|".to_vec(alloc)?;
+        for _ in 0..size {
+            session.push(b'x')?;
+        }
+        session.extend_from_slice(b"\n-d dep deploy m.yml\n")?;
+        let (status, written) = run_session(&rt, alloc, &[], &session, WHOLE, WHOLE);
+        assert_eq!(rt; status, 1);
+        assert_eq!(rt; written.as_slice(), wanted);
+    }
+    Ok(())
+}

@@ -11,7 +11,7 @@ pub returns-in-Ok-clause-reply : goal.returns-in-Ok-clause-reply
 returns-in-Ok-clause-reply g c =
     let opened = c.in-Ok.ensures.opened in
     let works = c.carry_out.ensures.works in
-    deployed c.args.files.now (record { dep = c.args.dep.now; path = c.args.path.now }) c.args.site.now.moves c.begin_task.new.self.moves c.carry_out.new.site.moves c.in-Ok.task c.carry_out.result (record {
+    deployed c.args.files.now c.args.asked.now c.args.site.now.moves c.begin_task.new.self.moves c.carry_out.new.site.moves c.in-Ok.task c.carry_out.result (record {
       known = c.records.result.now;
       is_known = c.records.ensures ∙ c.book.ensures.entries;
       ask = c.in_ok-goal.field-0;
