@@ -2,13 +2,15 @@
 # Prints how long sessions take, and how the times grow: deploys of 16, 64 and 256 machines, and 1, 4 and 8 MiB of
 # comment lines. And how long it takes to put 64, 128 and 256 works in order of compilation, where each needs the one
 # before it and where each needs all before it. And how long it takes to read texts of 64 KiB, 256 KiB and 1 MiB of one
-# form. Each time is the least of five runs; only the ratios within one run say something.
+# form. Then how fast the body of a large entry is written and read, beside a plain copy of its bytes. Each time is the
+# least of five runs; only the ratios within one run say something.
 set -u
 here=$(cd "$(dirname "$0")" && pwd)
 top=$(dirname "$here")
 program=$top/crates/boshd/out/boshd
 levels=$top/crates/bosh_compile_bench/out/bosh_compile_bench
 reader=$top/crates/bosh_yaml_bench/out/bosh_yaml_bench
+codec=$top/crates/bosh_entry_bench/out/bosh_entry_bench
 folder=$(mktemp -d)
 trap 'rm -rf "$folder"' EXIT
 
@@ -24,13 +26,14 @@ comments() {
     yes "# $(printf 'x%.0s' {1..61})" | head -c $(($1 * 1048576))
 }
 
-# The least time of five runs of a session, in microseconds.
+# The least time of five runs of a command, in microseconds. The first word is the file that it reads.
 least() {
-    local best=
+    local best= input=$1
+    shift
     for _ in 1 2 3 4 5; do
         local begun ended took
         begun=$(date +%s%N)
-        "$program" < "$1" > /dev/null
+        "$@" < "$input" > /dev/null
         ended=$(date +%s%N)
         took=$(((ended - begun) / 1000))
         if [ -z "$best" ] || [ "$took" -lt "$best" ]; then
@@ -60,7 +63,7 @@ table() {
     for size in "$@"; do
         "$make" "$size" > "$folder/session"
         local time
-        time=$(least "$folder/session")
+        time=$(least "$folder/session" "$program")
         [ -n "$first" ] || first=$time
         line "$size" "$unit" "$time" "$first" "the first"
     done
@@ -97,3 +100,20 @@ table_of_levels "works, each on all before" all 64 128 256
 table_of_texts "KiB of block mappings" mappings 64 256 1024
 table_of_texts "KiB of flow sequences" sequences 64 256 1024
 table_of_texts "KiB of a literal" literals 64 256 1024
+
+# How many MiB a second a work on the opening of a task of 512 instances gets through, and how many times as long as a
+# copy it takes. What comes before the rounds is measured by a run without any, and left out.
+speeds() {
+    local rounds=$1 work before bytes time copied=
+    before=$(least /dev/null "$codec" copy 0)
+    for work in copy write read; do
+        bytes=$("$codec" "$work" 0 | cut -d' ' -f2)
+        time=$(($(least /dev/null "$codec" "$work" "$rounds") - before))
+        [ "$time" -gt 0 ] || time=1
+        [ -n "$copied" ] || copied=$time
+        awk -v work="$work" -v size=$((bytes * rounds)) -v time="$time" -v copied="$copied" \
+            'BEGIN { printf "%-6s of an entry %10.1f MiB/s  %8.2f times a copy\n", work, size / 1.048576 / time, time / copied }'
+    done
+}
+
+speeds 500

@@ -1,0 +1,6 @@
+use Rattle.bosh_entry.specs.declared.format.Format.TheVariants.{Older}
+use Rattle.bosh_entry.proofs.BodyLemmas.{whole_takes}
+use Rattle.bosh_entry.proofs.laws.what_is_read_is_older.Goals as goal
+
+pub returns : goal.returns
+returns c = whole_takes Older

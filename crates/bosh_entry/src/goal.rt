@@ -1,0 +1,105 @@
+ghost use Rattle.std.specs.Prelude.{◌≡◌};
+
+use crate::coded::Coded;
+use crate::fault::EntryFault;
+use crate::format::Format;
+use crate::later::later;
+use crate::source::Source;
+use bosh_base::{Goal, GoalRow, GroupPlan, Inst, Make, Name, Seq, Spec, State};
+use std::alloc::Global;
+
+impl Coded for GoalRow {
+    ghost use Rattle.bosh_entry.specs.Goal.{goal_row, is_goal_row, goal_row_at};
+
+    ghost spelling = { λ _. goal_row };
+
+    ghost fits = { λ _. is_goal_row };
+
+    ghost reading = { λ _. goal_row_at };
+
+    #[tactic(auto, unfolding(crate::specs::Goal::goal_row, crate::specs::Goal::is_goal_row))]
+    fn write(&self, out: &mut Vec<u8>) -> Result<(), EntryFault> {
+        self.inst.write(out)?;
+        self.make.write(out)?;
+        self.spec.write(out)?;
+        self.disk.write(out)?;
+        self.state.write(out)?;
+        self.fresh_after.write(out)
+    }
+
+    #[tactic(auto, using(crate::proofs::StructLemmas::goal_row_parts))]
+    fn read(alloc: Global, format: Format, from: &mut Source) -> Result<Self, EntryFault> {
+        let fields = Coded::read(alloc, format, from)?;
+        let (((inst, make), (spec, disk)), (state, fresh_after)) = fields;
+        Ok(GoalRow {
+            inst,
+            make,
+            spec,
+            disk,
+            state,
+            fresh_after,
+        })
+    }
+}
+
+impl Coded for GroupPlan {
+    ghost use Rattle.bosh_entry.specs.Goal.{group_plan, is_group_plan, group_plan_at};
+
+    ghost spelling = { λ _. group_plan };
+
+    ghost fits = { λ _. is_group_plan };
+
+    ghost reading = { λ _. group_plan_at };
+
+    #[tactic(auto, unfolding(crate::specs::Goal::group_plan, crate::specs::Goal::is_group_plan))]
+    fn write(&self, out: &mut Vec<u8>) -> Result<(), EntryFault> {
+        self.name.write(out)?;
+        self.canaries.write(out)?;
+        self.limit.write(out)?;
+        self.stage.write(out)
+    }
+
+    #[tactic(auto, unfolding(crate::specs::Goal::group_plan_at))]
+    fn read(alloc: Global, format: Format, from: &mut Source) -> Result<Self, EntryFault> {
+        Ok(GroupPlan {
+            name: Name::read(alloc, format, from)?,
+            canaries: u32::read(alloc, format, from)?,
+            limit: u32::read(alloc, format, from)?,
+            stage: u32::read(alloc, format, from)?,
+        })
+    }
+}
+
+impl Coded for Goal {
+    ghost use Rattle.bosh_entry.specs.Goal.{goal, is_goal, goal_at};
+
+    ghost spelling = { goal };
+
+    ghost fits = { is_goal };
+
+    ghost reading = { goal_at };
+
+    #[tactic(auto, unfolding(crate::specs::Goal::goal, crate::specs::Goal::is_goal))]
+    fn write(&self, out: &mut Vec<u8>) -> Result<(), EntryFault> {
+        self.dep.write(out)?;
+        self.rows.write(out)?;
+        self.groups.write(out)?;
+        self.ties.write(out)?;
+        self.keys.write(out)?;
+        self.slots.write(out)?;
+        self.offers.write(out)
+    }
+
+    #[tactic(auto, unfolding(crate::specs::Goal::goal_at))]
+    fn read(alloc: Global, format: Format, from: &mut Source) -> Result<Self, EntryFault> {
+        Ok(Goal {
+            dep: Name::read(alloc, format, from)?,
+            rows: Seq::read(alloc, format, from)?,
+            groups: Seq::read(alloc, format, from)?,
+            ties: Seq::read(alloc, format, from)?,
+            keys: Seq::read(alloc, format, from)?,
+            slots: Seq::read(alloc, format, from)?,
+            offers: later(alloc, format, from, Seq::new(alloc))?,
+        })
+    }
+}

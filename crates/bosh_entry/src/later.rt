@@ -1,0 +1,41 @@
+ghost use Rattle.std.specs.Prelude.{◌≡◌};
+ghost use Rattle.bosh_entry.specs.Reading.{Gives};
+ghost use Rattle.bosh_entry.specs.Later.{later_at};
+ghost use Rattle.bosh_entry.specs.Pair.{pair_at};
+
+use crate::coded::Coded;
+use crate::fault::EntryFault;
+use crate::format::Format;
+use crate::source::Source;
+use std::alloc::Global;
+
+/// A field that the older format has not: there it is `absent`.
+#[tactic(auto, unfolding(crate::specs::Later::later_at))]
+pub fn later<T: Coded>(
+    alloc: Global,
+    format: Format,
+    from: &mut Source,
+    absent: T,
+) -> Result<T, EntryFault>
+    ensures { Gives result from.new.rest.now (later_at absent (T.reading format) format from.old.rest.now) }
+{
+    match format {
+        Format::Older => Ok(absent),
+        Format::Present => T::read(alloc, format, from),
+    }
+}
+
+/// Fields, and after them one that the older format has not.
+#[tactic(auto, unfolding(crate::specs::Pair::pair_at))]
+pub fn before_later<A: Coded, T: Coded>(
+    alloc: Global,
+    format: Format,
+    from: &mut Source,
+    absent: T,
+) -> Result<(A, T), EntryFault>
+    ensures { Gives result from.new.rest.now (pair_at (A.reading format) (later_at absent (T.reading format) format) from.old.rest.now) }
+{
+    let fields = A::read(alloc, format, from)?;
+    let last = later(alloc, format, from, absent)?;
+    Ok((fields, last))
+}

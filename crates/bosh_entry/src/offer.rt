@@ -1,0 +1,40 @@
+ghost use Rattle.std.specs.Prelude.{◌≡◌};
+
+use crate::coded::Coded;
+use crate::fault::EntryFault;
+use crate::format::Format;
+use crate::source::Source;
+use bosh_base::{Joint, Offer, Seq, Text};
+use std::alloc::Global;
+
+impl Coded for Offer {
+    ghost use Rattle.bosh_entry.specs.Offer.{offer, is_offer, offer_at};
+
+    ghost spelling = { λ _. offer };
+
+    ghost fits = { λ _. is_offer };
+
+    ghost reading = { λ _. offer_at };
+
+    #[tactic(auto, unfolding(crate::specs::Offer::offer, crate::specs::Offer::is_offer))]
+    fn write(&self, out: &mut Vec<u8>) -> Result<(), EntryFault> {
+        self.joint.write(out)?;
+        self.kind.write(out)?;
+        self.public_name.write(out)?;
+        self.addrs.write(out)?;
+        self.listed.write(out)?;
+        self.properties.write(out)
+    }
+
+    #[tactic(auto, unfolding(crate::specs::Offer::offer_at))]
+    fn read(alloc: Global, format: Format, from: &mut Source) -> Result<Self, EntryFault> {
+        Ok(Offer {
+            joint: Joint::read(alloc, format, from)?,
+            kind: Text::read(alloc, format, from)?,
+            public_name: Text::read(alloc, format, from)?,
+            addrs: Seq::read(alloc, format, from)?,
+            listed: Seq::read(alloc, format, from)?,
+            properties: Seq::read(alloc, format, from)?,
+        })
+    }
+}

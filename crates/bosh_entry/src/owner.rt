@@ -1,0 +1,50 @@
+ghost use Rattle.std.specs.Prelude.{◌≡◌};
+
+use crate::coded::Coded;
+use crate::fault::EntryFault;
+use crate::format::Format;
+use crate::source::Source;
+use bosh_base::{Inst, Owner};
+use std::alloc::Global;
+
+impl Coded for Owner {
+    ghost use Rattle.bosh_entry.specs.Owner.{owner, is_owner, owner_at};
+
+    ghost spelling = { λ _. owner };
+
+    ghost fits = { λ _. is_owner };
+
+    ghost reading = { λ _. owner_at };
+
+    #[tactic(auto, unfolding(crate::specs::Owner::owner, crate::specs::Owner::is_owner))]
+    fn write(&self, out: &mut Vec<u8>) -> Result<(), EntryFault> {
+        match self {
+            Owner::Instance(inst) => {
+                out.push(0)?;
+                inst.write(out)
+            }
+            Owner::Compile(task, slot) => {
+                out.push(1)?;
+                task.write(out)?;
+                slot.write(out)
+            }
+            Owner::Disk(number) => {
+                out.push(2)?;
+                number.write(out)
+            }
+        }
+    }
+
+    #[tactic(auto, unfolding(crate::specs::Owner::owner_at))]
+    fn read(alloc: Global, format: Format, from: &mut Source) -> Result<Self, EntryFault> {
+        match from.byte()? {
+            0 => Ok(Owner::Instance(Inst::read(alloc, format, from)?)),
+            1 => Ok(Owner::Compile(
+                u64::read(alloc, format, from)?,
+                u32::read(alloc, format, from)?,
+            )),
+            2 => Ok(Owner::Disk(u64::read(alloc, format, from)?)),
+            _ => Err(EntryFault::NotAnEntry),
+        }
+    }
+}

@@ -1,0 +1,31 @@
+ghost use Rattle.std.specs.Prelude.{◌≡◌};
+
+use crate::coded::Coded;
+use crate::fault::EntryFault;
+use crate::format::Format;
+use crate::source::Source;
+use std::alloc::Global;
+
+/// Two values, one after the other. Structs of many fields are read as pairs of pairs, so that what was read before bytes
+/// that spell no field is dropped in one place.
+impl<A: Coded, B: Coded> Coded for (A, B) {
+    ghost use Rattle.bosh_entry.specs.Pair.{pair, is_pair, pair_at};
+
+    ghost spelling = { λ format. pair (A.spelling format) (B.spelling format) };
+
+    ghost fits = { λ format. is_pair (A.fits format) (B.fits format) };
+
+    ghost reading = { λ format. pair_at (A.reading format) (B.reading format) };
+
+    fn write(&self, out: &mut Vec<u8>) -> Result<(), EntryFault> {
+        self.0.write(out)?;
+        self.1.write(out)
+    }
+
+    #[tactic(auto, unfolding(crate::specs::Pair::pair_at))]
+    fn read(alloc: Global, format: Format, from: &mut Source) -> Result<Self, EntryFault> {
+        let first = A::read(alloc, format, from)?;
+        let second = B::read(alloc, format, from)?;
+        Ok((first, second))
+    }
+}

@@ -1,0 +1,164 @@
+ghost use Rattle.std.specs.Prelude.{◌≡◌};
+
+use crate::coded::Coded;
+use crate::fault::EntryFault;
+use crate::format::Format;
+use crate::later::later;
+use crate::source::Source;
+use bosh_base::{
+    BuiltKey, CompileRow, DepRow, Digest, DiskWant, Goal, Inst, Key, Make, Name, Orphan, Seq,
+    Snapshot,
+};
+use std::alloc::Global;
+
+impl Coded for DepRow {
+    ghost use Rattle.bosh_entry.specs.Snapshot.{dep_row, is_dep_row, dep_row_at};
+
+    ghost spelling = { dep_row };
+
+    ghost fits = { is_dep_row };
+
+    ghost reading = { dep_row_at };
+
+    #[tactic(auto, unfolding(crate::specs::Snapshot::dep_row, crate::specs::Snapshot::is_dep_row))]
+    fn write(&self, out: &mut Vec<u8>) -> Result<(), EntryFault> {
+        self.dep.write(out)?;
+        self.goal.write(out)?;
+        self.shared.write(out)
+    }
+
+    #[tactic(auto, unfolding(crate::specs::Snapshot::dep_row_at))]
+    fn read(alloc: Global, format: Format, from: &mut Source) -> Result<Self, EntryFault> {
+        Ok(DepRow {
+            dep: Name::read(alloc, format, from)?,
+            goal: Goal::read(alloc, format, from)?,
+            shared: later(alloc, format, from, Seq::new(alloc))?,
+        })
+    }
+}
+
+impl Coded for CompileRow {
+    ghost use Rattle.bosh_entry.specs.Snapshot.{compile_row, is_compile_row, compile_row_at};
+
+    ghost spelling = { λ _. compile_row };
+
+    ghost fits = { λ _. is_compile_row };
+
+    ghost reading = { λ _. compile_row_at };
+
+    #[tactic(auto, unfolding(crate::specs::Snapshot::compile_row, crate::specs::Snapshot::is_compile_row))]
+    fn write(&self, out: &mut Vec<u8>) -> Result<(), EntryFault> {
+        self.task.write(out)?;
+        self.slot.write(out)?;
+        self.dep.write(out)?;
+        self.make.write(out)?;
+        self.vm.write(out)?;
+        self.doubt.write(out)
+    }
+
+    #[tactic(auto, unfolding(crate::specs::Snapshot::compile_row_at))]
+    fn read(alloc: Global, format: Format, from: &mut Source) -> Result<Self, EntryFault> {
+        Ok(CompileRow {
+            task: u64::read(alloc, format, from)?,
+            slot: u32::read(alloc, format, from)?,
+            dep: Name::read(alloc, format, from)?,
+            make: Make::read(alloc, format, from)?,
+            vm: Option::read(alloc, format, from)?,
+            doubt: Option::read(alloc, format, from)?,
+        })
+    }
+}
+
+impl Coded for Orphan {
+    ghost use Rattle.bosh_entry.specs.Snapshot.{orphan, is_orphan, orphan_at};
+
+    ghost spelling = { λ _. orphan };
+
+    ghost fits = { λ _. is_orphan };
+
+    ghost reading = { λ _. orphan_at };
+
+    #[tactic(auto, unfolding(crate::specs::Snapshot::orphan, crate::specs::Snapshot::is_orphan))]
+    fn write(&self, out: &mut Vec<u8>) -> Result<(), EntryFault> {
+        self.disk.write(out)?;
+        self.want.write(out)?;
+        self.inst.write(out)?;
+        self.doubt.write(out)
+    }
+
+    #[tactic(auto, unfolding(crate::specs::Snapshot::orphan_at))]
+    fn read(alloc: Global, format: Format, from: &mut Source) -> Result<Self, EntryFault> {
+        Ok(Orphan {
+            disk: u64::read(alloc, format, from)?,
+            want: DiskWant::read(alloc, format, from)?,
+            inst: Inst::read(alloc, format, from)?,
+            doubt: Option::read(alloc, format, from)?,
+        })
+    }
+}
+
+impl Coded for BuiltKey {
+    ghost use Rattle.bosh_entry.specs.Snapshot.{built_key, is_built_key, built_key_at};
+
+    ghost spelling = { λ _. built_key };
+
+    ghost fits = { λ _. is_built_key };
+
+    ghost reading = { λ _. built_key_at };
+
+    #[tactic(auto, unfolding(crate::specs::Snapshot::built_key, crate::specs::Snapshot::is_built_key))]
+    fn write(&self, out: &mut Vec<u8>) -> Result<(), EntryFault> {
+        self.name.write(out)?;
+        self.key.write(out)?;
+        self.digest.write(out)
+    }
+
+    #[tactic(auto, unfolding(crate::specs::Snapshot::built_key_at))]
+    fn read(alloc: Global, format: Format, from: &mut Source) -> Result<Self, EntryFault> {
+        Ok(BuiltKey {
+            name: Name::read(alloc, format, from)?,
+            key: Key::read(alloc, format, from)?,
+            digest: Digest::read(alloc, format, from)?,
+        })
+    }
+}
+
+impl Coded for Snapshot {
+    ghost use Rattle.bosh_entry.specs.Snapshot.{snapshot, is_snapshot, snapshot_at};
+
+    ghost spelling = { snapshot };
+
+    ghost fits = { is_snapshot };
+
+    ghost reading = { snapshot_at };
+
+    #[tactic(auto, unfolding(crate::specs::Snapshot::snapshot, crate::specs::Snapshot::is_snapshot))]
+    fn write(&self, out: &mut Vec<u8>) -> Result<(), EntryFault> {
+        self.releases.write(out)?;
+        self.stemcells.write(out)?;
+        self.config.write(out)?;
+        self.deployments.write(out)?;
+        self.rows.write(out)?;
+        self.compile_rows.write(out)?;
+        self.orphans.write(out)?;
+        self.built_keys.write(out)?;
+        self.tasks.write(out)?;
+        self.last_call.write(out)
+    }
+
+    #[tactic(auto, unfolding(crate::specs::Snapshot::snapshot_at))]
+    fn read(alloc: Global, format: Format, from: &mut Source) -> Result<Self, EntryFault> {
+        Ok(Snapshot {
+            releases: Seq::read(alloc, format, from)?,
+            stemcells: Seq::read(alloc, format, from)?,
+            config: Option::read(alloc, format, from)?,
+            deployments: Seq::read(alloc, format, from)?,
+            rows: Seq::read(alloc, format, from)?,
+            compile_rows: Seq::read(alloc, format, from)?,
+            orphans: Seq::read(alloc, format, from)?,
+            built_keys: Seq::read(alloc, format, from)?,
+            tasks: Seq::read(alloc, format, from)?,
+            last_call: u64::read(alloc, format, from)?,
+        })
+    }
+}

@@ -1,0 +1,173 @@
+ghost use Rattle.std.specs.Prelude.{◌≡◌};
+
+use crate::coded::Coded;
+use crate::fault::EntryFault;
+use crate::format::Format;
+use crate::later::later;
+use crate::source::Source;
+use bosh_base::{Inst, Method, Owner, TaskEnd, TaskKind, TaskRow};
+use std::alloc::Global;
+
+impl Coded for TaskKind {
+    ghost use Rattle.bosh_entry.specs.Task.{task_kind, is_task_kind, task_kind_at};
+
+    ghost spelling = { λ _. task_kind };
+
+    ghost fits = { is_task_kind };
+
+    ghost reading = { task_kind_at };
+
+    #[tactic(auto, unfolding(crate::specs::Task::task_kind, crate::specs::Task::is_task_kind))]
+    fn write(&self, out: &mut Vec<u8>) -> Result<(), EntryFault> {
+        match self {
+            TaskKind::Deploy => {
+                out.push(0)?;
+                Ok(())
+            }
+            TaskKind::Recreate(inst) => {
+                out.push(1)?;
+                inst.write(out)
+            }
+            TaskKind::Start(inst) => {
+                out.push(2)?;
+                inst.write(out)
+            }
+            TaskKind::Stop(inst) => {
+                out.push(3)?;
+                inst.write(out)
+            }
+            TaskKind::DeleteDeployment => {
+                out.push(4)?;
+                Ok(())
+            }
+            TaskKind::DeleteDisk(number) => {
+                out.push(5)?;
+                number.write(out)
+            }
+            TaskKind::CleanUp => {
+                out.push(6)?;
+                Ok(())
+            }
+            TaskKind::Fix => {
+                out.push(7)?;
+                Ok(())
+            }
+            TaskKind::Resolve(inst) => {
+                out.push(8)?;
+                inst.write(out)
+            }
+        }
+    }
+
+    #[tactic(auto, unfolding(crate::specs::Task::task_kind_at, crate::specs::Later::present_at))]
+    fn read(alloc: Global, format: Format, from: &mut Source) -> Result<Self, EntryFault> {
+        match from.byte()? {
+            0 => Ok(TaskKind::Deploy),
+            1 => Ok(TaskKind::Recreate(Inst::read(alloc, format, from)?)),
+            2 => Ok(TaskKind::Start(Inst::read(alloc, format, from)?)),
+            3 => Ok(TaskKind::Stop(Inst::read(alloc, format, from)?)),
+            4 => Ok(TaskKind::DeleteDeployment),
+            5 => Ok(TaskKind::DeleteDisk(u64::read(alloc, format, from)?)),
+            6 => Ok(TaskKind::CleanUp),
+            7 => match format {
+                Format::Older => Err(EntryFault::NotAnEntry),
+                Format::Present => Ok(TaskKind::Fix)
+            },
+            8 => match format {
+                Format::Older => Err(EntryFault::NotAnEntry),
+                Format::Present => Ok(TaskKind::Resolve(Inst::read(alloc, format, from)?))
+            },
+            _ => Err(EntryFault::NotAnEntry),
+        }
+    }
+}
+
+impl Coded for TaskEnd {
+    ghost use Rattle.bosh_entry.specs.Task.{task_end, is_task_end, task_end_at};
+
+    ghost spelling = { λ _. task_end };
+
+    ghost fits = { is_task_end };
+
+    ghost reading = { task_end_at };
+
+    #[tactic(auto, unfolding(crate::specs::Task::task_end, crate::specs::Task::is_task_end))]
+    fn write(&self, out: &mut Vec<u8>) -> Result<(), EntryFault> {
+        match self {
+            TaskEnd::Finished => {
+                out.push(0)?;
+                Ok(())
+            }
+            TaskEnd::Fault { n, method, owner } => {
+                out.push(1)?;
+                n.write(out)?;
+                method.write(out)?;
+                owner.write(out)
+            }
+            TaskEnd::Interrupted => {
+                out.push(2)?;
+                Ok(())
+            }
+            TaskEnd::Gone { n, method, owner } => {
+                out.push(3)?;
+                n.write(out)?;
+                method.write(out)?;
+                owner.write(out)
+            }
+        }
+    }
+
+    #[tactic(auto, unfolding(crate::specs::Task::task_end_at, crate::specs::Later::present_at))]
+    fn read(alloc: Global, format: Format, from: &mut Source) -> Result<Self, EntryFault> {
+        match from.byte()? {
+            0 => Ok(TaskEnd::Finished),
+            1 => Ok(TaskEnd::Fault {
+                n: u64::read(alloc, format, from)?,
+                method: Method::read(alloc, format, from)?,
+                owner: Owner::read(alloc, format, from)?,
+            }),
+            2 => Ok(TaskEnd::Interrupted),
+            3 => match format {
+                Format::Older => Err(EntryFault::NotAnEntry),
+                Format::Present => Ok(TaskEnd::Gone {
+                    n: u64::read(alloc, format, from)?,
+                    method: Method::read(alloc, format, from)?,
+                    owner: Owner::read(alloc, format, from)?,
+                })
+            },
+            _ => Err(EntryFault::NotAnEntry),
+        }
+    }
+}
+
+impl Coded for TaskRow {
+    ghost use Rattle.bosh_entry.specs.Task.{task_row, is_task_row, task_row_at};
+
+    ghost spelling = { task_row };
+
+    ghost fits = { is_task_row };
+
+    ghost reading = { task_row_at };
+
+    #[tactic(auto, unfolding(crate::specs::Task::task_row, crate::specs::Task::is_task_row))]
+    fn write(&self, out: &mut Vec<u8>) -> Result<(), EntryFault> {
+        self.task.write(out)?;
+        self.kind.write(out)?;
+        self.dep.write(out)?;
+        self.end.write(out)?;
+        self.source.write(out)?;
+        self.calls.write(out)
+    }
+
+    #[tactic(auto, unfolding(crate::specs::Task::task_row_at))]
+    fn read(alloc: Global, format: Format, from: &mut Source) -> Result<Self, EntryFault> {
+        Ok(TaskRow {
+            task: u64::read(alloc, format, from)?,
+            kind: TaskKind::read(alloc, format, from)?,
+            dep: Option::read(alloc, format, from)?,
+            end: Option::read(alloc, format, from)?,
+            source: later(alloc, format, from, None)?,
+            calls: later(alloc, format, from, None)?,
+        })
+    }
+}
