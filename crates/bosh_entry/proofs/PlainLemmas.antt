@@ -1,10 +1,10 @@
 -- Names and digests are read as they were spelled.
-use Rattle.std.proofs.Common.{◌≡◌, ℕ, suc, ◌≤◌, true, false, ◌&&◌, ltb, eqb, List, [], ◌∷◌, ◌++◌, length, take, drop, Some, refl, sym, subst, arith}
+use Rattle.std.proofs.Common.{◌≡◌, ℕ, suc, ◌+◌, ◌<◌, ◌≤◌, true, false, ◌&&◌, ltb, eqb, List, [], ◌∷◌, ◌++◌, length, get_or, take, drop, Some, refl, sym, subst, arith, inl, inr}
 use Rattle.std.specs.List.{list_all}
 use Rattle.std.specs.Char.{is_ascii_alphanumeric}
-use Rattle.std.proofs.lemmas.Bool.{ltb-true, ltb-false, lt-ltb, le-ltb, eqb-true, eq-eqb, and_parts, and_from, or_left}
+use Rattle.std.proofs.lemmas.Bool.{cases_lt, ltb-true, ltb-false, lt-ltb, le-ltb, eqb-true, eq-eqb, and_parts, and_from, or_left}
 use Rattle.std.proofs.lemmas.Bool.Decides.{nat_tests}
-use Rattle.std.proofs.lemmas.List.{take_at, drop_at, take-append-drop, length-append, length-take}
+use Rattle.std.proofs.lemmas.List.{get_or-append-add, get_or_past, take_at, drop_at, take-append-drop, length-append, length-take}
 use Rattle.bosh_base.specs.Name.{is_name, is_name_byte}
 use Rattle.bosh_base.specs.declared.digest.Digest.{Digest}
 use Rattle.bosh_entry.specs.Reading.{IsBytes}
@@ -40,11 +40,20 @@ all_bytes : (bytes : List ℕ) → IsBytes bytes → list_all is_byte bytes ≡ 
 all_bytes [] fits = refl
 all_bytes (b ∷ bytes) fits = and_from (is_byte b) (list_all is_byte bytes) (lt-ltb b 256 (fits 0)) (all_bytes bytes (λ i. fits (suc i)))
 
--- 32 bytes are a digest
-pub digest_fits : (d : Digest) → length d.0 ≡ 32 → IsBytes d.0 → is_digest d ≡ true
+-- what was added to bytes, where all of them are bytes
+added_bytes : (front text : List ℕ) → ((i d : ℕ) → i < length (front ++ text) → get_or (front ++ text) i d < 256) → IsBytes text
+added_bytes front text fits i =
+    elim (cases_lt i (length text)) [
+      | inl lt ↦ rw (← get_or-append-add front text i 0) (fits (length front + i) 0 (omega (arith, length-append front text)))
+      | inr le ↦ rw (get_or_past text i 0 le) (omega arith)
+    ]
+
+-- 32 bytes that were added to bytes are a digest
+pub added_digest : (d : Digest) (front bytes : List ℕ) → length d.0 ≡ 32 → bytes ≡ front ++ d.0 → ((i e : ℕ) → i < length bytes → get_or bytes i e < 256) → is_digest d ≡ true
 unfolding is_digest
-digest_fits d len fits =
-    and_from (eqb (length d.0) 32) (list_all is_byte d.0) (eq-eqb (length d.0) 32 len) (all_bytes d.0 fits)
+added_digest d front bytes len parts fits =
+    let added = added_bytes front d.0 (subst (λ (bytes : List ℕ). (i e : ℕ) → i < length bytes → get_or bytes i e < 256) parts fits) in
+    and_from (eqb (length d.0) 32) (list_all is_byte d.0) (eq-eqb (length d.0) 32 len) (all_bytes d.0 added)
 
 digest_takes : (bytes : List ℕ) (x : Digest × List ℕ) → IsBytes bytes → digest_at bytes ≡ Some x → Takes bytes (digest x.0) x.1 × (is_digest x.0 ≡ true)
 unfolding digest is_digest digest_at

@@ -43,7 +43,7 @@ impl Coded for Digest {
 
     ghost reading = { λ _. digest_at };
 
-    #[tactic(auto, using(crate::proofs::PlainLemmas::digest_fits), unfolding(crate::specs::Plain::digest))]
+    #[tactic(auto, unfolding(crate::specs::Plain::digest))]
     fn write(&self, out: &mut Vec<u8>) -> Result<(), EntryFault> {
         out.extend_from_slice(&self.0)?;
         Ok(())
