@@ -4,6 +4,7 @@ use crate::coded::Coded;
 use crate::fault::EntryFault;
 use crate::format::Format;
 use crate::source::Source;
+use crate::variant::write_variant;
 use bosh_base::{Answer, Digest, Seq};
 use std::alloc::Global;
 
@@ -19,30 +20,12 @@ impl Coded for Answer {
     #[tactic(auto, unfolding(crate::specs::Answer::answer, crate::specs::Answer::is_answer))]
     fn write(&self, out: &mut Vec<u8>) -> Result<(), EntryFault> {
         match self {
-            Answer::Done => {
-                out.push(0)?;
-                Ok(())
-            }
-            Answer::Cid(number) => {
-                out.push(1)?;
-                number.write(out)
-            }
-            Answer::Found(found) => {
-                out.push(2)?;
-                found.write(out)
-            }
-            Answer::Yes => {
-                out.push(3)?;
-                Ok(())
-            }
-            Answer::No => {
-                out.push(4)?;
-                Ok(())
-            }
-            Answer::Disks(items) => {
-                out.push(5)?;
-                items.write(out)
-            }
+            Answer::Done => 0u8.write(out),
+            Answer::Cid(number) => write_variant(1, number, out),
+            Answer::Found(found) => write_variant(2, found, out),
+            Answer::Yes => 3u8.write(out),
+            Answer::No => 4u8.write(out),
+            Answer::Disks(items) => write_variant(5, items, out),
             Answer::Facts {
                 spec,
                 running,
@@ -53,18 +36,9 @@ impl Coded for Answer {
                 running.write(out)?;
                 drained.write(out)
             }
-            Answer::Built(digest) => {
-                out.push(7)?;
-                digest.write(out)
-            }
-            Answer::Gone => {
-                out.push(8)?;
-                Ok(())
-            }
-            Answer::Failed => {
-                out.push(9)?;
-                Ok(())
-            }
+            Answer::Built(digest) => write_variant(7, digest, out),
+            Answer::Gone => 8u8.write(out),
+            Answer::Failed => 9u8.write(out),
         }
     }
 

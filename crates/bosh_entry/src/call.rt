@@ -1,11 +1,67 @@
 ghost use Rattle.std.specs.Prelude.{◌≡◌};
+ghost use Rattle.bosh_base.specs.declared.method.Method.TheVariants.{CreateVm, CreateDisk, Apply, MigrateDisk, CompilePackage};
+ghost use Rattle.bosh_entry.specs.Reading.{Gives};
+ghost use Rattle.bosh_entry.specs.Call.{call_of_at};
 
 use crate::coded::Coded;
 use crate::fault::EntryFault;
 use crate::format::Format;
+use crate::pair::write_both;
 use crate::source::Source;
 use bosh_base::{Call, DiskWant, KeyWork, Make, Method, Seq, Spec};
 use std::alloc::Global;
+
+#[tactic(auto, unfolding(crate::specs::Call::call_of_at))]
+fn create_vm(alloc: Global, format: Format, from: &mut Source) -> Result<Call, EntryFault>
+    ensures { Gives result from.new.rest.now (call_of_at CreateVm from.old.rest.now) }
+{
+    Ok(Call::CreateVm {
+        make: Make::read(alloc, format, from)?,
+        disks: Seq::read(alloc, format, from)?,
+    })
+}
+
+#[tactic(auto, unfolding(crate::specs::Call::call_of_at))]
+fn create_disk(alloc: Global, format: Format, from: &mut Source) -> Result<Call, EntryFault>
+    ensures { Gives result from.new.rest.now (call_of_at CreateDisk from.old.rest.now) }
+{
+    Ok(Call::CreateDisk {
+        want: DiskWant::read(alloc, format, from)?,
+        vm: from.number()?,
+    })
+}
+
+#[tactic(auto, unfolding(crate::specs::Call::call_of_at))]
+fn apply(alloc: Global, format: Format, from: &mut Source) -> Result<Call, EntryFault>
+    ensures { Gives result from.new.rest.now (call_of_at Apply from.old.rest.now) }
+{
+    Ok(Call::Apply {
+        vm: from.number()?,
+        spec: Spec::read(alloc, format, from)?,
+    })
+}
+
+#[tactic(auto, unfolding(crate::specs::Call::call_of_at))]
+fn migrate_disk(from: &mut Source) -> Result<Call, EntryFault>
+    ensures { Gives result from.new.rest.now (call_of_at MigrateDisk from.old.rest.now) }
+{
+    Ok(Call::MigrateDisk {
+        vm: from.number()?,
+        from: from.number()?,
+        to: from.number()?,
+    })
+}
+
+#[tactic(auto, unfolding(crate::specs::Call::call_of_at))]
+fn compile_package(alloc: Global, format: Format, from: &mut Source) -> Result<Call, EntryFault>
+    ensures { Gives result from.new.rest.now (call_of_at CompilePackage from.old.rest.now) }
+{
+    Ok(Call::CompilePackage {
+        vm: from.number()?,
+        work: KeyWork::read(alloc, format, from)?,
+        deps: Seq::read(alloc, format, from)?,
+    })
+}
 
 impl Coded for Call {
     ghost use Rattle.bosh_entry.specs.Call.{call, is_call, call_at};
@@ -20,47 +76,26 @@ impl Coded for Call {
     fn write(&self, out: &mut Vec<u8>) -> Result<(), EntryFault> {
         self.method().write(out)?;
         match self {
-            Call::CreateVm { make, disks } => {
-                make.write(out)?;
-                disks.write(out)
-            }
-            Call::DeleteVm { vm } => { vm.write(out) }
-            Call::HasVm { vm } => { vm.write(out) }
-            Call::FindVm { agent } => { agent.write(out) }
-            Call::CreateDisk { want, vm } => {
-                want.write(out)?;
-                vm.write(out)
-            }
-            Call::DeleteDisk { disk } => { disk.write(out) }
-            Call::HasDisk { disk } => { disk.write(out) }
-            Call::FindDisk { tag } => { tag.write(out) }
-            Call::AttachDisk { vm, disk } => {
-                vm.write(out)?;
-                disk.write(out)
-            }
-            Call::DetachDisk { vm, disk } => {
-                vm.write(out)?;
-                disk.write(out)
-            }
-            Call::GetDisks { vm } => { vm.write(out) }
-            Call::Ping { vm } => { vm.write(out) }
-            Call::GetState { vm } => { vm.write(out) }
-            Call::Apply { vm, spec } => {
-                vm.write(out)?;
-                spec.write(out)
-            }
-            Call::Start { vm } => { vm.write(out) }
-            Call::Drain { vm } => { vm.write(out) }
-            Call::Stop { vm } => { vm.write(out) }
-            Call::MountDisk { vm, disk } => {
-                vm.write(out)?;
-                disk.write(out)
-            }
-            Call::UnmountDisk { vm, disk } => {
-                vm.write(out)?;
-                disk.write(out)
-            }
-            Call::ListDisk { vm } => { vm.write(out) }
+            Call::CreateVm { make, disks } => write_both(make, disks, out),
+            Call::DeleteVm { vm } => vm.write(out),
+            Call::HasVm { vm } => vm.write(out),
+            Call::FindVm { agent } => agent.write(out),
+            Call::CreateDisk { want, vm } => write_both(want, vm, out),
+            Call::DeleteDisk { disk } => disk.write(out),
+            Call::HasDisk { disk } => disk.write(out),
+            Call::FindDisk { tag } => tag.write(out),
+            Call::AttachDisk { vm, disk } => write_both(vm, disk, out),
+            Call::DetachDisk { vm, disk } => write_both(vm, disk, out),
+            Call::GetDisks { vm } => vm.write(out),
+            Call::Ping { vm } => vm.write(out),
+            Call::GetState { vm } => vm.write(out),
+            Call::Apply { vm, spec } => write_both(vm, spec, out),
+            Call::Start { vm } => vm.write(out),
+            Call::Drain { vm } => vm.write(out),
+            Call::Stop { vm } => vm.write(out),
+            Call::MountDisk { vm, disk } => write_both(vm, disk, out),
+            Call::UnmountDisk { vm, disk } => write_both(vm, disk, out),
+            Call::ListDisk { vm } => vm.write(out),
             Call::MigrateDisk { vm, from, to } => {
                 vm.write(out)?;
                 from.write(out)?;
@@ -77,59 +112,40 @@ impl Coded for Call {
     #[tactic(auto, unfolding(crate::specs::Call::call_at, crate::specs::Call::call_of_at))]
     fn read(alloc: Global, format: Format, from: &mut Source) -> Result<Self, EntryFault> {
         match Method::read(alloc, format, from)? {
-            Method::CreateVm => Ok(Call::CreateVm {
-                make: Make::read(alloc, format, from)?,
-                disks: Seq::read(alloc, format, from)?,
-            }),
-            Method::DeleteVm => u64::read(alloc, format, from).map(|vm| Call::DeleteVm { vm }),
-            Method::HasVm => u64::read(alloc, format, from).map(|vm| Call::HasVm { vm }),
-            Method::FindVm => u64::read(alloc, format, from).map(|agent| Call::FindVm { agent }),
-            Method::CreateDisk => Ok(Call::CreateDisk {
-                want: DiskWant::read(alloc, format, from)?,
-                vm: u64::read(alloc, format, from)?,
-            }),
-            Method::DeleteDisk => u64::read(alloc, format, from).map(|disk| Call::DeleteDisk {
-                disk,
-            }),
-            Method::HasDisk => u64::read(alloc, format, from).map(|disk| Call::HasDisk { disk }),
-            Method::FindDisk => u64::read(alloc, format, from).map(|tag| Call::FindDisk { tag }),
+            Method::CreateVm => create_vm(alloc, format, from),
+            Method::DeleteVm => from.number().map(|vm| Call::DeleteVm { vm }),
+            Method::HasVm => from.number().map(|vm| Call::HasVm { vm }),
+            Method::FindVm => from.number().map(|agent| Call::FindVm { agent }),
+            Method::CreateDisk => create_disk(alloc, format, from),
+            Method::DeleteDisk => from.number().map(|disk| Call::DeleteDisk { disk }),
+            Method::HasDisk => from.number().map(|disk| Call::HasDisk { disk }),
+            Method::FindDisk => from.number().map(|tag| Call::FindDisk { tag }),
             Method::AttachDisk => Ok(Call::AttachDisk {
-                vm: u64::read(alloc, format, from)?,
-                disk: u64::read(alloc, format, from)?,
+                vm: from.number()?,
+                disk: from.number()?,
             }),
             Method::DetachDisk => Ok(Call::DetachDisk {
-                vm: u64::read(alloc, format, from)?,
-                disk: u64::read(alloc, format, from)?,
+                vm: from.number()?,
+                disk: from.number()?,
             }),
-            Method::GetDisks => u64::read(alloc, format, from).map(|vm| Call::GetDisks { vm }),
-            Method::Ping => u64::read(alloc, format, from).map(|vm| Call::Ping { vm }),
-            Method::GetState => u64::read(alloc, format, from).map(|vm| Call::GetState { vm }),
-            Method::Apply => Ok(Call::Apply {
-                vm: u64::read(alloc, format, from)?,
-                spec: Spec::read(alloc, format, from)?,
-            }),
-            Method::Start => u64::read(alloc, format, from).map(|vm| Call::Start { vm }),
-            Method::Drain => u64::read(alloc, format, from).map(|vm| Call::Drain { vm }),
-            Method::Stop => u64::read(alloc, format, from).map(|vm| Call::Stop { vm }),
+            Method::GetDisks => from.number().map(|vm| Call::GetDisks { vm }),
+            Method::Ping => from.number().map(|vm| Call::Ping { vm }),
+            Method::GetState => from.number().map(|vm| Call::GetState { vm }),
+            Method::Apply => apply(alloc, format, from),
+            Method::Start => from.number().map(|vm| Call::Start { vm }),
+            Method::Drain => from.number().map(|vm| Call::Drain { vm }),
+            Method::Stop => from.number().map(|vm| Call::Stop { vm }),
             Method::MountDisk => Ok(Call::MountDisk {
-                vm: u64::read(alloc, format, from)?,
-                disk: u64::read(alloc, format, from)?,
+                vm: from.number()?,
+                disk: from.number()?,
             }),
             Method::UnmountDisk => Ok(Call::UnmountDisk {
-                vm: u64::read(alloc, format, from)?,
-                disk: u64::read(alloc, format, from)?,
+                vm: from.number()?,
+                disk: from.number()?,
             }),
-            Method::ListDisk => u64::read(alloc, format, from).map(|vm| Call::ListDisk { vm }),
-            Method::MigrateDisk => Ok(Call::MigrateDisk {
-                vm: u64::read(alloc, format, from)?,
-                from: u64::read(alloc, format, from)?,
-                to: u64::read(alloc, format, from)?,
-            }),
-            Method::CompilePackage => Ok(Call::CompilePackage {
-                vm: u64::read(alloc, format, from)?,
-                work: KeyWork::read(alloc, format, from)?,
-                deps: Seq::read(alloc, format, from)?,
-            }),
+            Method::ListDisk => from.number().map(|vm| Call::ListDisk { vm }),
+            Method::MigrateDisk => migrate_disk(from),
+            Method::CompilePackage => compile_package(alloc, format, from),
         }
     }
 }

@@ -4,6 +4,7 @@ use crate::coded::Coded;
 use crate::fault::EntryFault;
 use crate::format::Format;
 use crate::source::Source;
+use crate::variant::write_variant;
 use std::alloc::Global;
 
 impl Coded for bool {
@@ -44,14 +45,8 @@ impl<T: Coded> Coded for Option<T> {
 
     fn write(&self, out: &mut Vec<u8>) -> Result<(), EntryFault> {
         match self {
-            None => {
-                out.push(0)?;
-                Ok(())
-            }
-            Some(value) => {
-                out.push(1)?;
-                value.write(out)
-            }
+            None => 0u8.write(out),
+            Some(value) => write_variant(1, value, out),
         }
     }
 

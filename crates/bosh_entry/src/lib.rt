@@ -35,6 +35,7 @@ mod spec;
 mod state;
 mod stemcell;
 mod task;
+mod variant;
 
 pub use codec::{read, read_old, write};
 pub use fault::EntryFault;

@@ -4,6 +4,7 @@ use crate::coded::Coded;
 use crate::fault::EntryFault;
 use crate::format::Format;
 use crate::source::Source;
+use crate::variant::write_variant;
 use bosh_base::{Inst, Owner};
 use std::alloc::Global;
 
@@ -19,19 +20,13 @@ impl Coded for Owner {
     #[tactic(auto, unfolding(crate::specs::Owner::owner, crate::specs::Owner::is_owner))]
     fn write(&self, out: &mut Vec<u8>) -> Result<(), EntryFault> {
         match self {
-            Owner::Instance(inst) => {
-                out.push(0)?;
-                inst.write(out)
-            }
+            Owner::Instance(inst) => write_variant(0, inst, out),
             Owner::Compile(task, slot) => {
                 out.push(1)?;
                 task.write(out)?;
                 slot.write(out)
             }
-            Owner::Disk(number) => {
-                out.push(2)?;
-                number.write(out)
-            }
+            Owner::Disk(number) => write_variant(2, number, out),
         }
     }
 

@@ -1,10 +1,26 @@
-ghost use Rattle.std.specs.Prelude.{◌≡◌};
+ghost use Rattle.std.specs.Prelude.{◌≡◌, ◌++◌, ◌&&◌, true, OnOk, IfErr};
+ghost use Rattle.bosh_entry.specs.declared.fault.EntryFault.TheVariants.{Memory};
+ghost use Rattle.bosh_entry.specs.declared.format.Format.TheVariants.{Present};
 
 use crate::coded::Coded;
 use crate::fault::EntryFault;
 use crate::format::Format;
 use crate::source::Source;
 use std::alloc::Global;
+
+/// Adds the spellings of two values at the end.
+pub fn write_both<A: Coded, B: Coded>(
+    first: &A,
+    second: &B,
+    out: &mut Vec<u8>,
+) -> Result<(), EntryFault>
+    ensures ok { OnOk result (out.new.items ≡ out.old.items ++ A.spelling Present first.now ++ B.spelling Present second.now) }
+    ensures fits { OnOk result ((A.fits Present first.now && B.fits Present second.now) ≡ true) }
+    ensures err { IfErr result (λ fault. fault ≡ Memory) }
+{
+    first.write(out)?;
+    second.write(out)
+}
 
 /// Two values, one after the other. Structs of many fields are read as pairs of pairs, so that what was read before bytes
 /// that spell no field is dropped in one place.
@@ -18,8 +34,7 @@ impl<A: Coded, B: Coded> Coded for (A, B) {
     ghost reading = { λ format. pair_at (A.reading format) (B.reading format) };
 
     fn write(&self, out: &mut Vec<u8>) -> Result<(), EntryFault> {
-        self.0.write(out)?;
-        self.1.write(out)
+        write_both(&self.0, &self.1, out)
     }
 
     #[tactic(auto, unfolding(crate::specs::Pair::pair_at))]

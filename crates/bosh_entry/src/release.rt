@@ -4,6 +4,7 @@ use crate::coded::Coded;
 use crate::fault::EntryFault;
 use crate::format::Format;
 use crate::source::Source;
+use crate::variant::write_variant;
 use bosh_base::{
     Digest, JobSpec, LinkSpec, Name, PackageSpec, Prop, PropSpec, Release, Seq, Setting,
     TemplateSpec, Text,
@@ -22,14 +23,8 @@ impl Coded for Setting {
     #[tactic(auto, unfolding(crate::specs::Release::setting, crate::specs::Release::is_setting))]
     fn write(&self, out: &mut Vec<u8>) -> Result<(), EntryFault> {
         match self {
-            Setting::Scalar(text) => {
-                out.push(0)?;
-                text.write(out)
-            }
-            Setting::Compound => {
-                out.push(1)?;
-                Ok(())
-            }
+            Setting::Scalar(text) => write_variant(0, text, out),
+            Setting::Compound => 1u8.write(out),
         }
     }
 

@@ -20,18 +20,9 @@ impl Coded for Role {
     #[tactic(auto, unfolding(crate::specs::Row::role, crate::specs::Row::is_role))]
     fn write(&self, out: &mut Vec<u8>) -> Result<(), EntryFault> {
         match self {
-            Role::Active => {
-                out.push(0)?;
-                Ok(())
-            }
-            Role::New => {
-                out.push(1)?;
-                Ok(())
-            }
-            Role::Old => {
-                out.push(2)?;
-                Ok(())
-            }
+            Role::Active => 0u8.write(out),
+            Role::New => 1u8.write(out),
+            Role::Old => 2u8.write(out),
         }
     }
 

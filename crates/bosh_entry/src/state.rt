@@ -19,18 +19,9 @@ impl Coded for State {
     #[tactic(auto, unfolding(crate::specs::State::state, crate::specs::State::is_state))]
     fn write(&self, out: &mut Vec<u8>) -> Result<(), EntryFault> {
         match self {
-            State::Running => {
-                out.push(0)?;
-                Ok(())
-            }
-            State::Stopped => {
-                out.push(1)?;
-                Ok(())
-            }
-            State::Detached => {
-                out.push(2)?;
-                Ok(())
-            }
+            State::Running => 0u8.write(out),
+            State::Stopped => 1u8.write(out),
+            State::Detached => 2u8.write(out),
         }
     }
 

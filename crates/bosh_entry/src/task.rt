@@ -5,6 +5,7 @@ use crate::fault::EntryFault;
 use crate::format::Format;
 use crate::later::later;
 use crate::source::Source;
+use crate::variant::write_variant;
 use bosh_base::{Inst, Method, Owner, TaskEnd, TaskKind, TaskRow};
 use std::alloc::Global;
 
@@ -20,42 +21,15 @@ impl Coded for TaskKind {
     #[tactic(auto, unfolding(crate::specs::Task::task_kind, crate::specs::Task::is_task_kind))]
     fn write(&self, out: &mut Vec<u8>) -> Result<(), EntryFault> {
         match self {
-            TaskKind::Deploy => {
-                out.push(0)?;
-                Ok(())
-            }
-            TaskKind::Recreate(inst) => {
-                out.push(1)?;
-                inst.write(out)
-            }
-            TaskKind::Start(inst) => {
-                out.push(2)?;
-                inst.write(out)
-            }
-            TaskKind::Stop(inst) => {
-                out.push(3)?;
-                inst.write(out)
-            }
-            TaskKind::DeleteDeployment => {
-                out.push(4)?;
-                Ok(())
-            }
-            TaskKind::DeleteDisk(number) => {
-                out.push(5)?;
-                number.write(out)
-            }
-            TaskKind::CleanUp => {
-                out.push(6)?;
-                Ok(())
-            }
-            TaskKind::Fix => {
-                out.push(7)?;
-                Ok(())
-            }
-            TaskKind::Resolve(inst) => {
-                out.push(8)?;
-                inst.write(out)
-            }
+            TaskKind::Deploy => 0u8.write(out),
+            TaskKind::Recreate(inst) => write_variant(1, inst, out),
+            TaskKind::Start(inst) => write_variant(2, inst, out),
+            TaskKind::Stop(inst) => write_variant(3, inst, out),
+            TaskKind::DeleteDeployment => 4u8.write(out),
+            TaskKind::DeleteDisk(number) => write_variant(5, number, out),
+            TaskKind::CleanUp => 6u8.write(out),
+            TaskKind::Fix => 7u8.write(out),
+            TaskKind::Resolve(inst) => write_variant(8, inst, out),
         }
     }
 
@@ -94,20 +68,14 @@ impl Coded for TaskEnd {
     #[tactic(auto, unfolding(crate::specs::Task::task_end, crate::specs::Task::is_task_end))]
     fn write(&self, out: &mut Vec<u8>) -> Result<(), EntryFault> {
         match self {
-            TaskEnd::Finished => {
-                out.push(0)?;
-                Ok(())
-            }
+            TaskEnd::Finished => 0u8.write(out),
             TaskEnd::Fault { n, method, owner } => {
                 out.push(1)?;
                 n.write(out)?;
                 method.write(out)?;
                 owner.write(out)
             }
-            TaskEnd::Interrupted => {
-                out.push(2)?;
-                Ok(())
-            }
+            TaskEnd::Interrupted => 2u8.write(out),
             TaskEnd::Gone { n, method, owner } => {
                 out.push(3)?;
                 n.write(out)?;
