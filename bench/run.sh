@@ -69,37 +69,19 @@ table() {
     done
 }
 
-# One line for each number of works of a form.
-table_of_levels() {
-    local unit=$1 form=$2 first=
-    shift 2
+# One line for each size that a program is run on, with the ratio to the time of `the first` or of `the one before`.
+table_of() {
+    local program=$1 form=$2 unit=$3 against=$4 other=
+    shift 4
     for size in "$@"; do
         local time
-        time=$(least_told "$levels" "$form" "$size")
-        [ -n "$first" ] || first=$time
-        line "$size" "$unit" "$time" "$first" "the first"
+        time=$(least_told "$program" "$form" "$size")
+        line "$size" "$unit" "$time" "${other:-$time}" "$against"
+        if [ -z "$other" ] || [ "$against" = "the one before" ]; then
+            other=$time
+        fi
     done
 }
-
-# One line for each size of a text of a form.
-table_of_texts() {
-    local unit=$1 form=$2 before=
-    shift 2
-    for size in "$@"; do
-        local time
-        time=$(least_told "$reader" "$form" "$size")
-        line "$size" "$unit" "$time" "${before:-$time}" "the one before"
-        before=$time
-    done
-}
-
-table machines machines 16 64 256
-table "MiB of comment lines" comments 1 4 8
-table_of_levels "works, each on the one before" chain 64 128 256
-table_of_levels "works, each on all before" all 64 128 256
-table_of_texts "KiB of block mappings" mappings 64 256 1024
-table_of_texts "KiB of flow sequences" sequences 64 256 1024
-table_of_texts "KiB of a literal" literals 64 256 1024
 
 # How many MiB a second a work on the opening of a task of 512 instances gets through, and how many times as long as a
 # copy it takes. What comes before the rounds is measured by a run without any, and left out.
@@ -116,4 +98,11 @@ speeds() {
     done
 }
 
+table machines machines 16 64 256
+table "MiB of comment lines" comments 1 4 8
+table_of "$levels" chain "works, each on the one before" "the first" 64 128 256
+table_of "$levels" all "works, each on all before" "the first" 64 128 256
+table_of "$reader" mappings "KiB of block mappings" "the one before" 64 256 1024
+table_of "$reader" sequences "KiB of flow sequences" "the one before" 64 256 1024
+table_of "$reader" literals "KiB of a literal" "the one before" 64 256 1024
 speeds 500
