@@ -115,15 +115,22 @@ fn snapshot_body(alloc: Global) -> Result<Vec<u8>, Fail> {
     )
 }
 
-/// The kinds of the director's store that have long bodies.
-fn long_cases(alloc: Global) -> Result<Vec<Case>, Fail> {
-    let mut cases = Vec::new(alloc);
+fn case_of(alloc: Global, parts: &[&[u8]], entry: Entry) -> Result<Case, Fail> {
+    Ok(Case {
+        body: joined(alloc, parts)?,
+        entry,
+    })
+}
+
+fn release_case(alloc: Global) -> Result<Case, Fail> {
     let release = parts::release(alloc)?;
-    cases.push(Case {
-        body: joined(alloc, &[b"\x02\x01", release.as_slice()])?,
-        entry: Entry::Release(goals::release(alloc)?),
-    })?;
+    let entry = Entry::Release(goals::release(alloc)?);
+    case_of(alloc, &[b"\x02\x01", release.as_slice()], entry)
+}
+
+fn open_case(alloc: Global) -> Result<Case, Fail> {
     let goal = parts::goal(alloc)?;
+    let entry = Entry::TaskOpen(task_open(alloc)?);
     let open: &[&[u8]] = &[
         b"\x02\x04",
         ONE,
@@ -141,11 +148,12 @@ fn long_cases(alloc: Global) -> Result<Vec<Case>, Fail> {
         b"\x01",
         CDCDCD,
     ];
-    cases.push(Case {
-        body: joined(alloc, open)?,
-        entry: Entry::TaskOpen(task_open(alloc)?),
-    })?;
+    case_of(alloc, open, entry)
+}
+
+fn begin_case(alloc: Global) -> Result<Case, Fail> {
     let work = parts::work(alloc)?;
+    let entry = Entry::Begin(begin(alloc)?);
     let call: &[&[u8]] = &[
         b"\x02\x05",
         TWO,
@@ -159,33 +167,34 @@ fn long_cases(alloc: Global) -> Result<Vec<Case>, Fail> {
         ONE,
         ABABAB,
     ];
-    cases.push(Case {
-        body: joined(alloc, call)?,
-        entry: Entry::Begin(begin(alloc)?),
-    })?;
+    case_of(alloc, call, entry)
+}
+
+fn end_case(alloc: Global) -> Result<Case, Fail> {
     let spec_bytes = parts::spec(alloc)?;
-    let facts = Answer::Facts {
+    let answer = Answer::Facts {
         spec: Some(spec(alloc)?),
         running: true,
         drained: false,
     };
-    cases.push(Case {
-        body: joined(
-            alloc,
-            &[
-                b"\x02\x06",
-                TWO,
-                b"\x06",
-                b"\x01",
-                spec_bytes.as_slice(),
-                b"\x01\0",
-            ],
-        )?,
-        entry: Entry::End(End {
-            n: 2,
-            answer: facts,
-        }),
-    })?;
+    let end: &[&[u8]] = &[
+        b"\x02\x06",
+        TWO,
+        b"\x06",
+        b"\x01",
+        spec_bytes.as_slice(),
+        b"\x01\0",
+    ];
+    case_of(alloc, end, Entry::End(End { n: 2, answer }))
+}
+
+/// The kinds of the director's store that have long bodies.
+fn long_cases(alloc: Global) -> Result<Vec<Case>, Fail> {
+    let mut cases = Vec::new(alloc);
+    cases.push(release_case(alloc)?)?;
+    cases.push(open_case(alloc)?)?;
+    cases.push(begin_case(alloc)?)?;
+    cases.push(end_case(alloc)?)?;
     cases.push(Case {
         body: snapshot_body(alloc)?,
         entry: Entry::Snapshot(snapshot(alloc, true)?),
@@ -193,79 +202,73 @@ fn long_cases(alloc: Global) -> Result<Vec<Case>, Fail> {
     Ok(cases)
 }
 
-/// The others of the director's store.
-fn short_cases(alloc: Global) -> Result<Vec<Case>, Fail> {
+fn upload_cases(alloc: Global) -> Result<Vec<Case>, Fail> {
     let mut cases = Vec::new(alloc);
-    cases.push(Case {
-        body: joined(alloc, &[b"\x02\x02", O_1])?,
-        entry: Entry::Stemcell(stemcell(alloc)?),
-    })?;
-    cases.push(Case {
-        body: joined(alloc, &[b"\x02\x03", TWO, b"{}"])?,
-        entry: Entry::Config(text(alloc, b"{}")?),
-    })?;
-    cases.push(Case {
-        body: joined(alloc, &[b"\x02\x07", ONE, INST])?,
-        entry: Entry::UpdBegin(update(alloc)?),
-    })?;
-    cases.push(Case {
-        body: joined(alloc, &[b"\x02\x08", ONE, INST])?,
-        entry: Entry::UpdDone(update(alloc)?),
-    })?;
-    cases.push(Case {
-        body: joined(alloc, &[b"\x02\x09", ONE, INST])?,
-        entry: Entry::Gone(update(alloc)?),
-    })?;
-    cases.push(Case {
-        body: joined(alloc, &[b"\x02\x0a", ONE])?,
-        entry: Entry::TaskDone(1),
-    })?;
-    let error = TaskError {
-        task: 1,
-        cause: Failure::Gone(2),
-    };
-    cases.push(Case {
-        body: joined(alloc, &[b"\x02\x0b", ONE, b"\x02", TWO])?,
-        entry: Entry::TaskError(error),
-    })?;
+    let uploaded = Entry::Stemcell(stemcell(alloc)?);
+    cases.push(case_of(alloc, &[b"\x02\x02", O_1], uploaded)?)?;
+    let config = Entry::Config(text(alloc, b"{}")?);
+    cases.push(case_of(alloc, &[b"\x02\x03", TWO, b"{}"], config)?)?;
     Ok(cases)
 }
 
-/// The kinds of the cloud's store.
-pub fn cloud_cases(alloc: Global) -> Result<Vec<Case>, Fail> {
+fn update_cases(alloc: Global) -> Result<Vec<Case>, Fail> {
     let mut cases = Vec::new(alloc);
+    let begun = Entry::UpdBegin(update(alloc)?);
+    cases.push(case_of(alloc, &[b"\x02\x07", ONE, INST], begun)?)?;
+    let done = Entry::UpdDone(update(alloc)?);
+    cases.push(case_of(alloc, &[b"\x02\x08", ONE, INST], done)?)?;
+    let gone = Entry::Gone(update(alloc)?);
+    cases.push(case_of(alloc, &[b"\x02\x09", ONE, INST], gone)?)?;
+    Ok(cases)
+}
+
+/// The ends of tasks.
+fn end_of_task_cases(alloc: Global) -> Result<Vec<Case>, Fail> {
+    let mut cases = Vec::new(alloc);
+    cases.push(case_of(alloc, &[b"\x02\x0a", ONE], Entry::TaskDone(1))?)?;
+    let error = Entry::TaskError(TaskError {
+        task: 1,
+        cause: Failure::Gone(2),
+    });
+    cases.push(case_of(alloc, &[b"\x02\x0b", ONE, b"\x02", TWO], error)?)?;
+    Ok(cases)
+}
+
+fn effect_case(alloc: Global) -> Result<Case, Fail> {
     let effect = Effect {
         n: 2,
         owner: Owner::Compile(1, 3),
         dep: crate::samples::name(alloc, b"d")?,
         call: Call::DeleteVm { vm: 4 },
     };
-    cases.push(Case {
-        body: joined(
-            alloc,
-            &[b"\x01\x0d", TWO, b"\x01", ONE, THREE, D, b"\x01", FOUR],
-        )?,
-        entry: Entry::Effect(effect),
-    })?;
-    let write = Write {
+    let body: &[&[u8]] = &[b"\x01\x0d", TWO, b"\x01", ONE, THREE, D, b"\x01", FOUR];
+    case_of(alloc, body, Entry::Effect(effect))
+}
+
+/// The kinds of the cloud's store.
+pub fn cloud_cases(alloc: Global) -> Result<Vec<Case>, Fail> {
+    let mut cases = Vec::new(alloc);
+    cases.push(effect_case(alloc)?)?;
+    let write = Entry::Write(Write {
         disk: 7,
         text: text(alloc, b"t")?,
-    };
-    cases.push(Case {
-        body: joined(alloc, &[b"\x01\x0e", SEVEN, parts::T])?,
-        entry: Entry::Write(write),
-    })?;
-    cases.push(Case {
-        body: joined(alloc, &[b"\x01\x0f", FOUR, b"\x01"])?,
-        entry: Entry::Lost(Loss { vm: 4, whole: true }),
-    })?;
+    });
+    cases.push(case_of(alloc, &[b"\x01\x0e", SEVEN, parts::T], write)?)?;
+    let loss = Entry::Lost(Loss { vm: 4, whole: true });
+    cases.push(case_of(alloc, &[b"\x01\x0f", FOUR, b"\x01"], loss)?)?;
     Ok(cases)
 }
 
 #[test]
 fn each_kind_has_the_body_that_the_rules_give(rt: HostRuntime) -> Result<(), Fail> {
     let alloc = rt.alloc();
-    let tables = [long_cases(alloc)?, short_cases(alloc)?, cloud_cases(alloc)?];
+    let tables = [
+        long_cases(alloc)?,
+        upload_cases(alloc)?,
+        update_cases(alloc)?,
+        end_of_task_cases(alloc)?,
+        cloud_cases(alloc)?,
+    ];
     for table in &tables {
         for case in table {
             let written = write(alloc, &case.entry)?;
