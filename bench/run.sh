@@ -2,13 +2,15 @@
 # Prints how long sessions take, and how the times grow: deploys of 16, 64 and 256 machines, and 1, 4 and 8 MiB of
 # comment lines. And how long it takes to put 64, 128 and 256 works in order of compilation, where each needs the one
 # before it and where each needs all before it. And how long it takes to read texts of 64 KiB, 256 KiB and 1 MiB of one
-# form. Each time is the least of five runs; only the ratios within one run say something.
+# form. Then how fast the body of a large entry is written and read, beside a plain copy of its bytes. Each time is the
+# least of five runs; only the ratios within one run say something.
 set -u
 here=$(cd "$(dirname "$0")" && pwd)
 top=$(dirname "$here")
 program=$top/crates/boshd/out/boshd
 levels=$top/crates/bosh_compile_bench/out/bosh_compile_bench
 reader=$top/crates/bosh_yaml_bench/out/bosh_yaml_bench
+codec=$top/crates/bosh_entry_bench/out/bosh_entry_bench
 folder=$(mktemp -d)
 trap 'rm -rf "$folder"' EXIT
 
@@ -81,6 +83,21 @@ table_of() {
     done
 }
 
+# How many MiB a second a work on the opening of a task of 512 instances gets through, and how many times as long as a
+# copy it takes. What comes before the rounds is measured by a run without any, and left out.
+speeds() {
+    local rounds=$1 work before bytes time copied=
+    before=$(least /dev/null "$codec" copy 0)
+    for work in copy write read; do
+        bytes=$("$codec" "$work" 0 | cut -d' ' -f2)
+        time=$(($(least /dev/null "$codec" "$work" "$rounds") - before))
+        [ "$time" -gt 0 ] || time=1
+        [ -n "$copied" ] || copied=$time
+        awk -v work="$work" -v size=$((bytes * rounds)) -v time="$time" -v copied="$copied" \
+            'BEGIN { printf "%-6s of an entry %10.1f MiB/s  %8.2f times a copy\n", work, size / 1.048576 / time, time / copied }'
+    done
+}
+
 table machines machines 16 64 256
 table "MiB of comment lines" comments 1 4 8
 table_of "$levels" chain "works, each on the one before" "the first" 64 128 256
@@ -88,3 +105,4 @@ table_of "$levels" all "works, each on all before" "the first" 64 128 256
 table_of "$reader" mappings "KiB of block mappings" "the one before" 64 256 1024
 table_of "$reader" sequences "KiB of flow sequences" "the one before" 64 256 1024
 table_of "$reader" literals "KiB of a literal" "the one before" 64 256 1024
+speeds 500

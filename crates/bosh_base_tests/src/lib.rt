@@ -10,6 +10,4 @@ mod names;
 #[cfg(test)]
 mod plans;
 #[cfg(test)]
-mod samples;
-#[cfg(test)]
 mod versions;

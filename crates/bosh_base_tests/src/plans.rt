@@ -1,13 +1,13 @@
-use crate::samples::goals::{addr, net_plan};
-use crate::samples::name;
+use bosh_samples::goals::{addr, net_plan};
+use bosh_samples::name;
 use std::test::Fail;
 
 #[test]
 fn tells_whom_a_plan_gives_an_address(rt: HostRuntime) -> Result<(), Fail> {
     let alloc = rt.alloc();
-    let net = name(alloc, b"net")?;
-    let zone = name(alloc, b"z1")?;
-    let other = name(alloc, b"z2")?;
+    let net = name(alloc, b"n")?;
+    let zone = name(alloc, b"z")?;
+    let other = name(alloc, b"y")?;
     let plan = net_plan(alloc)?;
     // An address, whether it is given to whoever asks, and whether to those alone that name it.
     let rows = [

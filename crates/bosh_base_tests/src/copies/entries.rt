@@ -1,6 +1,6 @@
 use crate::copies::copies_parts;
-use crate::samples::entries::{begin, effect, end, task_error, task_open, update, write};
 use bosh_base::{Entry, Failure};
+use bosh_samples::entries::{begin, effect, end, task_error, task_open, update, write};
 use std::test::Fail;
 
 #[test]

@@ -1,6 +1,6 @@
 use crate::copies::copies_parts;
-use crate::samples::goals::{
-    dep_offers, goal, goal_row, group_plan, net_plan, offer, subnet, view,
+use bosh_samples::goals::{
+    dep_offers, goal, goal_row, group_plan, net_plan, offer, offers, subnet, view,
 };
 use std::test::Fail;
 
@@ -17,7 +17,7 @@ fn copies_goals(rt: HostRuntime) -> Result<(), Fail> {
     let alloc = rt.alloc();
     assert!(rt; copies_parts(alloc, goal_row(alloc)?)?);
     assert!(rt; copies_parts(alloc, group_plan(alloc)?)?);
-    assert!(rt; copies_parts(alloc, goal(alloc)?)?);
+    assert!(rt; copies_parts(alloc, goal(alloc, offers(alloc)?)?)?);
     assert!(rt; copies_parts(alloc, view(alloc)?)?);
     Ok(())
 }

@@ -1,7 +1,7 @@
 use crate::copies::copies_parts;
-use crate::samples::entries::{did, stop, wrote};
-use crate::samples::replies::refusal;
 use bosh_base::{Entry, Move, Reply, Said};
+use bosh_samples::entries::{did, stop, wrote};
+use bosh_samples::replies::refusal;
 use std::test::Fail;
 
 #[test]

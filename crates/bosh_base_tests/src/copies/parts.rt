@@ -1,11 +1,11 @@
 use crate::copies::copies;
-use crate::samples::{
-    held, inst, joint, key, make, mark, name, net_addr, one, owner, placed, spec, text, tie, want,
-    work,
-};
 use bosh_base::{
     Addr, Band, Cause, Count, Digest, Generated, Loss, Method, Role, Shown, State, Vm, What,
     copy_both,
+};
+use bosh_samples::{
+    ABABAB, held, inst, joint, key, make, mark, name, net_addr, one, owner, placed, spec, text,
+    tie, want, work,
 };
 use std::test::Fail;
 
@@ -34,7 +34,7 @@ fn copies_what_machines_are_made_from(rt: HostRuntime) -> Result<(), Fail> {
     let alloc = rt.alloc();
     assert!(rt; copies(alloc, make(alloc)?)?);
     assert!(rt; copies(alloc, want(alloc)?)?);
-    assert!(rt; copies(alloc, mark(alloc, b"nginx")?)?);
+    assert!(rt; copies(alloc, mark(alloc, b"j", ABABAB)?)?);
     assert!(rt; copies(alloc, placed(alloc)?)?);
     assert!(rt; copies(alloc, spec(alloc)?)?);
     Ok(())
@@ -43,9 +43,9 @@ fn copies_what_machines_are_made_from(rt: HostRuntime) -> Result<(), Fail> {
 #[test]
 fn copies_keys_and_ties(rt: HostRuntime) -> Result<(), Fail> {
     let alloc = rt.alloc();
-    assert!(rt; copies(alloc, key(alloc, b"1.10")?)?);
+    assert!(rt; copies(alloc, key(alloc, ABABAB)?)?);
     assert!(rt; copies(alloc, work(alloc)?)?);
-    assert!(rt; copies(alloc, joint(alloc, b"nginx")?)?);
+    assert!(rt; copies(alloc, joint(alloc, b"j")?)?);
     assert!(rt; copies(alloc, tie(alloc)?)?);
     Ok(())
 }

@@ -1,6 +1,6 @@
 use crate::copies::{copies, copies_parts};
-use crate::samples::releases::{
-    job, link_spec, package, prop, prop_spec, release, setting, stemcell, template,
+use bosh_samples::releases::{
+    consumed, job, package, prop, prop_spec, release, setting, stemcell, template,
 };
 use std::test::Fail;
 
@@ -10,7 +10,7 @@ fn copies_what_a_job_declares(rt: HostRuntime) -> Result<(), Fail> {
     assert!(rt; copies(alloc, setting(alloc)?)?);
     assert!(rt; copies(alloc, prop(alloc)?)?);
     assert!(rt; copies(alloc, prop_spec(alloc)?)?);
-    assert!(rt; copies(alloc, link_spec(alloc, b"db")?)?);
+    assert!(rt; copies(alloc, consumed(alloc)?)?);
     assert!(rt; copies(alloc, template(alloc)?)?);
     Ok(())
 }

@@ -1,10 +1,10 @@
 use crate::copies::copies_parts;
-use crate::samples::one;
-use crate::samples::replies::{
+use bosh_base::Reply;
+use bosh_samples::one;
+use bosh_samples::replies::{
     cloud_disk_line, cloud_listing, failed_call, held_disk, instance_line, machine_line,
     orphan_line, refusal, release_added, release_line, release_there, task_detail, task_line,
 };
-use bosh_base::Reply;
 use std::test::Fail;
 
 #[test]
