@@ -2,6 +2,7 @@ pub mod CodingLemmas
 pub mod VariantLemmas
 pub mod NumberLemmas
 pub mod ListLemmas
+pub mod TextLemmas
 pub mod ChoiceLemmas
 pub mod PlainLemmas
 pub mod LaterLemmas

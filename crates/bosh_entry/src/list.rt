@@ -1,6 +1,5 @@
 ghost use Rattle.std.specs.Prelude.{◌≡◌, ◌++◌, true, OnOk, IfErr};
-ghost use Rattle.bosh_entry.specs.Reading.{Gives};
-ghost use Rattle.bosh_entry.specs.List.{list, is_list, items_at};
+ghost use Rattle.bosh_entry.specs.List.{list, is_list};
 ghost use Rattle.bosh_entry.specs.declared.fault.EntryFault.TheVariants.{Memory};
 ghost use Rattle.bosh_entry.specs.declared.format.Format.TheVariants.{Present};
 
@@ -11,22 +10,6 @@ use crate::source::Source;
 use bosh_base::Seq;
 use std::alloc::Global;
 
-/// So many items. Each takes at least a byte, so a count beyond the bytes that are left takes no memory of its own.
-fn items<T: Coded>(
-    alloc: Global,
-    format: Format,
-    count: u64,
-    from: &mut Source,
-) -> Result<Seq<T>, EntryFault>
-    ensures { Gives result from.new.rest.now (items_at (T.reading format) count from.old.rest.now) }
-{
-    let mut items = Vec::new(alloc);
-    for _ in 0..count {
-        items.push(T::read(alloc, format, from)?)?;
-    }
-    Ok(Seq::from(items))
-}
-
 /// Adds the spelling of a list at the end.
 pub fn write_items<T: Coded>(items: &[T], out: &mut Vec<u8>) -> Result<(), EntryFault>
     ensures ok { OnOk result (out.new.items ≡ out.old.items ++ list (T.spelling Present) items.now) }
@@ -34,10 +17,7 @@ pub fn write_items<T: Coded>(items: &[T], out: &mut Vec<u8>) -> Result<(), Entry
     ensures err { IfErr result (λ fault. fault ≡ Memory) }
 {
     (items.len() as u64).write(out)?;
-    for item in items {
-        item.write(out)?;
-    }
-    Ok(())
+    T::write_each(items, out)
 }
 
 impl<T: Coded> Coded for Seq<T> {
@@ -56,6 +36,6 @@ impl<T: Coded> Coded for Seq<T> {
     #[tactic(auto, unfolding(crate::specs::List::list_at))]
     fn read(alloc: Global, format: Format, from: &mut Source) -> Result<Self, EntryFault> {
         let count = from.number()?;
-        items(alloc, format, count, from)
+        T::read_each(alloc, format, count, from)
     }
 }

@@ -6,9 +6,10 @@ use crate::coded::Coded;
 use crate::fault::EntryFault;
 use crate::format::Format;
 use crate::source::Source;
+use bosh_base::Text;
 use std::alloc::Global;
 
-/// A byte of a text.
+/// A byte of a text. The bytes of a text are written and read at once.
 impl Coded for u8 {
     ghost use Rattle.bosh_entry.specs.Reading.{byte_at};
     ghost use Rattle.bosh_entry.specs.Number.{byte, is_byte};
@@ -26,6 +27,25 @@ impl Coded for u8 {
 
     fn read(_alloc: Global, _format: Format, from: &mut Source) -> Result<Self, EntryFault> {
         from.byte()
+    }
+
+    fn write_each(items: &[Self], out: &mut Vec<u8>) -> Result<(), EntryFault> {
+        out.extend_from_slice(items)?;
+        Ok(())
+    }
+
+    fn read_each(
+        alloc: Global,
+        _format: Format,
+        count: u64,
+        from: &mut Source,
+    ) -> Result<Text, EntryFault> {
+        if count > from.rest.len() as u64 {
+            return Err(EntryFault::NotAnEntry);
+        }
+        let (bytes, rest) = from.rest.split_at(count as usize);
+        from.rest = rest;
+        Ok(Text::from(Vec::from_slice(alloc, bytes)?))
     }
 }
 
