@@ -84,18 +84,18 @@ table_of() {
 }
 
 # How many MiB a second a work on the opening of a task of 512 instances gets through, and how many times as long as a
-# copy it takes. What comes before the rounds is measured by a run without any, and left out.
+# copy it takes: each work, and in how many rounds it is timed. What comes before the rounds is measured by a run without
+# any, and left out.
 speeds() {
-    local rounds=$1 work before bytes time copied=
+    local before
     before=$(least /dev/null "$codec" copy 0)
-    for work in copy write read; do
-        bytes=$("$codec" "$work" 0 | cut -d' ' -f2)
-        time=$(($(least /dev/null "$codec" "$work" "$rounds") - before))
-        [ "$time" -gt 0 ] || time=1
-        [ -n "$copied" ] || copied=$time
-        awk -v work="$work" -v size=$((bytes * rounds)) -v time="$time" -v copied="$copied" \
-            'BEGIN { printf "%-6s of an entry %10.1f MiB/s  %8.2f times a copy\n", work, size / 1.048576 / time, time / copied }'
-    done
+    while [ $# -gt 0 ]; do
+        echo "$("$codec" "$1" 0) $2 $(($(least /dev/null "$codec" "$1" "$2") - before))"
+        shift 2
+    done | awk '
+        { time = ($5 > 0 ? $5 : 1) / $4 }
+        NR == 1 { copied = time }
+        { printf "%-6s of an entry %10.1f MiB/s  %8.2f times a copy\n", $1, $2 / 1.048576 / time, time / copied }'
 }
 
 table machines machines 16 64 256
@@ -105,4 +105,4 @@ table_of "$levels" all "works, each on all before" "the first" 64 128 256
 table_of "$reader" mappings "KiB of block mappings" "the one before" 64 256 1024
 table_of "$reader" sequences "KiB of flow sequences" "the one before" 64 256 1024
 table_of "$reader" literals "KiB of a literal" "the one before" 64 256 1024
-speeds 500
+speeds copy 20000 write 500 read 200
