@@ -5,7 +5,7 @@ mod words;
 
 use crate::words::read_words;
 use bosh_ports::{FolderShelf, MemKeeper, OpenGate, StdinSource, StdoutSink};
-use bosh_session::{Status, run};
+use first_session::{Status, run};
 use std::process::ExitCode;
 
 fn main(rt: HostRuntime) -> ExitCode {
