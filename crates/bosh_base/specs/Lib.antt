@@ -4,7 +4,9 @@ pub mod CallStep
 pub mod Cloud
 pub mod CloudExamples
 pub mod Exact
+pub mod ExactParts
 pub mod History
+pub mod Inst
 pub mod Method
 pub mod Name
 pub mod Plan

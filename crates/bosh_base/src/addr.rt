@@ -18,12 +18,6 @@ pub struct Band {
     pub last: Addr,
 }
 
-impl Copyable for Band {
-    fn copy(&self, _alloc: Global) -> Result<Self, CopyFault> {
-        Ok(*self)
-    }
-}
-
 /// An address on a network.
 #[derive(PartialEq, Eq, Drop)]
 pub struct NetAddr {

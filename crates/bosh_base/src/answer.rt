@@ -36,7 +36,7 @@ impl Copyable for Answer {
             Answer::Found(number) => Ok(Answer::Found(*number)),
             Answer::Yes => Ok(Answer::Yes),
             Answer::No => Ok(Answer::No),
-            Answer::Disks(disks) => disks.copy(alloc).map(Answer::Disks),
+            Answer::Disks(disks) => Ok(Answer::Disks(disks.copy(alloc)?)),
             Answer::Facts {
                 spec,
                 running,

@@ -1,7 +1,7 @@
-ghost use Rattle.std.specs.Prelude.{◌≡◌};
+ghost use Rattle.std.specs.Prelude.{◌≡◌, IfOk};
 ghost use Rattle.bosh_base.specs.Call.{method_of};
 
-use crate::{CopyFault, Copyable, Digest, DiskWant, KeyWork, Make, Method, Seq, Spec};
+use crate::{CopyFault, Copyable, Digest, DiskWant, KeyWork, Make, Method, Seq, Spec, copy_both};
 use std::alloc::Global;
 
 /// A call to the cloud or to a machine's agent.
@@ -92,17 +92,11 @@ pub enum Call {
 impl Copyable for Call {
     fn copy(&self, alloc: Global) -> Result<Self, CopyFault> {
         match self {
-            Call::CreateVm { make, disks } => Ok(Call::CreateVm {
-                make: make.copy(alloc)?,
-                disks: disks.copy(alloc)?,
-            }),
+            Call::CreateVm { make, disks } => copy_creation(make, disks, alloc),
             Call::DeleteVm { vm } => Ok(Call::DeleteVm { vm: *vm }),
             Call::HasVm { vm } => Ok(Call::HasVm { vm: *vm }),
             Call::FindVm { agent } => Ok(Call::FindVm { agent: *agent }),
-            Call::CreateDisk { want, vm } => Ok(Call::CreateDisk {
-                want: want.copy(alloc)?,
-                vm: *vm,
-            }),
+            Call::CreateDisk { want, vm } => copy_disk_creation(want, *vm, alloc),
             Call::DeleteDisk { disk } => Ok(Call::DeleteDisk { disk: *disk }),
             Call::HasDisk { disk } => Ok(Call::HasDisk { disk: *disk }),
             Call::FindDisk { tag } => Ok(Call::FindDisk { tag: *tag }),
@@ -117,10 +111,7 @@ impl Copyable for Call {
             Call::GetDisks { vm } => Ok(Call::GetDisks { vm: *vm }),
             Call::Ping { vm } => Ok(Call::Ping { vm: *vm }),
             Call::GetState { vm } => Ok(Call::GetState { vm: *vm }),
-            Call::Apply { vm, spec } => Ok(Call::Apply {
-                vm: *vm,
-                spec: spec.copy(alloc)?,
-            }),
+            Call::Apply { vm, spec } => copy_apply(*vm, spec, alloc),
             Call::Start { vm } => Ok(Call::Start { vm: *vm }),
             Call::Drain { vm } => Ok(Call::Drain { vm: *vm }),
             Call::Stop { vm } => Ok(Call::Stop { vm: *vm }),
@@ -138,13 +129,42 @@ impl Copyable for Call {
                 from: *from,
                 to: *to,
             }),
-            Call::CompilePackage { vm, work, deps } => Ok(Call::CompilePackage {
-                vm: *vm,
-                work: work.copy(alloc)?,
-                deps: deps.copy(alloc)?,
-            }),
+            Call::CompilePackage { vm, work, deps } => copy_compilation(*vm, work, deps, alloc),
         }
     }
+}
+
+fn copy_creation(make: &Make, disks: &Seq<u64>, alloc: Global) -> Result<Call, CopyFault>
+    ensures { IfOk result (λ copied. copied ≡ Call.CreateVm make.now disks.now) }
+{
+    let (make, disks) = copy_both(make, disks, alloc)?;
+    Ok(Call::CreateVm { make, disks })
+}
+
+fn copy_disk_creation(want: &DiskWant, vm: u64, alloc: Global) -> Result<Call, CopyFault>
+    ensures { IfOk result (λ copied. copied ≡ Call.CreateDisk want.now vm) }
+{
+    let want = want.copy(alloc)?;
+    Ok(Call::CreateDisk { want, vm })
+}
+
+fn copy_apply(vm: u64, spec: &Spec, alloc: Global) -> Result<Call, CopyFault>
+    ensures { IfOk result (λ copied. copied ≡ Call.Apply vm spec.now) }
+{
+    let spec = spec.copy(alloc)?;
+    Ok(Call::Apply { vm, spec })
+}
+
+fn copy_compilation(
+    vm: u64,
+    work: &KeyWork,
+    deps: &Seq<Digest>,
+    alloc: Global,
+) -> Result<Call, CopyFault>
+    ensures { IfOk result (λ copied. copied ≡ Call.CompilePackage vm work.now deps.now) }
+{
+    let (work, deps) = copy_both(work, deps, alloc)?;
+    Ok(Call::CompilePackage { vm, work, deps })
 }
 
 impl Call {

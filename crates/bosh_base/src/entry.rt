@@ -1,6 +1,6 @@
 use crate::{
     Answer, Call, CopyFault, Copyable, Digest, Failure, Goal, Inst, Name, Owner, Release, Seq,
-    Snapshot, Stemcell, TaskKind, Text,
+    Snapshot, Stemcell, TaskKind, Text, copy_both, copy_six, copy_three,
 };
 use std::alloc::Global;
 
@@ -25,14 +25,23 @@ pub struct TaskOpen {
 
 impl Copyable for TaskOpen {
     fn copy(&self, alloc: Global) -> Result<Self, CopyFault> {
+        let (kind, dep, goal, changed, obsolete, disks) = copy_six(
+            &self.kind,
+            &self.dep,
+            &self.goal,
+            &self.changed,
+            &self.obsolete,
+            &self.disks,
+            alloc,
+        )?;
         Ok(TaskOpen {
             task: self.task,
-            kind: self.kind.copy(alloc)?,
-            dep: self.dep.copy(alloc)?,
-            goal: self.goal.copy(alloc)?,
-            changed: self.changed.copy(alloc)?,
-            obsolete: self.obsolete.copy(alloc)?,
-            disks: self.disks.copy(alloc)?,
+            kind,
+            dep,
+            goal,
+            changed,
+            obsolete,
+            disks,
             source: self.source,
         })
     }
@@ -52,12 +61,13 @@ pub struct Begin {
 
 impl Copyable for Begin {
     fn copy(&self, alloc: Global) -> Result<Self, CopyFault> {
+        let (owner, call) = copy_both(&self.owner, &self.call, alloc)?;
         Ok(Begin {
             n: self.n,
             task: self.task,
             worker: self.worker,
-            owner: self.owner.copy(alloc)?,
-            call: self.call.copy(alloc)?,
+            owner,
+            call,
         })
     }
 }
@@ -124,11 +134,12 @@ pub struct Effect {
 
 impl Copyable for Effect {
     fn copy(&self, alloc: Global) -> Result<Self, CopyFault> {
+        let (owner, dep, call) = copy_three(&self.owner, &self.dep, &self.call, alloc)?;
         Ok(Effect {
             n: self.n,
-            owner: self.owner.copy(alloc)?,
-            dep: self.dep.copy(alloc)?,
-            call: self.call.copy(alloc)?,
+            owner,
+            dep,
+            call,
         })
     }
 }
@@ -191,20 +202,20 @@ pub enum Entry {
 impl Copyable for Entry {
     fn copy(&self, alloc: Global) -> Result<Self, CopyFault> {
         match self {
-            Entry::Release(release) => release.copy(alloc).map(Entry::Release),
-            Entry::Stemcell(stemcell) => stemcell.copy(alloc).map(Entry::Stemcell),
-            Entry::Config(file) => file.copy(alloc).map(Entry::Config),
-            Entry::TaskOpen(open) => open.copy(alloc).map(Entry::TaskOpen),
-            Entry::Begin(begin) => begin.copy(alloc).map(Entry::Begin),
-            Entry::End(end) => end.copy(alloc).map(Entry::End),
-            Entry::UpdBegin(update) => update.copy(alloc).map(Entry::UpdBegin),
-            Entry::UpdDone(update) => update.copy(alloc).map(Entry::UpdDone),
-            Entry::Gone(update) => update.copy(alloc).map(Entry::Gone),
+            Entry::Release(release) => Ok(Entry::Release(release.copy(alloc)?)),
+            Entry::Stemcell(stemcell) => Ok(Entry::Stemcell(stemcell.copy(alloc)?)),
+            Entry::Config(file) => Ok(Entry::Config(file.copy(alloc)?)),
+            Entry::TaskOpen(open) => Ok(Entry::TaskOpen(open.copy(alloc)?)),
+            Entry::Begin(begin) => Ok(Entry::Begin(begin.copy(alloc)?)),
+            Entry::End(end) => Ok(Entry::End(end.copy(alloc)?)),
+            Entry::UpdBegin(update) => Ok(Entry::UpdBegin(update.copy(alloc)?)),
+            Entry::UpdDone(update) => Ok(Entry::UpdDone(update.copy(alloc)?)),
+            Entry::Gone(update) => Ok(Entry::Gone(update.copy(alloc)?)),
             Entry::TaskDone(task) => Ok(Entry::TaskDone(*task)),
-            Entry::TaskError(error) => error.copy(alloc).map(Entry::TaskError),
-            Entry::Snapshot(snapshot) => snapshot.copy(alloc).map(Entry::Snapshot),
-            Entry::Effect(effect) => effect.copy(alloc).map(Entry::Effect),
-            Entry::Write(write) => write.copy(alloc).map(Entry::Write),
+            Entry::TaskError(error) => Ok(Entry::TaskError(error.copy(alloc)?)),
+            Entry::Snapshot(snapshot) => Ok(Entry::Snapshot(snapshot.copy(alloc)?)),
+            Entry::Effect(effect) => Ok(Entry::Effect(effect.copy(alloc)?)),
+            Entry::Write(write) => Ok(Entry::Write(write.copy(alloc)?)),
             Entry::Lost(loss) => Ok(Entry::Lost(*loss)),
         }
     }

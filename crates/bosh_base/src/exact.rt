@@ -3,10 +3,12 @@ ghost use Rattle.std.specs.Bool.{Decides};
 ghost use Rattle.std.proofs.Common.{rules};
 ghost use Rattle.std.proofs.lemmas.Bool.Decides.{Decides-eqb};
 ghost use Rattle.bosh_base.specs.Exact.{Decides-list, Decides-option};
+ghost use Rattle.bosh_base.specs.ExactParts.{Decides-method, Decides-owner, Decides-net_addr, Decides-make, Decides-mark, Decides-placed, Decides-spec, Decides-key, Decides-key_work, Decides-setting, Decides-prop_spec, Decides-link_spec, Decides-template_spec, Decides-package_spec, Decides-job_spec, Decides-task_end, Decides-digest, Decides-disk_want, Decides-answer, Decides-call};
 
 use crate::{
-    Addr, Digest, DiskWant, Inst, Joint, Key, KeyWork, Make, Mark, Method, Name, NetAddr, Owner,
-    Placed, Seq, Spec, State, TaskKind,
+    Addr, Answer, Call, Digest, DiskWant, Inst, JobSpec, Joint, Key, KeyWork, LinkSpec, Make, Mark,
+    Method, Name, NetAddr, Owner, PackageSpec, Placed, Prop, PropSpec, Role, Seq, Setting, Spec,
+    State, TaskEnd, TaskKind, TemplateSpec, Tie, Vm,
 };
 
 /// A type whose `==` tells its values apart: it is true of a value and itself alone.
@@ -45,15 +47,7 @@ impl Exact for Name {
     ghost exact = { Decides-list Decides-eqb };
 }
 
-impl Exact for Digest {
-    ghost exact = { λ a b. Prim.search rules };
-}
-
 impl Exact for Addr {
-    ghost exact = { λ a b. Prim.search rules };
-}
-
-impl Exact for NetAddr {
     ghost exact = { λ a b. Prim.search rules };
 }
 
@@ -61,31 +55,7 @@ impl Exact for Inst {
     ghost exact = { λ a b. Prim.search rules };
 }
 
-impl Exact for Owner {
-    ghost exact = { λ a b. Prim.search rules };
-}
-
-impl Exact for Method {
-    ghost exact = { λ a b. Prim.search rules };
-}
-
 impl Exact for State {
-    ghost exact = { λ a b. Prim.search rules };
-}
-
-impl Exact for DiskWant {
-    ghost exact = { λ a b. Prim.search rules };
-}
-
-impl Exact for Mark {
-    ghost exact = { λ a b. Prim.search rules };
-}
-
-impl Exact for Placed {
-    ghost exact = { λ a b. Prim.search rules };
-}
-
-impl Exact for Key {
     ghost exact = { λ a b. Prim.search rules };
 }
 
@@ -97,26 +67,98 @@ impl Exact for TaskKind {
     ghost exact = { λ a b. Prim.search rules };
 }
 
+impl Exact for Tie {
+    ghost exact = { λ a b. Prim.search rules };
+}
+
+impl Exact for Role {
+    ghost exact = { λ a b. Prim.search rules };
+}
+
+impl Exact for Vm {
+    ghost exact = { λ a b. Prim.search rules };
+}
+
+impl Exact for Prop {
+    ghost exact = { λ a b. Prim.search rules };
+}
+
+impl Exact for Method {
+    ghost exact = { Decides-method };
+}
+
+impl Exact for Owner {
+    ghost exact = { Decides-owner };
+}
+
+impl Exact for NetAddr {
+    ghost exact = { Decides-net_addr };
+}
+
 impl Exact for Make {
-    ghost exact = { λ a b.
-        let net : (x y : _) → Decides (⟦<NetAddr as PartialEq>⟧.eq x y) (x ≡ y) = λ x y. Prim.search rules in
-        let nets : Decides (⟦<Seq<NetAddr> as PartialEq>⟧.eq a.nets b.nets) (a.nets ≡ b.nets) = Decides-list net a.nets b.nets in
-        Prim.search rules };
+    ghost exact = { Decides-make };
+}
+
+impl Exact for Mark {
+    ghost exact = { Decides-mark };
+}
+
+impl Exact for Placed {
+    ghost exact = { Decides-placed };
 }
 
 impl Exact for Spec {
-    ghost exact = { λ a b.
-        let mark : (x y : _) → Decides (⟦<Mark as PartialEq>⟧.eq x y) (x ≡ y) = λ x y. Prim.search rules in
-        let placed : (x y : _) → Decides (⟦<Placed as PartialEq>⟧.eq x y) (x ≡ y) = λ x y. Prim.search rules in
-        let jobs : Decides (⟦<Seq<Mark> as PartialEq>⟧.eq a.jobs b.jobs) (a.jobs ≡ b.jobs) = Decides-list mark a.jobs b.jobs in
-        let packages : Decides (⟦<Seq<Mark> as PartialEq>⟧.eq a.packages b.packages) (a.packages ≡ b.packages) = Decides-list mark a.packages b.packages in
-        let files : Decides (⟦<Seq<Placed> as PartialEq>⟧.eq a.files b.files) (a.files ≡ b.files) = Decides-list placed a.files b.files in
-        Prim.search rules };
+    ghost exact = { Decides-spec };
+}
+
+impl Exact for Key {
+    ghost exact = { Decides-key };
 }
 
 impl Exact for KeyWork {
-    ghost exact = { λ a b.
-        let key : (x y : _) → Decides (⟦<Key as PartialEq>⟧.eq x y) (x ≡ y) = λ x y. Prim.search rules in
-        let deps : Decides (⟦<Seq<Key> as PartialEq>⟧.eq a.deps b.deps) (a.deps ≡ b.deps) = Decides-list key a.deps b.deps in
-        Prim.search rules };
+    ghost exact = { Decides-key_work };
+}
+
+impl Exact for Setting {
+    ghost exact = { Decides-setting };
+}
+
+impl Exact for PropSpec {
+    ghost exact = { Decides-prop_spec };
+}
+
+impl Exact for LinkSpec {
+    ghost exact = { Decides-link_spec };
+}
+
+impl Exact for TemplateSpec {
+    ghost exact = { Decides-template_spec };
+}
+
+impl Exact for PackageSpec {
+    ghost exact = { Decides-package_spec };
+}
+
+impl Exact for JobSpec {
+    ghost exact = { Decides-job_spec };
+}
+
+impl Exact for TaskEnd {
+    ghost exact = { Decides-task_end };
+}
+
+impl Exact for Digest {
+    ghost exact = { Decides-digest };
+}
+
+impl Exact for DiskWant {
+    ghost exact = { Decides-disk_want };
+}
+
+impl Exact for Answer {
+    ghost exact = { Decides-answer };
+}
+
+impl Exact for Call {
+    ghost exact = { Decides-call };
 }

@@ -1,5 +1,6 @@
 use crate::{
     CopyFault, Copyable, DiskWant, Inst, KeyWork, Make, Name, Offer, Seq, Spec, State, Tie,
+    copy_four, copy_seven,
 };
 use std::alloc::Global;
 
@@ -17,11 +18,14 @@ pub struct GoalRow {
 
 impl Copyable for GoalRow {
     fn copy(&self, alloc: Global) -> Result<Self, CopyFault> {
+        let (inst, make, spec, disk) = copy_four(
+            &self.inst, &self.make, &self.spec, &self.disk, alloc,
+        )?;
         Ok(GoalRow {
-            inst: self.inst.copy(alloc)?,
-            make: self.make.copy(alloc)?,
-            spec: self.spec.copy(alloc)?,
-            disk: self.disk.copy(alloc)?,
+            inst,
+            make,
+            spec,
+            disk,
             state: self.state,
             fresh_after: self.fresh_after,
         })
@@ -70,14 +74,24 @@ pub struct Goal {
 
 impl Copyable for Goal {
     fn copy(&self, alloc: Global) -> Result<Self, CopyFault> {
+        let (dep, rows, groups, ties, keys, slots, offers) = copy_seven(
+            &self.dep,
+            &self.rows,
+            &self.groups,
+            &self.ties,
+            &self.keys,
+            &self.slots,
+            &self.offers,
+            alloc,
+        )?;
         Ok(Goal {
-            dep: self.dep.copy(alloc)?,
-            rows: self.rows.copy(alloc)?,
-            groups: self.groups.copy(alloc)?,
-            ties: self.ties.copy(alloc)?,
-            keys: self.keys.copy(alloc)?,
-            slots: self.slots.copy(alloc)?,
-            offers: self.offers.copy(alloc)?,
+            dep,
+            rows,
+            groups,
+            ties,
+            keys,
+            slots,
+            offers,
         })
     }
 }

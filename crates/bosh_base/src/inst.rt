@@ -1,5 +1,9 @@
-use crate::{CopyFault, Copyable, Name};
+ghost use Rattle.std.specs.Prelude.{◌≡◌};
+ghost use Rattle.bosh_base.specs.Inst.{inst_cmp};
+
+use crate::{CopyFault, Copyable, Name, copy_both};
 use std::alloc::Global;
+use std::cmp::Ordering;
 
 /// An instance: one numbered member of an instance group of a deployment.
 #[derive(PartialEq, Eq, PartialOrd, Ord, Drop)]
@@ -14,10 +18,20 @@ pub struct Inst {
 
 impl Copyable for Inst {
     fn copy(&self, alloc: Global) -> Result<Self, CopyFault> {
+        let (dep, group) = copy_both(&self.dep, &self.group, alloc)?;
         Ok(Inst {
-            dep: self.dep.copy(alloc)?,
-            group: self.group.copy(alloc)?,
+            dep,
+            group,
             index: self.index,
         })
+    }
+}
+
+impl Inst {
+    /// The order in which instances are listed: by deployment, then group, then index. It is that of `<`.
+    pub fn order(&self, other: &Inst) -> Ordering
+        ensures { result ≡ inst_cmp self.now other.now }
+    {
+        self.cmp(other)
     }
 }

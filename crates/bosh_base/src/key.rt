@@ -1,4 +1,4 @@
-use crate::{CopyFault, Copyable, Digest, Name, Seq, Text};
+use crate::{CopyFault, Copyable, Digest, Name, Seq, Text, copy_both, copy_three};
 use std::alloc::Global;
 
 /// What a compiled package depends on beside its dependencies: its contents and the stemcell.
@@ -11,10 +11,11 @@ pub struct Key {
 
 impl Copyable for Key {
     fn copy(&self, alloc: Global) -> Result<Self, CopyFault> {
+        let (os, version) = copy_both(&self.os, &self.version, alloc)?;
         Ok(Key {
             fingerprint: self.fingerprint,
-            os: self.os.copy(alloc)?,
-            version: self.version.copy(alloc)?,
+            os,
+            version,
         })
     }
 }
@@ -31,10 +32,7 @@ pub struct KeyWork {
 
 impl Copyable for KeyWork {
     fn copy(&self, alloc: Global) -> Result<Self, CopyFault> {
-        Ok(KeyWork {
-            name: self.name.copy(alloc)?,
-            key: self.key.copy(alloc)?,
-            deps: self.deps.copy(alloc)?,
-        })
+        let (name, key, deps) = copy_three(&self.name, &self.key, &self.deps, alloc)?;
+        Ok(KeyWork { name, key, deps })
     }
 }

@@ -1,4 +1,4 @@
-use crate::{CopyFault, Copyable, Name, Text};
+use crate::{CopyFault, Copyable, Name, Text, copy_four, copy_three};
 use std::alloc::Global;
 
 /// A link of a job of an instance group.
@@ -12,11 +12,18 @@ pub struct Joint {
 
 impl Copyable for Joint {
     fn copy(&self, alloc: Global) -> Result<Self, CopyFault> {
+        let (dep, group, job, link) = copy_four(
+            &self.dep,
+            &self.group,
+            &self.job,
+            &self.link,
+            alloc,
+        )?;
         Ok(Joint {
-            dep: self.dep.copy(alloc)?,
-            group: self.group.copy(alloc)?,
-            job: self.job.copy(alloc)?,
-            link: self.link.copy(alloc)?,
+            dep,
+            group,
+            job,
+            link,
         })
     }
 }
@@ -32,10 +39,16 @@ pub struct Tie {
 
 impl Copyable for Tie {
     fn copy(&self, alloc: Global) -> Result<Self, CopyFault> {
+        let (consumer, provider, kind) = copy_three(
+            &self.consumer,
+            &self.provider,
+            &self.kind,
+            alloc,
+        )?;
         Ok(Tie {
-            consumer: self.consumer.copy(alloc)?,
-            provider: self.provider.copy(alloc)?,
-            kind: self.kind.copy(alloc)?,
+            consumer,
+            provider,
+            kind,
         })
     }
 }

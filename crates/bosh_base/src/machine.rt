@@ -1,5 +1,4 @@
-use crate::{CopyFault, Copyable, DiskWant, Make, Name, Owner, Seq, Spec, Text};
-use std::alloc::Global;
+use crate::{DiskWant, Make, Name, Owner, Seq, Spec, Text};
 
 /// A machine of the cloud.
 #[derive(Drop)]
@@ -23,24 +22,6 @@ pub struct Machine {
     pub silent: bool,
 }
 
-impl Copyable for Machine {
-    fn copy(&self, alloc: Global) -> Result<Self, CopyFault> {
-        Ok(Machine {
-            vm: self.vm,
-            agent: self.agent,
-            owner: self.owner.copy(alloc)?,
-            dep: self.dep.copy(alloc)?,
-            make: self.make.copy(alloc)?,
-            spec: self.spec.copy(alloc)?,
-            running: self.running,
-            drained: self.drained,
-            attached: self.attached.copy(alloc)?,
-            mounted: self.mounted.copy(alloc)?,
-            silent: self.silent,
-        })
-    }
-}
-
 /// A disk of the cloud.
 #[derive(Drop)]
 pub struct Disk {
@@ -51,16 +32,4 @@ pub struct Disk {
     pub owner: Owner,
     pub want: DiskWant,
     pub contents: Text,
-}
-
-impl Copyable for Disk {
-    fn copy(&self, alloc: Global) -> Result<Self, CopyFault> {
-        Ok(Disk {
-            disk: self.disk,
-            tag: self.tag,
-            owner: self.owner.copy(alloc)?,
-            want: self.want.copy(alloc)?,
-            contents: self.contents.copy(alloc)?,
-        })
-    }
 }

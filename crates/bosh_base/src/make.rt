@@ -1,4 +1,4 @@
-use crate::{CopyFault, Copyable, Name, NetAddr, Seq, Text};
+use crate::{CopyFault, Copyable, Name, NetAddr, Seq, Text, copy_five};
 use std::alloc::Global;
 
 /// What a machine is made from.
@@ -18,12 +18,20 @@ pub struct Make {
 
 impl Copyable for Make {
     fn copy(&self, alloc: Global) -> Result<Self, CopyFault> {
+        let (os, version, az, vm, nets) = copy_five(
+            &self.os,
+            &self.version,
+            &self.az,
+            &self.vm,
+            &self.nets,
+            alloc,
+        )?;
         Ok(Make {
-            os: self.os.copy(alloc)?,
-            version: self.version.copy(alloc)?,
-            az: self.az.copy(alloc)?,
-            vm: self.vm.copy(alloc)?,
-            nets: self.nets.copy(alloc)?,
+            os,
+            version,
+            az,
+            vm,
+            nets,
         })
     }
 }

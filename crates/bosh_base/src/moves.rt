@@ -1,5 +1,4 @@
-use crate::{Answer, CopyFault, Copyable, Entry, Inst, Loss, Reply, Seq, Text, copy_both};
-use std::alloc::Global;
+use crate::{Answer, Entry, Inst, Loss, Reply, Seq, Text};
 
 /// Why a site halted.
 #[derive(Clone, Copy, Debug, PartialEq, Eq)]
@@ -9,12 +8,6 @@ pub enum Cause {
     Store,
     /// The cloud's store failed.
     CloudStore,
-}
-
-impl Copyable for Cause {
-    fn copy(&self, _alloc: Global) -> Result<Self, CopyFault> {
-        Ok(*self)
-    }
 }
 
 /// A call was performed.
@@ -27,30 +20,11 @@ pub struct Did {
     pub answer: Answer,
 }
 
-impl Copyable for Did {
-    fn copy(&self, alloc: Global) -> Result<Self, CopyFault> {
-        Ok(Did {
-            n: self.n,
-            effect: self.effect,
-            answer: self.answer.copy(alloc)?,
-        })
-    }
-}
-
 /// A running job wrote to its disk.
 #[derive(Drop)]
 pub struct Wrote {
     pub inst: Inst,
     pub text: Text,
-}
-
-impl Copyable for Wrote {
-    fn copy(&self, alloc: Global) -> Result<Self, CopyFault> {
-        Ok(Wrote {
-            inst: self.inst.copy(alloc)?,
-            text: self.text.copy(alloc)?,
-        })
-    }
 }
 
 /// What a restart found.
@@ -64,29 +38,12 @@ pub struct Stop {
     pub wrote: Option<Entry>,
 }
 
-impl Copyable for Stop {
-    fn copy(&self, alloc: Global) -> Result<Self, CopyFault> {
-        let took = self.took.copy(alloc)?;
-        let (kept, wrote) = copy_both(&self.kept, &self.wrote, alloc)?;
-        Ok(Stop { kept, took, wrote })
-    }
-}
-
 /// A command was answered.
 #[derive(Drop)]
 pub struct Said {
     /// Its number in the session, from 1 on.
     pub command: u32,
     pub reply: Reply,
-}
-
-impl Copyable for Said {
-    fn copy(&self, alloc: Global) -> Result<Self, CopyFault> {
-        Ok(Said {
-            command: self.command,
-            reply: self.reply.copy(alloc)?,
-        })
-    }
 }
 
 /// One step of a site.
@@ -100,18 +57,4 @@ pub enum Move {
     Stop(Stop),
     Lost(Loss),
     Said(Said),
-}
-
-impl Copyable for Move {
-    fn copy(&self, alloc: Global) -> Result<Self, CopyFault> {
-        match self {
-            Move::Note(entry) => entry.copy(alloc).map(Move::Note),
-            Move::Did(did) => did.copy(alloc).map(Move::Did),
-            Move::Wrote(wrote) => wrote.copy(alloc).map(Move::Wrote),
-            Move::Halt(cause) => Ok(Move::Halt(*cause)),
-            Move::Stop(stop) => stop.copy(alloc).map(Move::Stop),
-            Move::Lost(loss) => Ok(Move::Lost(*loss)),
-            Move::Said(said) => said.copy(alloc).map(Move::Said),
-        }
-    }
 }

@@ -1,4 +1,4 @@
-use crate::{Addr, CopyFault, Copyable, Joint, Name, Prop, Seq, Text};
+use crate::{Addr, CopyFault, Copyable, Joint, Name, Prop, Seq, Text, copy_both, copy_six};
 use std::alloc::Global;
 
 /// A link that its deployment shares with others.
@@ -18,13 +18,22 @@ pub struct Offer {
 
 impl Copyable for Offer {
     fn copy(&self, alloc: Global) -> Result<Self, CopyFault> {
+        let (joint, kind, public_name, addrs, listed, properties) = copy_six(
+            &self.joint,
+            &self.kind,
+            &self.public_name,
+            &self.addrs,
+            &self.listed,
+            &self.properties,
+            alloc,
+        )?;
         Ok(Offer {
-            joint: self.joint.copy(alloc)?,
-            kind: self.kind.copy(alloc)?,
-            public_name: self.public_name.copy(alloc)?,
-            addrs: self.addrs.copy(alloc)?,
-            listed: self.listed.copy(alloc)?,
-            properties: self.properties.copy(alloc)?,
+            joint,
+            kind,
+            public_name,
+            addrs,
+            listed,
+            properties,
         })
     }
 }
@@ -38,9 +47,7 @@ pub struct DepOffers {
 
 impl Copyable for DepOffers {
     fn copy(&self, alloc: Global) -> Result<Self, CopyFault> {
-        Ok(DepOffers {
-            dep: self.dep.copy(alloc)?,
-            offers: self.offers.copy(alloc)?,
-        })
+        let (dep, offers) = copy_both(&self.dep, &self.offers, alloc)?;
+        Ok(DepOffers { dep, offers })
     }
 }

@@ -14,7 +14,7 @@ pub enum Owner {
 impl Copyable for Owner {
     fn copy(&self, alloc: Global) -> Result<Self, CopyFault> {
         match self {
-            Owner::Instance(inst) => inst.copy(alloc).map(Owner::Instance),
+            Owner::Instance(inst) => Ok(Owner::Instance(inst.copy(alloc)?)),
             Owner::Compile(task, slot) => Ok(Owner::Compile(*task, *slot)),
             Owner::Disk(disk) => Ok(Owner::Disk(*disk)),
         }

@@ -1,8 +1,7 @@
 ghost use Rattle.std.specs.Prelude.{◌≡◌};
 ghost use Rattle.bosh_base.specs.Plan.{is_within, is_in_some, is_listed, is_reserved, has_address, has_static, has_dynamic, is_of, is_static, is_dynamic};
 
-use crate::{Addr, Band, CopyFault, Copyable, Name, Seq};
-use std::alloc::Global;
+use crate::{Addr, Band, Name, Seq};
 
 /// A subnet of a network of the cloud config.
 #[derive(Drop)]
@@ -19,31 +18,10 @@ pub struct Subnet {
     pub azs: Seq<Name>,
 }
 
-impl Copyable for Subnet {
-    fn copy(&self, alloc: Global) -> Result<Self, CopyFault> {
-        Ok(Subnet {
-            net: self.net.copy(alloc)?,
-            range: self.range,
-            gateway: self.gateway,
-            reserved: self.reserved.copy(alloc)?,
-            fixed: self.fixed.copy(alloc)?,
-            azs: self.azs.copy(alloc)?,
-        })
-    }
-}
-
 /// All subnets of the cloud config.
 #[derive(Drop)]
 pub struct NetPlan {
     pub subnets: Seq<Subnet>,
-}
-
-impl Copyable for NetPlan {
-    fn copy(&self, alloc: Global) -> Result<Self, CopyFault> {
-        Ok(NetPlan {
-            subnets: self.subnets.copy(alloc)?,
-        })
-    }
 }
 
 fn is_within(addr: Addr, band: Band) -> bool

@@ -1,5 +1,4 @@
-use crate::{CopyFault, Copyable, Inst};
-use std::alloc::Global;
+use crate::Inst;
 
 /// A fact in which the records and the cloud differ.
 #[derive(Clone, Copy, Debug, PartialEq, Eq)]
@@ -9,12 +8,6 @@ pub enum What {
     Drained,
     /// What is attached and mounted.
     Disks,
-}
-
-impl Copyable for What {
-    fn copy(&self, _alloc: Global) -> Result<Self, CopyFault> {
-        Ok(*self)
-    }
 }
 
 /// A difference between the records of a deployment and the cloud.
@@ -30,36 +23,4 @@ pub enum Problem {
     MissingDisk { inst: Inst, disk: u64 },
     /// An instance owns a disk that is recorded nowhere.
     LooseDisk { disk: u64 },
-}
-
-impl Copyable for Problem {
-    fn copy(&self, alloc: Global) -> Result<Self, CopyFault> {
-        match self {
-            Problem::InDoubt { inst, n } => Ok(Problem::InDoubt {
-                inst: inst.copy(alloc)?,
-                n: *n,
-            }),
-            Problem::MissingVm { inst, vm } => Ok(Problem::MissingVm {
-                inst: inst.copy(alloc)?,
-                vm: *vm,
-            }),
-            Problem::SilentAgent { inst, vm } => Ok(Problem::SilentAgent {
-                inst: inst.copy(alloc)?,
-                vm: *vm,
-            }),
-            Problem::OtherVm { inst, vm } => Ok(Problem::OtherVm {
-                inst: inst.copy(alloc)?,
-                vm: *vm,
-            }),
-            Problem::Facts { inst, what } => Ok(Problem::Facts {
-                inst: inst.copy(alloc)?,
-                what: *what,
-            }),
-            Problem::MissingDisk { inst, disk } => Ok(Problem::MissingDisk {
-                inst: inst.copy(alloc)?,
-                disk: *disk,
-            }),
-            Problem::LooseDisk { disk } => Ok(Problem::LooseDisk { disk: *disk }),
-        }
-    }
 }

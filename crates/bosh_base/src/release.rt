@@ -1,4 +1,6 @@
-use crate::{CopyFault, Copyable, Digest, Name, Seq, Text};
+use crate::{
+    CopyFault, Copyable, Digest, Name, Seq, Text, copy_both, copy_four, copy_six, copy_three,
+};
 use std::alloc::Global;
 
 /// The value of a property.
@@ -13,7 +15,7 @@ pub enum Setting {
 impl Copyable for Setting {
     fn copy(&self, alloc: Global) -> Result<Self, CopyFault> {
         match self {
-            Setting::Scalar(text) => text.copy(alloc).map(Setting::Scalar),
+            Setting::Scalar(text) => Ok(Setting::Scalar(text.copy(alloc)?)),
             Setting::Compound => Ok(Setting::Compound),
         }
     }
@@ -28,10 +30,8 @@ pub struct Prop {
 
 impl Copyable for Prop {
     fn copy(&self, alloc: Global) -> Result<Self, CopyFault> {
-        Ok(Prop {
-            name: self.name.copy(alloc)?,
-            value: self.value.copy(alloc)?,
-        })
+        let (name, value) = copy_both(&self.name, &self.value, alloc)?;
+        Ok(Prop { name, value })
     }
 }
 
@@ -46,10 +46,8 @@ pub struct PropSpec {
 
 impl Copyable for PropSpec {
     fn copy(&self, alloc: Global) -> Result<Self, CopyFault> {
-        Ok(PropSpec {
-            name: self.name.copy(alloc)?,
-            fallback: self.fallback.copy(alloc)?,
-        })
+        let (name, fallback) = copy_both(&self.name, &self.fallback, alloc)?;
+        Ok(PropSpec { name, fallback })
     }
 }
 
@@ -66,11 +64,12 @@ pub struct LinkSpec {
 
 impl Copyable for LinkSpec {
     fn copy(&self, alloc: Global) -> Result<Self, CopyFault> {
+        let (name, kind, properties) = copy_three(&self.name, &self.kind, &self.properties, alloc)?;
         Ok(LinkSpec {
-            name: self.name.copy(alloc)?,
-            kind: self.kind.copy(alloc)?,
+            name,
+            kind,
             optional: self.optional,
-            properties: self.properties.copy(alloc)?,
+            properties,
         })
     }
 }
@@ -87,10 +86,16 @@ pub struct TemplateSpec {
 
 impl Copyable for TemplateSpec {
     fn copy(&self, alloc: Global) -> Result<Self, CopyFault> {
+        let (source, destination, text) = copy_three(
+            &self.source,
+            &self.destination,
+            &self.text,
+            alloc,
+        )?;
         Ok(TemplateSpec {
-            source: self.source.copy(alloc)?,
-            destination: self.destination.copy(alloc)?,
-            text: self.text.copy(alloc)?,
+            source,
+            destination,
+            text,
         })
     }
 }
@@ -111,14 +116,23 @@ pub struct JobSpec {
 
 impl Copyable for JobSpec {
     fn copy(&self, alloc: Global) -> Result<Self, CopyFault> {
+        let (name, templates, packages, properties, provides, consumes) = copy_six(
+            &self.name,
+            &self.templates,
+            &self.packages,
+            &self.properties,
+            &self.provides,
+            &self.consumes,
+            alloc,
+        )?;
         Ok(JobSpec {
-            name: self.name.copy(alloc)?,
+            name,
             fingerprint: self.fingerprint,
-            templates: self.templates.copy(alloc)?,
-            packages: self.packages.copy(alloc)?,
-            properties: self.properties.copy(alloc)?,
-            provides: self.provides.copy(alloc)?,
-            consumes: self.consumes.copy(alloc)?,
+            templates,
+            packages,
+            properties,
+            provides,
+            consumes,
         })
     }
 }
@@ -134,10 +148,11 @@ pub struct PackageSpec {
 
 impl Copyable for PackageSpec {
     fn copy(&self, alloc: Global) -> Result<Self, CopyFault> {
+        let (name, deps) = copy_both(&self.name, &self.deps, alloc)?;
         Ok(PackageSpec {
-            name: self.name.copy(alloc)?,
+            name,
             fingerprint: self.fingerprint,
-            deps: self.deps.copy(alloc)?,
+            deps,
         })
     }
 }
@@ -155,11 +170,18 @@ pub struct Release {
 
 impl Copyable for Release {
     fn copy(&self, alloc: Global) -> Result<Self, CopyFault> {
+        let (name, version, jobs, packages) = copy_four(
+            &self.name,
+            &self.version,
+            &self.jobs,
+            &self.packages,
+            alloc,
+        )?;
         Ok(Release {
-            name: self.name.copy(alloc)?,
-            version: self.version.copy(alloc)?,
-            jobs: self.jobs.copy(alloc)?,
-            packages: self.packages.copy(alloc)?,
+            name,
+            version,
+            jobs,
+            packages,
         })
     }
 }

@@ -1,8 +1,7 @@
 use crate::{
-    Addr, BuiltKey, CopyFault, Copyable, Digest, Inst, Mark, Method, Name, Owner, Problem, Seq,
-    Stemcell, TaskEnd, TaskKind, Text,
+    Addr, BuiltKey, Digest, Inst, Mark, Method, Name, Owner, Problem, Seq, Stemcell, TaskEnd,
+    TaskKind, Text,
 };
-use std::alloc::Global;
 
 /// How an instance is listed.
 #[derive(Clone, Copy, Debug, PartialEq, Eq)]
@@ -13,12 +12,6 @@ pub enum Shown {
     Absent,
     Running,
     Stopped,
-}
-
-impl Copyable for Shown {
-    fn copy(&self, _alloc: Global) -> Result<Self, CopyFault> {
-        Ok(*self)
-    }
 }
 
 /// An instance, as `instances` lists it.
@@ -35,20 +28,6 @@ pub struct InstanceLine {
     pub disk: Option<u64>,
 }
 
-impl Copyable for InstanceLine {
-    fn copy(&self, alloc: Global) -> Result<Self, CopyFault> {
-        Ok(InstanceLine {
-            group: self.group.copy(alloc)?,
-            index: self.index,
-            state: self.state,
-            az: self.az.copy(alloc)?,
-            addrs: self.addrs.copy(alloc)?,
-            vm: self.vm,
-            disk: self.disk,
-        })
-    }
-}
-
 /// An orphaned disk, as `disks` lists it.
 #[derive(Drop)]
 pub struct OrphanLine {
@@ -61,17 +40,6 @@ pub struct OrphanLine {
     pub doubt: bool,
 }
 
-impl Copyable for OrphanLine {
-    fn copy(&self, alloc: Global) -> Result<Self, CopyFault> {
-        Ok(OrphanLine {
-            disk: self.disk,
-            size: self.size,
-            inst: self.inst.copy(alloc)?,
-            doubt: self.doubt,
-        })
-    }
-}
-
 /// A task, as `tasks` lists it.
 #[derive(Drop)]
 pub struct TaskLine {
@@ -79,17 +47,6 @@ pub struct TaskLine {
     pub kind: TaskKind,
     pub dep: Option<Name>,
     pub end: Option<TaskEnd>,
-}
-
-impl Copyable for TaskLine {
-    fn copy(&self, alloc: Global) -> Result<Self, CopyFault> {
-        Ok(TaskLine {
-            task: self.task,
-            kind: self.kind.copy(alloc)?,
-            dep: self.dep.copy(alloc)?,
-            end: self.end.copy(alloc)?,
-        })
-    }
 }
 
 /// A release, as `releases` lists it.
@@ -103,31 +60,11 @@ pub struct ReleaseLine {
     pub packages: Seq<Mark>,
 }
 
-impl Copyable for ReleaseLine {
-    fn copy(&self, alloc: Global) -> Result<Self, CopyFault> {
-        Ok(ReleaseLine {
-            name: self.name.copy(alloc)?,
-            version: self.version.copy(alloc)?,
-            jobs: self.jobs.copy(alloc)?,
-            packages: self.packages.copy(alloc)?,
-        })
-    }
-}
-
 /// A disk that is attached to a machine.
 #[derive(Drop)]
 pub struct HeldDisk {
     pub disk: u64,
     pub mounted: bool,
-}
-
-impl Copyable for HeldDisk {
-    fn copy(&self, alloc: Global) -> Result<Self, CopyFault> {
-        Ok(HeldDisk {
-            disk: self.disk,
-            mounted: self.mounted,
-        })
-    }
 }
 
 /// A machine, as `!cloud` lists it.
@@ -142,19 +79,6 @@ pub struct MachineLine {
     pub disks: Seq<HeldDisk>,
 }
 
-impl Copyable for MachineLine {
-    fn copy(&self, alloc: Global) -> Result<Self, CopyFault> {
-        Ok(MachineLine {
-            vm: self.vm,
-            owner: self.owner.copy(alloc)?,
-            az: self.az.copy(alloc)?,
-            addrs: self.addrs.copy(alloc)?,
-            running: self.running,
-            disks: self.disks.copy(alloc)?,
-        })
-    }
-}
-
 /// A disk, as `!cloud` lists it.
 #[derive(Drop)]
 pub struct CloudDiskLine {
@@ -164,17 +88,6 @@ pub struct CloudDiskLine {
     pub size: u32,
     /// The machine that it is attached to.
     pub vm: Option<u64>,
-}
-
-impl Copyable for CloudDiskLine {
-    fn copy(&self, alloc: Global) -> Result<Self, CopyFault> {
-        Ok(CloudDiskLine {
-            disk: self.disk,
-            owner: self.owner.copy(alloc)?,
-            size: self.size,
-            vm: self.vm,
-        })
-    }
 }
 
 /// A release was uploaded.
@@ -188,31 +101,11 @@ pub struct ReleaseAdded {
     pub packages: u64,
 }
 
-impl Copyable for ReleaseAdded {
-    fn copy(&self, alloc: Global) -> Result<Self, CopyFault> {
-        Ok(ReleaseAdded {
-            name: self.name.copy(alloc)?,
-            version: self.version.copy(alloc)?,
-            jobs: self.jobs,
-            packages: self.packages,
-        })
-    }
-}
-
 /// A release is there already.
 #[derive(Drop)]
 pub struct ReleaseThere {
     pub name: Name,
     pub version: Text,
-}
-
-impl Copyable for ReleaseThere {
-    fn copy(&self, alloc: Global) -> Result<Self, CopyFault> {
-        Ok(ReleaseThere {
-            name: self.name.copy(alloc)?,
-            version: self.version.copy(alloc)?,
-        })
-    }
 }
 
 /// The call by which a task failed.
@@ -224,17 +117,6 @@ pub struct FailedCall {
     pub owner: Owner,
 }
 
-impl Copyable for FailedCall {
-    fn copy(&self, alloc: Global) -> Result<Self, CopyFault> {
-        Ok(FailedCall {
-            task: self.task,
-            n: self.n,
-            method: self.method,
-            owner: self.owner.copy(alloc)?,
-        })
-    }
-}
-
 /// A task, as `task` shows it.
 #[derive(Drop)]
 pub struct TaskDetail {
@@ -242,16 +124,6 @@ pub struct TaskDetail {
     pub calls: Option<u64>,
     /// Of the manifest.
     pub source: Option<Digest>,
-}
-
-impl Copyable for TaskDetail {
-    fn copy(&self, alloc: Global) -> Result<Self, CopyFault> {
-        Ok(TaskDetail {
-            line: self.line.copy(alloc)?,
-            calls: self.calls,
-            source: self.source,
-        })
-    }
 }
 
 /// What is there in the cloud.
@@ -263,27 +135,12 @@ pub struct CloudListing {
     pub disks: Seq<CloudDiskLine>,
 }
 
-impl Copyable for CloudListing {
-    fn copy(&self, alloc: Global) -> Result<Self, CopyFault> {
-        Ok(CloudListing {
-            machines: self.machines.copy(alloc)?,
-            disks: self.disks.copy(alloc)?,
-        })
-    }
-}
-
 /// What a generated deployment took.
 #[derive(Clone, Copy, Debug, PartialEq, Eq)]
 pub struct Generated {
     pub instances: u64,
     pub groups: u64,
     pub calls: u64,
-}
-
-impl Copyable for Generated {
-    fn copy(&self, _alloc: Global) -> Result<Self, CopyFault> {
-        Ok(*self)
-    }
 }
 
 /// Why a command was refused.
@@ -295,16 +152,6 @@ pub struct Refusal {
     pub variant: Text,
     /// What the reason names.
     pub fields: Seq<Text>,
-}
-
-impl Copyable for Refusal {
-    fn copy(&self, alloc: Global) -> Result<Self, CopyFault> {
-        Ok(Refusal {
-            word: self.word.copy(alloc)?,
-            variant: self.variant.copy(alloc)?,
-            fields: self.fields.copy(alloc)?,
-        })
-    }
 }
 
 /// What a command is answered. Every reply but a failed task and a refusal is good.
@@ -337,34 +184,4 @@ pub enum Reply {
     Generated(Generated),
     Problems(Seq<Problem>),
     Refused(Refusal),
-}
-
-impl Copyable for Reply {
-    fn copy(&self, alloc: Global) -> Result<Self, CopyFault> {
-        match self {
-            Reply::ReleaseAdded(release) => release.copy(alloc).map(Reply::ReleaseAdded),
-            Reply::ReleaseThere(release) => release.copy(alloc).map(Reply::ReleaseThere),
-            Reply::StemcellAdded(stemcell) => stemcell.copy(alloc).map(Reply::StemcellAdded),
-            Reply::StemcellThere(stemcell) => stemcell.copy(alloc).map(Reply::StemcellThere),
-            Reply::ConfigUpdated => Ok(Reply::ConfigUpdated),
-            Reply::TaskFinished(task) => Ok(Reply::TaskFinished(*task)),
-            Reply::TaskFailed(call) => call.copy(alloc).map(Reply::TaskFailed),
-            Reply::TaskGone(call) => call.copy(alloc).map(Reply::TaskGone),
-            Reply::Instances(lines) => lines.copy(alloc).map(Reply::Instances),
-            Reply::Orphans(lines) => lines.copy(alloc).map(Reply::Orphans),
-            Reply::Tasks(lines) => lines.copy(alloc).map(Reply::Tasks),
-            Reply::Task(task) => task.copy(alloc).map(Reply::Task),
-            Reply::Releases(lines) => lines.copy(alloc).map(Reply::Releases),
-            Reply::Compiled(keys) => keys.copy(alloc).map(Reply::Compiled),
-            Reply::Cloud(listing) => listing.copy(alloc).map(Reply::Cloud),
-            Reply::Contents(text) => text.copy(alloc).map(Reply::Contents),
-            Reply::Written => Ok(Reply::Written),
-            Reply::Restarted => Ok(Reply::Restarted),
-            Reply::Lost => Ok(Reply::Lost),
-            Reply::Nothing => Ok(Reply::Nothing),
-            Reply::Generated(generated) => Ok(Reply::Generated(*generated)),
-            Reply::Problems(problems) => problems.copy(alloc).map(Reply::Problems),
-            Reply::Refused(refusal) => refusal.copy(alloc).map(Reply::Refused),
-        }
-    }
 }

@@ -1,4 +1,4 @@
-use crate::{Call, CopyFault, Copyable, DiskWant, Inst, Make, Seq, Spec};
+use crate::{Call, CopyFault, Copyable, DiskWant, Inst, Make, Seq, Spec, copy_five};
 use std::alloc::Global;
 
 /// What a disk is to its instance.
@@ -95,15 +95,23 @@ pub struct Row {
 
 impl Copyable for Row {
     fn copy(&self, alloc: Global) -> Result<Self, CopyFault> {
+        let (inst, make, spec, disks, doubt) = copy_five(
+            &self.inst,
+            &self.make,
+            &self.spec,
+            &self.disks,
+            &self.doubt,
+            alloc,
+        )?;
         Ok(Row {
-            inst: self.inst.copy(alloc)?,
-            make: self.make.copy(alloc)?,
+            inst,
+            make,
             vm: self.vm,
-            spec: self.spec.copy(alloc)?,
+            spec,
             running: self.running,
             drained: self.drained,
-            disks: self.disks.copy(alloc)?,
-            doubt: self.doubt.copy(alloc)?,
+            disks,
+            doubt,
             lost: self.lost,
         })
     }

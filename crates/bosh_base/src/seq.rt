@@ -1,4 +1,4 @@
-ghost use Rattle.std.specs.Prelude.{◌≡◌, ◌↔◌, [], ◌∷◌, ◌++◌, length, slice_get, IsTrue, OnOk, OnErr, IfErr};
+ghost use Rattle.std.specs.Prelude.{◌≡◌, ◌↔◌, [], ◌∷◌, ◌++◌, ◌<◌, length, slice_get, slice_set, IsTrue, OnOk, OnErr, IfErr};
 ghost use Rattle.std.specs.Option.{option_copied};
 ghost use Rattle.std.specs.Slice.Iter.{iter_rest};
 
@@ -6,7 +6,7 @@ use crate::{CopyFault, Copyable};
 use std::alloc::Global;
 use std::cmp::Ordering;
 use std::marker::Model;
-use std::slice;
+use std::{mem, slice};
 
 /// A list of items.
 #[derive(Debug, Drop)]
@@ -64,6 +64,15 @@ impl<T> Seq<T> {
             Ok(()) => Ok(()),
             Err(failed) => Err(failed.value),
         }
+    }
+
+    /// Puts an item in the place of another, and gives that one back. Places are counted from 0.
+    pub fn set(&mut self, place: usize, item: T) -> T
+        requires { place < length self.old }
+        ensures set { self.new ≡ slice_set self.old place item }
+        ensures given_back { slice_get self.old place ≡ Some result }
+    {
+        mem::replace(&mut self.items[place], item)
     }
 
     pub fn as_slice(&self) -> &[T]

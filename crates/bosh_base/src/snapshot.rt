@@ -1,6 +1,6 @@
 use crate::{
     CopyFault, Copyable, Digest, DiskWant, Doubt, Goal, Inst, Key, Make, Name, Offer, Release, Row,
-    Seq, Stemcell, TaskRow, Text, Vm,
+    Seq, Stemcell, TaskRow, Text, Vm, copy_both, copy_nine, copy_three,
 };
 use std::alloc::Global;
 
@@ -16,11 +16,8 @@ pub struct DepRow {
 
 impl Copyable for DepRow {
     fn copy(&self, alloc: Global) -> Result<Self, CopyFault> {
-        Ok(DepRow {
-            dep: self.dep.copy(alloc)?,
-            goal: self.goal.copy(alloc)?,
-            shared: self.shared.copy(alloc)?,
-        })
+        let (dep, goal, shared) = copy_three(&self.dep, &self.goal, &self.shared, alloc)?;
+        Ok(DepRow { dep, goal, shared })
     }
 }
 
@@ -38,13 +35,14 @@ pub struct CompileRow {
 
 impl Copyable for CompileRow {
     fn copy(&self, alloc: Global) -> Result<Self, CopyFault> {
+        let (dep, make, doubt) = copy_three(&self.dep, &self.make, &self.doubt, alloc)?;
         Ok(CompileRow {
             task: self.task,
             slot: self.slot,
-            dep: self.dep.copy(alloc)?,
-            make: self.make.copy(alloc)?,
+            dep,
+            make,
             vm: self.vm,
-            doubt: self.doubt.copy(alloc)?,
+            doubt,
         })
     }
 }
@@ -61,11 +59,12 @@ pub struct Orphan {
 
 impl Copyable for Orphan {
     fn copy(&self, alloc: Global) -> Result<Self, CopyFault> {
+        let (want, inst, doubt) = copy_three(&self.want, &self.inst, &self.doubt, alloc)?;
         Ok(Orphan {
             disk: self.disk,
-            want: self.want.copy(alloc)?,
-            inst: self.inst.copy(alloc)?,
-            doubt: self.doubt.copy(alloc)?,
+            want,
+            inst,
+            doubt,
         })
     }
 }
@@ -81,9 +80,10 @@ pub struct BuiltKey {
 
 impl Copyable for BuiltKey {
     fn copy(&self, alloc: Global) -> Result<Self, CopyFault> {
+        let (name, key) = copy_both(&self.name, &self.key, alloc)?;
         Ok(BuiltKey {
-            name: self.name.copy(alloc)?,
-            key: self.key.copy(alloc)?,
+            name,
+            key,
             digest: self.digest,
         })
     }
@@ -115,16 +115,38 @@ pub struct Snapshot {
 
 impl Copyable for Snapshot {
     fn copy(&self, alloc: Global) -> Result<Self, CopyFault> {
+        let (
+            releases,
+            stemcells,
+            config,
+            deployments,
+            rows,
+            compile_rows,
+            orphans,
+            built_keys,
+            tasks,
+        ) = copy_nine(
+            &self.releases,
+            &self.stemcells,
+            &self.config,
+            &self.deployments,
+            &self.rows,
+            &self.compile_rows,
+            &self.orphans,
+            &self.built_keys,
+            &self.tasks,
+            alloc,
+        )?;
         Ok(Snapshot {
-            releases: self.releases.copy(alloc)?,
-            stemcells: self.stemcells.copy(alloc)?,
-            config: self.config.copy(alloc)?,
-            deployments: self.deployments.copy(alloc)?,
-            rows: self.rows.copy(alloc)?,
-            compile_rows: self.compile_rows.copy(alloc)?,
-            orphans: self.orphans.copy(alloc)?,
-            built_keys: self.built_keys.copy(alloc)?,
-            tasks: self.tasks.copy(alloc)?,
+            releases,
+            stemcells,
+            config,
+            deployments,
+            rows,
+            compile_rows,
+            orphans,
+            built_keys,
+            tasks,
             last_call: self.last_call,
         })
     }

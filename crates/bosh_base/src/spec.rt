@@ -1,4 +1,4 @@
-use crate::{CopyFault, Copyable, Digest, Name, Seq, Text};
+use crate::{CopyFault, Copyable, Digest, Name, Seq, Text, copy_both, copy_three};
 use std::alloc::Global;
 
 /// A job or package with the fingerprint of its contents.
@@ -26,10 +26,8 @@ pub struct Placed {
 
 impl Copyable for Placed {
     fn copy(&self, alloc: Global) -> Result<Self, CopyFault> {
-        Ok(Placed {
-            path: self.path.copy(alloc)?,
-            text: self.text.copy(alloc)?,
-        })
+        let (path, text) = copy_both(&self.path, &self.text, alloc)?;
+        Ok(Placed { path, text })
     }
 }
 
@@ -46,10 +44,11 @@ pub struct Spec {
 
 impl Copyable for Spec {
     fn copy(&self, alloc: Global) -> Result<Self, CopyFault> {
+        let (jobs, packages, files) = copy_three(&self.jobs, &self.packages, &self.files, alloc)?;
         Ok(Spec {
-            jobs: self.jobs.copy(alloc)?,
-            packages: self.packages.copy(alloc)?,
-            files: self.files.copy(alloc)?,
+            jobs,
+            packages,
+            files,
         })
     }
 }

@@ -1,4 +1,4 @@
-use crate::{CopyFault, Copyable, Name, Text};
+use crate::{CopyFault, Copyable, Name, Text, copy_both};
 use std::alloc::Global;
 
 /// An operating system image, by name and version.
@@ -10,9 +10,7 @@ pub struct Stemcell {
 
 impl Copyable for Stemcell {
     fn copy(&self, alloc: Global) -> Result<Self, CopyFault> {
-        Ok(Stemcell {
-            os: self.os.copy(alloc)?,
-            version: self.version.copy(alloc)?,
-        })
+        let (os, version) = copy_both(&self.os, &self.version, alloc)?;
+        Ok(Stemcell { os, version })
     }
 }

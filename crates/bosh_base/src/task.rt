@@ -1,4 +1,4 @@
-use crate::{CopyFault, Copyable, Digest, Inst, Method, Name, Owner};
+use crate::{CopyFault, Copyable, Digest, Inst, Method, Name, Owner, copy_three};
 use std::alloc::Global;
 
 /// What a task does.
@@ -22,14 +22,14 @@ impl Copyable for TaskKind {
     fn copy(&self, alloc: Global) -> Result<Self, CopyFault> {
         match self {
             TaskKind::Deploy => Ok(TaskKind::Deploy),
-            TaskKind::Recreate(inst) => inst.copy(alloc).map(TaskKind::Recreate),
-            TaskKind::Start(inst) => inst.copy(alloc).map(TaskKind::Start),
-            TaskKind::Stop(inst) => inst.copy(alloc).map(TaskKind::Stop),
+            TaskKind::Recreate(inst) => Ok(TaskKind::Recreate(inst.copy(alloc)?)),
+            TaskKind::Start(inst) => Ok(TaskKind::Start(inst.copy(alloc)?)),
+            TaskKind::Stop(inst) => Ok(TaskKind::Stop(inst.copy(alloc)?)),
             TaskKind::DeleteDeployment => Ok(TaskKind::DeleteDeployment),
             TaskKind::DeleteDisk(disk) => Ok(TaskKind::DeleteDisk(*disk)),
             TaskKind::CleanUp => Ok(TaskKind::CleanUp),
             TaskKind::Fix => Ok(TaskKind::Fix),
-            TaskKind::Resolve(inst) => inst.copy(alloc).map(TaskKind::Resolve),
+            TaskKind::Resolve(inst) => Ok(TaskKind::Resolve(inst.copy(alloc)?)),
         }
     }
 }
@@ -90,11 +90,12 @@ pub struct TaskRow {
 
 impl Copyable for TaskRow {
     fn copy(&self, alloc: Global) -> Result<Self, CopyFault> {
+        let (kind, dep, end) = copy_three(&self.kind, &self.dep, &self.end, alloc)?;
         Ok(TaskRow {
             task: self.task,
-            kind: self.kind.copy(alloc)?,
-            dep: self.dep.copy(alloc)?,
-            end: self.end.copy(alloc)?,
+            kind,
+            dep,
+            end,
             source: self.source,
             calls: self.calls,
         })

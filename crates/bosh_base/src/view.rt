@@ -1,5 +1,4 @@
-use crate::{Addr, CopyFault, Copyable, DepOffers, Goal, Key, Name, Owner, Row, Seq};
-use std::alloc::Global;
+use crate::{Addr, DepOffers, Goal, Key, Name, Owner, Row, Seq};
 
 /// An address, and who holds it.
 #[derive(PartialEq, Eq, Drop)]
@@ -7,16 +6,6 @@ pub struct Held {
     pub owner: Owner,
     pub net: Name,
     pub addr: Addr,
-}
-
-impl Copyable for Held {
-    fn copy(&self, alloc: Global) -> Result<Self, CopyFault> {
-        Ok(Held {
-            owner: self.owner.copy(alloc)?,
-            net: self.net.copy(alloc)?,
-            addr: self.addr,
-        })
-    }
 }
 
 /// What the goal of a deployment depends on beside its manifest.
@@ -34,18 +23,4 @@ pub struct View {
     pub last_call: u64,
     /// One a recorded deployment.
     pub known: Seq<DepOffers>,
-}
-
-impl Copyable for View {
-    fn copy(&self, alloc: Global) -> Result<Self, CopyFault> {
-        Ok(View {
-            goal: self.goal.copy(alloc)?,
-            rows: self.rows.copy(alloc)?,
-            taken: self.taken.copy(alloc)?,
-            leftover: self.leftover.copy(alloc)?,
-            compiled: self.compiled.copy(alloc)?,
-            last_call: self.last_call,
-            known: self.known.copy(alloc)?,
-        })
-    }
 }
