@@ -199,23 +199,24 @@ pub enum Entry {
     Lost(Loss),
 }
 
+// By `map`, since an entry over a `?` in each of so many arms is dear to prove.
 impl Copyable for Entry {
     fn copy(&self, alloc: Global) -> Result<Self, CopyFault> {
         match self {
-            Entry::Release(release) => Ok(Entry::Release(release.copy(alloc)?)),
-            Entry::Stemcell(stemcell) => Ok(Entry::Stemcell(stemcell.copy(alloc)?)),
-            Entry::Config(file) => Ok(Entry::Config(file.copy(alloc)?)),
-            Entry::TaskOpen(open) => Ok(Entry::TaskOpen(open.copy(alloc)?)),
-            Entry::Begin(begin) => Ok(Entry::Begin(begin.copy(alloc)?)),
-            Entry::End(end) => Ok(Entry::End(end.copy(alloc)?)),
-            Entry::UpdBegin(update) => Ok(Entry::UpdBegin(update.copy(alloc)?)),
-            Entry::UpdDone(update) => Ok(Entry::UpdDone(update.copy(alloc)?)),
-            Entry::Gone(update) => Ok(Entry::Gone(update.copy(alloc)?)),
+            Entry::Release(release) => release.copy(alloc).map(Entry::Release),
+            Entry::Stemcell(stemcell) => stemcell.copy(alloc).map(Entry::Stemcell),
+            Entry::Config(file) => file.copy(alloc).map(Entry::Config),
+            Entry::TaskOpen(open) => open.copy(alloc).map(Entry::TaskOpen),
+            Entry::Begin(begin) => begin.copy(alloc).map(Entry::Begin),
+            Entry::End(end) => end.copy(alloc).map(Entry::End),
+            Entry::UpdBegin(update) => update.copy(alloc).map(Entry::UpdBegin),
+            Entry::UpdDone(update) => update.copy(alloc).map(Entry::UpdDone),
+            Entry::Gone(update) => update.copy(alloc).map(Entry::Gone),
             Entry::TaskDone(task) => Ok(Entry::TaskDone(*task)),
-            Entry::TaskError(error) => Ok(Entry::TaskError(error.copy(alloc)?)),
-            Entry::Snapshot(snapshot) => Ok(Entry::Snapshot(snapshot.copy(alloc)?)),
-            Entry::Effect(effect) => Ok(Entry::Effect(effect.copy(alloc)?)),
-            Entry::Write(write) => Ok(Entry::Write(write.copy(alloc)?)),
+            Entry::TaskError(error) => error.copy(alloc).map(Entry::TaskError),
+            Entry::Snapshot(snapshot) => snapshot.copy(alloc).map(Entry::Snapshot),
+            Entry::Effect(effect) => effect.copy(alloc).map(Entry::Effect),
+            Entry::Write(write) => write.copy(alloc).map(Entry::Write),
             Entry::Lost(loss) => Ok(Entry::Lost(*loss)),
         }
     }
