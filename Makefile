@@ -1,18 +1,26 @@
-# run: the program on the first session.  test: the gate.  sessions: every session of sessions/ through the
-# built program.  bench: how times grow, of sessions, of the order of compilation, of texts read, of entries.
-# fmt: lays out all sources.
-.PHONY: run test sessions bench fmt build
+# run: the program on the first session.  build: proves and builds the program.  test: the gate.  trials: wrong bodies
+# that the gate does not try.  sessions: every session of sessions/ through the built program.  bench: how times grow, of
+# sessions, of the order of compilation, of texts read, of entries.  fmt: lays out all sources.
+.PHONY: run build test trials sessions bench fmt
 
 PROGRAM := crates/boshd/out/boshd
 
-run: build
-	@$(PROGRAM) < sessions/first
+run:
+	@if [ -x $(PROGRAM) ]; then \
+		$(PROGRAM) < sessions/first; \
+	else \
+		(cd crates/boshd && rt try < ../../sessions/first) && \
+		echo "this ran before its proof: make build proves the program and builds it" >&2; \
+	fi
+
+build:
+	@cd crates/boshd && rt run < /dev/null > /dev/null
 
 test:
 	@bash .ci/run
 
-build:
-	@cd crates/boshd && rt run < /dev/null > /dev/null
+trials:
+	@bash trials/run.sh $(CRATE)
 
 sessions:
 	@bash sessions/run.sh

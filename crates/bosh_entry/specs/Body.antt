@@ -105,13 +105,17 @@ entry_at format bytes = do
   kind ← byte_at first.1
   if first.0 == first_of format kind.0 then variant_at 1 (kinds format) kind.0 kind.1 else None
 
+-- the value that a whole body spells
+abbrev pub whole_by : {A : Type 0} → Reader A → List ℕ → Option A
+whole_by reader body = reader body >>= λ a. (if length a.1 == 0 then Some a.0 else None)
+
 -- the entry that a whole body spells
 unfoldable pub whole : Format → List ℕ → Option Entry
-whole format body = entry_at format body >>= λ e. (if length e.1 == 0 then Some e.0 else None)
+whole format = whole_by (entry_at format)
 
--- What a function answers is this entry, or none, unless memory ran out.
-abbrev pub Answers : Result Entry EntryFault → Option Entry → Type 0
-Answers (Ok e) read = read ≡ Some e
+-- What a function answers is this value, or none, unless memory ran out.
+abbrev pub Answers : {A : Type 0} → Result A EntryFault → Option A → Type 0
+Answers (Ok a) read = read ≡ Some a
 Answers (Err NotAnEntry) read = read ≡ None
 Answers (Err Memory) read = Unit {0}
 

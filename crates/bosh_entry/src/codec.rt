@@ -1,5 +1,5 @@
 ghost use Rattle.std.specs.Prelude.{◌≡◌, Some, OnOk, IfOk, IfErr, IsErrOf};
-ghost use Rattle.bosh_entry.specs.Body.{whole, Answers, spelling, IsEntry, entry_of, older_spelling, IsOlderEntry, older_entry_of};
+ghost use Rattle.bosh_entry.specs.Body.{whole, whole_by, Answers, spelling, IsEntry, entry_of, older_spelling, IsOlderEntry, older_entry_of};
 ghost use Rattle.bosh_entry.specs.declared.fault.EntryFault.TheVariants.{NotAnEntry, Memory};
 
 use crate::coded::Coded;
@@ -22,17 +22,23 @@ pub fn write(alloc: Global, entry: &Entry) -> Result<Vec<u8>, EntryFault>
     Ok(out)
 }
 
-/// The entry of a whole body.
+/// The value of a whole body. It is generic, since an entry that is dropped where bytes are left is dear to prove.
+fn whole_in<T: Coded>(alloc: Global, format: Format, body: &[u8]) -> Result<T, EntryFault>
+    ensures { Answers result (whole_by (T.reading format) body.now) }
+{
+    let mut from = Source { rest: body };
+    let value = T::read(alloc, format, &mut from)?;
+    if !from.rest.is_empty() {
+        return Err(EntryFault::NotAnEntry);
+    }
+    Ok(value)
+}
+
 #[tactic(auto, unfolding(crate::specs::Body::whole))]
 fn entry_in(alloc: Global, format: Format, body: &[u8]) -> Result<Entry, EntryFault>
     ensures { Answers result (whole format body.now) }
 {
-    let mut from = Source { rest: body };
-    let entry = Entry::read(alloc, format, &mut from)?;
-    if !from.rest.is_empty() {
-        return Err(EntryFault::NotAnEntry);
-    }
-    Ok(entry)
+    whole_in(alloc, format, body)
 }
 
 /// The entry that a body spells in the present format, all of its bytes.

@@ -1,14 +1,11 @@
 ghost use Rattle.std.specs.Prelude.{◌≡◌, ◌++◌, ℕ, Bool, true, List, OnOk, IfErr};
-ghost use Rattle.std.specs.List.{flat_map, list_all};
 ghost use Rattle.bosh_entry.specs.Reading.{Gives, Reader};
-ghost use Rattle.bosh_entry.specs.List.{items_at};
 ghost use Rattle.bosh_entry.specs.declared.fault.EntryFault.TheVariants.{Memory};
 ghost use Rattle.bosh_entry.specs.declared.format.Format.TheVariants.{Present};
 
 use crate::fault::EntryFault;
 use crate::format::Format;
 use crate::source::Source;
-use bosh_base::Seq;
 use std::alloc::Global;
 
 /// A type whose values are spelled in bytes, one after the other.
@@ -31,33 +28,4 @@ pub trait Coded: Sized + Drop {
     /// The value that the next bytes spell.
     fn read(alloc: Global, format: Format, from: &mut Source) -> Result<Self, EntryFault>
         ensures { Gives result from.new.rest.now (reading format from.old.rest.now) };
-
-    /// Adds the spellings of items, one after the other.
-    fn write_each(items: &[Self], out: &mut Vec<u8>) -> Result<(), EntryFault>
-        ensures ok { OnOk result (out.new.items ≡ out.old.items ++ flat_map (spelling Present) items.now) }
-        ensures fits { OnOk result (list_all (fits Present) items.now ≡ true) }
-        ensures err { IfErr result (λ fault. fault ≡ Memory) }
-    {
-        for item in items {
-            item.write(out)?;
-        }
-        Ok(())
-    }
-
-    /// So many values, which the next bytes spell. Each takes at least a byte, so a count beyond the bytes that are left
-    /// takes no memory of its own.
-    fn read_each(
-        alloc: Global,
-        format: Format,
-        count: u64,
-        from: &mut Source,
-    ) -> Result<Seq<Self>, EntryFault>
-        ensures { Gives result from.new.rest.now (items_at (reading format) count from.old.rest.now) }
-    {
-        let mut items = Vec::new(alloc);
-        for _ in 0..count {
-            items.push(Self::read(alloc, format, from)?)?;
-        }
-        Ok(Seq::from(items))
-    }
 }

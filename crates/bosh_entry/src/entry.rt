@@ -7,8 +7,8 @@ use crate::later::before_later;
 use crate::number::worker;
 use crate::source::Source;
 use bosh_base::{
-    Answer, Begin, Call, Effect, End, Failure, Inst, Loss, Name, Owner, Seq, TaskError, TaskKind,
-    TaskOpen, Text, Update, Write,
+    Answer, Begin, Call, Effect, End, Failure, Inst, Loss, Owner, TaskError, TaskOpen, Text,
+    Update, Write,
 };
 use std::alloc::Global;
 
@@ -169,13 +169,15 @@ impl Coded for Effect {
         self.call.write(out)
     }
 
-    #[tactic(auto, unfolding(crate::specs::Entry::effect_at))]
+    #[tactic(auto, using(crate::proofs::StructLemmas::effect_parts))]
     fn read(alloc: Global, format: Format, from: &mut Source) -> Result<Self, EntryFault> {
+        let fields = Coded::read(alloc, format, from)?;
+        let ((n, owner), (dep, call)) = fields;
         Ok(Effect {
-            n: u64::read(alloc, format, from)?,
-            owner: Owner::read(alloc, format, from)?,
-            dep: Name::read(alloc, format, from)?,
-            call: Call::read(alloc, format, from)?,
+            n,
+            owner,
+            dep,
+            call,
         })
     }
 }

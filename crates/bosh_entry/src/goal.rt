@@ -3,9 +3,9 @@ ghost use Rattle.std.specs.Prelude.{◌≡◌};
 use crate::coded::Coded;
 use crate::fault::EntryFault;
 use crate::format::Format;
-use crate::later::later;
+use crate::later::before_later;
 use crate::source::Source;
-use bosh_base::{Goal, GoalRow, GroupPlan, Inst, Make, Name, Seq, Spec, State};
+use bosh_base::{Goal, GoalRow, GroupPlan, Name, Seq};
 use std::alloc::Global;
 
 impl Coded for GoalRow {
@@ -90,16 +90,18 @@ impl Coded for Goal {
         self.offers.write(out)
     }
 
-    #[tactic(auto, unfolding(crate::specs::Goal::goal_at))]
+    #[tactic(auto, using(crate::proofs::StructLemmas::goal_parts))]
     fn read(alloc: Global, format: Format, from: &mut Source) -> Result<Self, EntryFault> {
+        let (fields, offers) = before_later(alloc, format, from, Seq::new(alloc))?;
+        let (((dep, rows), (groups, ties)), (keys, slots)) = fields;
         Ok(Goal {
-            dep: Name::read(alloc, format, from)?,
-            rows: Seq::read(alloc, format, from)?,
-            groups: Seq::read(alloc, format, from)?,
-            ties: Seq::read(alloc, format, from)?,
-            keys: Seq::read(alloc, format, from)?,
-            slots: Seq::read(alloc, format, from)?,
-            offers: later(alloc, format, from, Seq::new(alloc))?,
+            dep,
+            rows,
+            groups,
+            ties,
+            keys,
+            slots,
+            offers,
         })
     }
 }

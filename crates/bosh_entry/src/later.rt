@@ -39,3 +39,19 @@ pub fn before_later<A: Coded, T: Coded>(
     let last = later(alloc, format, from, absent)?;
     Ok((fields, last))
 }
+
+/// Fields, and after them two that the older format has not.
+#[tactic(auto, unfolding(crate::specs::Pair::pair_at))]
+pub fn before_both_later<A: Coded, S: Coded, T: Coded>(
+    alloc: Global,
+    format: Format,
+    from: &mut Source,
+    first_absent: S,
+    second_absent: T,
+) -> Result<((A, S), T), EntryFault>
+    ensures { Gives result from.new.rest.now (pair_at (pair_at (A.reading format) (later_at first_absent (S.reading format) format)) (later_at second_absent (T.reading format) format) from.old.rest.now) }
+{
+    let fields = before_later(alloc, format, from, first_absent)?;
+    let last = later(alloc, format, from, second_absent)?;
+    Ok((fields, last))
+}

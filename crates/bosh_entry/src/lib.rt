@@ -20,6 +20,7 @@ mod later;
 mod laws;
 mod link;
 mod list;
+mod listed;
 mod make;
 mod method;
 mod number;

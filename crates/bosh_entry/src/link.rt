@@ -4,7 +4,7 @@ use crate::coded::Coded;
 use crate::fault::EntryFault;
 use crate::format::Format;
 use crate::source::Source;
-use bosh_base::{Joint, Name, Text, Tie};
+use bosh_base::{Joint, Tie};
 use std::alloc::Global;
 
 impl Coded for Joint {
@@ -24,13 +24,15 @@ impl Coded for Joint {
         self.link.write(out)
     }
 
-    #[tactic(auto, unfolding(crate::specs::Link::joint_at))]
+    #[tactic(auto, using(crate::proofs::StructLemmas::joint_parts))]
     fn read(alloc: Global, format: Format, from: &mut Source) -> Result<Self, EntryFault> {
+        let fields = Coded::read(alloc, format, from)?;
+        let ((dep, group), (job, link)) = fields;
         Ok(Joint {
-            dep: Name::read(alloc, format, from)?,
-            group: Name::read(alloc, format, from)?,
-            job: Name::read(alloc, format, from)?,
-            link: Name::read(alloc, format, from)?,
+            dep,
+            group,
+            job,
+            link,
         })
     }
 }
@@ -51,12 +53,14 @@ impl Coded for Tie {
         self.kind.write(out)
     }
 
-    #[tactic(auto, unfolding(crate::specs::Link::tie_at))]
+    #[tactic(auto, using(crate::proofs::StructLemmas::tie_parts))]
     fn read(alloc: Global, format: Format, from: &mut Source) -> Result<Self, EntryFault> {
+        let fields = Coded::read(alloc, format, from)?;
+        let ((consumer, provider), kind) = fields;
         Ok(Tie {
-            consumer: Joint::read(alloc, format, from)?,
-            provider: Joint::read(alloc, format, from)?,
-            kind: Text::read(alloc, format, from)?,
+            consumer,
+            provider,
+            kind,
         })
     }
 }

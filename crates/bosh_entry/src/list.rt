@@ -1,5 +1,7 @@
 ghost use Rattle.std.specs.Prelude.{◌≡◌, ◌++◌, true, OnOk, IfErr};
-ghost use Rattle.bosh_entry.specs.List.{list, is_list};
+ghost use Rattle.std.specs.List.{flat_map, list_all};
+ghost use Rattle.bosh_entry.specs.Reading.{Gives};
+ghost use Rattle.bosh_entry.specs.List.{list, is_list, items_at};
 ghost use Rattle.bosh_entry.specs.declared.fault.EntryFault.TheVariants.{Memory};
 ghost use Rattle.bosh_entry.specs.declared.format.Format.TheVariants.{Present};
 
@@ -10,8 +12,61 @@ use crate::source::Source;
 use bosh_base::Seq;
 use std::alloc::Global;
 
+/// Adds the spellings of items, one after the other.
+fn write_one_by_one<T: Coded>(items: &[T], out: &mut Vec<u8>) -> Result<(), EntryFault>
+    ensures ok { OnOk result (out.new.items ≡ out.old.items ++ flat_map (T.spelling Present) items.now) }
+    ensures fits { OnOk result (list_all (T.fits Present) items.now ≡ true) }
+    ensures err { IfErr result (λ fault. fault ≡ Memory) }
+{
+    for item in items {
+        item.write(out)?;
+    }
+    Ok(())
+}
+
+/// So many values, which the next bytes spell. Each takes at least a byte, so a count beyond the bytes that are left
+/// takes no memory of its own.
+fn read_one_by_one<T: Coded>(
+    alloc: Global,
+    format: Format,
+    count: u64,
+    from: &mut Source,
+) -> Result<Seq<T>, EntryFault>
+    ensures { Gives result from.new.rest.now (items_at (T.reading format) count from.old.rest.now) }
+{
+    let mut items = Vec::new(alloc);
+    for _ in 0..count {
+        items.push(T::read(alloc, format, from)?)?;
+    }
+    Ok(Seq::from(items))
+}
+
+/// A type whose values stand in lists. Most are written and read one by one.
+pub trait Listed: Coded {
+    /// Adds the spellings of items, one after the other.
+    fn write_each(items: &[Self], out: &mut Vec<u8>) -> Result<(), EntryFault>
+        ensures ok { OnOk result (out.new.items ≡ out.old.items ++ flat_map (Self.spelling Present) items.now) }
+        ensures fits { OnOk result (list_all (Self.fits Present) items.now ≡ true) }
+        ensures err { IfErr result (λ fault. fault ≡ Memory) }
+    {
+        write_one_by_one(items, out)
+    }
+
+    /// So many values, which the next bytes spell.
+    fn read_each(
+        alloc: Global,
+        format: Format,
+        count: u64,
+        from: &mut Source,
+    ) -> Result<Seq<Self>, EntryFault>
+        ensures { Gives result from.new.rest.now (items_at (Self.reading format) count from.old.rest.now) }
+    {
+        read_one_by_one(alloc, format, count, from)
+    }
+}
+
 /// Adds the spelling of a list at the end.
-pub fn write_items<T: Coded>(items: &[T], out: &mut Vec<u8>) -> Result<(), EntryFault>
+pub fn write_items<T: Listed>(items: &[T], out: &mut Vec<u8>) -> Result<(), EntryFault>
     ensures ok { OnOk result (out.new.items ≡ out.old.items ++ list (T.spelling Present) items.now) }
     ensures fits { OnOk result (is_list (T.fits Present) items.now ≡ true) }
     ensures err { IfErr result (λ fault. fault ≡ Memory) }
@@ -20,7 +75,7 @@ pub fn write_items<T: Coded>(items: &[T], out: &mut Vec<u8>) -> Result<(), Entry
     T::write_each(items, out)
 }
 
-impl<T: Coded> Coded for Seq<T> {
+impl<T: Listed> Coded for Seq<T> {
     ghost use Rattle.bosh_entry.specs.List.{list_at, is_list};
 
     ghost spelling = { λ format. list (T.spelling format) };

@@ -5,11 +5,11 @@ ghost use Rattle.bosh_entry.specs.Number.{worker_at};
 use crate::coded::Coded;
 use crate::fault::EntryFault;
 use crate::format::Format;
+use crate::list::Listed;
 use crate::source::Source;
 use bosh_base::Text;
 use std::alloc::Global;
 
-/// A byte of a text. The bytes of a text are written and read at once.
 impl Coded for u8 {
     ghost use Rattle.bosh_entry.specs.Reading.{byte_at};
     ghost use Rattle.bosh_entry.specs.Number.{byte, is_byte};
@@ -28,7 +28,10 @@ impl Coded for u8 {
     fn read(_alloc: Global, _format: Format, from: &mut Source) -> Result<Self, EntryFault> {
         from.byte()
     }
+}
 
+/// The bytes of a text are written and read at once.
+impl Listed for u8 {
     fn write_each(items: &[Self], out: &mut Vec<u8>) -> Result<(), EntryFault> {
         out.extend_from_slice(items)?;
         Ok(())

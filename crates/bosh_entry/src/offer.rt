@@ -4,7 +4,7 @@ use crate::coded::Coded;
 use crate::fault::EntryFault;
 use crate::format::Format;
 use crate::source::Source;
-use bosh_base::{Joint, Offer, Seq, Text};
+use bosh_base::Offer;
 use std::alloc::Global;
 
 impl Coded for Offer {
@@ -26,15 +26,17 @@ impl Coded for Offer {
         self.properties.write(out)
     }
 
-    #[tactic(auto, unfolding(crate::specs::Offer::offer_at))]
+    #[tactic(auto, using(crate::proofs::StructLemmas::offer_parts))]
     fn read(alloc: Global, format: Format, from: &mut Source) -> Result<Self, EntryFault> {
+        let fields = Coded::read(alloc, format, from)?;
+        let (((joint, kind), (public_name, addrs)), (listed, properties)) = fields;
         Ok(Offer {
-            joint: Joint::read(alloc, format, from)?,
-            kind: Text::read(alloc, format, from)?,
-            public_name: Text::read(alloc, format, from)?,
-            addrs: Seq::read(alloc, format, from)?,
-            listed: Seq::read(alloc, format, from)?,
-            properties: Seq::read(alloc, format, from)?,
+            joint,
+            kind,
+            public_name,
+            addrs,
+            listed,
+            properties,
         })
     }
 }

@@ -160,16 +160,19 @@ impl Coded for JobSpec {
         self.consumes.write(out)
     }
 
-    #[tactic(auto, unfolding(crate::specs::Release::job_spec_at))]
+    #[tactic(auto, using(crate::proofs::StructLemmas::job_spec_parts))]
     fn read(alloc: Global, format: Format, from: &mut Source) -> Result<Self, EntryFault> {
+        let fields = Coded::read(alloc, format, from)?;
+        let (((name, fingerprint), (templates, packages)), ((properties, provides), consumes)) =
+            fields;
         Ok(JobSpec {
-            name: Name::read(alloc, format, from)?,
-            fingerprint: Digest::read(alloc, format, from)?,
-            templates: Seq::read(alloc, format, from)?,
-            packages: Seq::read(alloc, format, from)?,
-            properties: Seq::read(alloc, format, from)?,
-            provides: Seq::read(alloc, format, from)?,
-            consumes: Seq::read(alloc, format, from)?,
+            name,
+            fingerprint,
+            templates,
+            packages,
+            properties,
+            provides,
+            consumes,
         })
     }
 }
@@ -217,13 +220,15 @@ impl Coded for Release {
         self.packages.write(out)
     }
 
-    #[tactic(auto, unfolding(crate::specs::Release::release_at))]
+    #[tactic(auto, using(crate::proofs::StructLemmas::release_parts))]
     fn read(alloc: Global, format: Format, from: &mut Source) -> Result<Self, EntryFault> {
+        let fields = Coded::read(alloc, format, from)?;
+        let ((name, version), (jobs, packages)) = fields;
         Ok(Release {
-            name: Name::read(alloc, format, from)?,
-            version: Text::read(alloc, format, from)?,
-            jobs: Seq::read(alloc, format, from)?,
-            packages: Seq::read(alloc, format, from)?,
+            name,
+            version,
+            jobs,
+            packages,
         })
     }
 }

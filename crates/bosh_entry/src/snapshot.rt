@@ -3,12 +3,9 @@ ghost use Rattle.std.specs.Prelude.{◌≡◌};
 use crate::coded::Coded;
 use crate::fault::EntryFault;
 use crate::format::Format;
-use crate::later::later;
+use crate::later::before_later;
 use crate::source::Source;
-use bosh_base::{
-    BuiltKey, CompileRow, DepRow, Digest, DiskWant, Goal, Inst, Key, Make, Name, Orphan, Seq,
-    Snapshot,
-};
+use bosh_base::{BuiltKey, CompileRow, DepRow, Digest, Key, Name, Orphan, Seq, Snapshot};
 use std::alloc::Global;
 
 impl Coded for DepRow {
@@ -27,13 +24,11 @@ impl Coded for DepRow {
         self.shared.write(out)
     }
 
-    #[tactic(auto, unfolding(crate::specs::Snapshot::dep_row_at))]
+    #[tactic(auto, using(crate::proofs::StructLemmas::dep_row_parts))]
     fn read(alloc: Global, format: Format, from: &mut Source) -> Result<Self, EntryFault> {
-        Ok(DepRow {
-            dep: Name::read(alloc, format, from)?,
-            goal: Goal::read(alloc, format, from)?,
-            shared: later(alloc, format, from, Seq::new(alloc))?,
-        })
+        let (fields, shared) = before_later(alloc, format, from, Seq::new(alloc))?;
+        let (dep, goal) = fields;
+        Ok(DepRow { dep, goal, shared })
     }
 }
 
@@ -56,15 +51,17 @@ impl Coded for CompileRow {
         self.doubt.write(out)
     }
 
-    #[tactic(auto, unfolding(crate::specs::Snapshot::compile_row_at))]
+    #[tactic(auto, using(crate::proofs::StructLemmas::compile_row_parts))]
     fn read(alloc: Global, format: Format, from: &mut Source) -> Result<Self, EntryFault> {
+        let fields = Coded::read(alloc, format, from)?;
+        let (((task, slot), (dep, make)), (vm, doubt)) = fields;
         Ok(CompileRow {
-            task: u64::read(alloc, format, from)?,
-            slot: u32::read(alloc, format, from)?,
-            dep: Name::read(alloc, format, from)?,
-            make: Make::read(alloc, format, from)?,
-            vm: Option::read(alloc, format, from)?,
-            doubt: Option::read(alloc, format, from)?,
+            task,
+            slot,
+            dep,
+            make,
+            vm,
+            doubt,
         })
     }
 }
@@ -86,13 +83,15 @@ impl Coded for Orphan {
         self.doubt.write(out)
     }
 
-    #[tactic(auto, unfolding(crate::specs::Snapshot::orphan_at))]
+    #[tactic(auto, using(crate::proofs::StructLemmas::orphan_parts))]
     fn read(alloc: Global, format: Format, from: &mut Source) -> Result<Self, EntryFault> {
+        let fields = Coded::read(alloc, format, from)?;
+        let ((disk, want), (inst, doubt)) = fields;
         Ok(Orphan {
-            disk: u64::read(alloc, format, from)?,
-            want: DiskWant::read(alloc, format, from)?,
-            inst: Inst::read(alloc, format, from)?,
-            doubt: Option::read(alloc, format, from)?,
+            disk,
+            want,
+            inst,
+            doubt,
         })
     }
 }
@@ -146,19 +145,27 @@ impl Coded for Snapshot {
         self.last_call.write(out)
     }
 
-    #[tactic(auto, unfolding(crate::specs::Snapshot::snapshot_at))]
+    #[tactic(auto, using(crate::proofs::StructLemmas::snapshot_parts))]
     fn read(alloc: Global, format: Format, from: &mut Source) -> Result<Self, EntryFault> {
+        let fields = Coded::read(alloc, format, from)?;
+        let (
+            (
+                ((releases, stemcells), (config, deployments)),
+                ((rows, compile_rows), (orphans, built_keys)),
+            ),
+            (tasks, last_call),
+        ) = fields;
         Ok(Snapshot {
-            releases: Seq::read(alloc, format, from)?,
-            stemcells: Seq::read(alloc, format, from)?,
-            config: Option::read(alloc, format, from)?,
-            deployments: Seq::read(alloc, format, from)?,
-            rows: Seq::read(alloc, format, from)?,
-            compile_rows: Seq::read(alloc, format, from)?,
-            orphans: Seq::read(alloc, format, from)?,
-            built_keys: Seq::read(alloc, format, from)?,
-            tasks: Seq::read(alloc, format, from)?,
-            last_call: u64::read(alloc, format, from)?,
+            releases,
+            stemcells,
+            config,
+            deployments,
+            rows,
+            compile_rows,
+            orphans,
+            built_keys,
+            tasks,
+            last_call,
         })
     }
 }

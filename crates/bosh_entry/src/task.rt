@@ -3,7 +3,7 @@ ghost use Rattle.std.specs.Prelude.{◌≡◌};
 use crate::coded::Coded;
 use crate::fault::EntryFault;
 use crate::format::Format;
-use crate::later::later;
+use crate::later::before_both_later;
 use crate::source::Source;
 use crate::variant::write_variant;
 use bosh_base::{Inst, Method, Owner, TaskEnd, TaskKind, TaskRow};
@@ -127,15 +127,17 @@ impl Coded for TaskRow {
         self.calls.write(out)
     }
 
-    #[tactic(auto, unfolding(crate::specs::Task::task_row_at))]
+    #[tactic(auto, using(crate::proofs::StructLemmas::task_row_parts))]
     fn read(alloc: Global, format: Format, from: &mut Source) -> Result<Self, EntryFault> {
+        let (fields, calls) = before_both_later(alloc, format, from, None, None)?;
+        let (((task, kind), (dep, end)), source) = fields;
         Ok(TaskRow {
-            task: u64::read(alloc, format, from)?,
-            kind: TaskKind::read(alloc, format, from)?,
-            dep: Option::read(alloc, format, from)?,
-            end: Option::read(alloc, format, from)?,
-            source: later(alloc, format, from, None)?,
-            calls: later(alloc, format, from, None)?,
+            task,
+            kind,
+            dep,
+            end,
+            source,
+            calls,
         })
     }
 }

@@ -1,6 +1,6 @@
 use Rattle.std.proofs.Common.{arith}
 use Rattle.bosh_entry.proofs.TextLemmas.{bytes_read, bytes_missing}
-use Rattle.bosh_entry.proofs.number.U8Coded.read_each.Goals as goal
+use Rattle.bosh_entry.proofs.number.U8Listed.read_each.Goals as goal
 
 pub returns-then-count-from : goal.returns-then-count-from
 returns-then-count-from c = bytes_missing c.args.count c.args.from.now.rest.now c.if-count-from.true
