@@ -11,7 +11,9 @@ use Rattle.bosh_history.specs.Sound.{addrs}
 
 -- the makes of the machines that are there
 abbrev pub live_machines : List Entry → List Make
-live_machines effects = filter_map (λ v. option_and_then (λ e. make_of e.call) (vm_creation effects v)) (filter (is_vm_there effects) (numbers_to (vms_created effects)))
+live_machines effects =
+    filter_map (λ v. option_and_then (λ e. make_of e.call) (vm_creation effects v))
+    (filter (is_vm_there effects) (numbers_to (vms_created effects)))
 
 -- a machine that an open call may be making
 abbrev pub creating : OpenCall → Option Make
@@ -23,7 +25,8 @@ creating call = if_not_done call.did
 
 -- .. and those that open calls may be making
 abbrev pub possible_machines : Moment → List Make
-possible_machines m = live_machines m.effects ++ filter_map (λ n. option_and_then creating (m.calls n)) (numbers_to m.known.last_call)
+possible_machines m =
+    live_machines m.effects ++ filter_map (λ n. option_and_then creating (m.calls n)) (numbers_to m.known.last_call)
 
 abbrev pub is_apart : Make → Make → Bool
 is_apart a b = list_all (λ addr. not (list_any (λ other. other == addr) (addrs b))) (addrs a)

@@ -27,7 +27,8 @@ is_as_recorded row vm it =
     && (option_eq same_spec it.spec row.spec
     && (same_truth it.running row.running
     && (same_truth it.drained row.drained
-    && (pointwise nat_eq it.attached (numbers (λ d. d.attached) row) && pointwise nat_eq it.mounted (numbers (λ d. d.mounted) row))))))
+    && (pointwise nat_eq it.attached (numbers (λ d. d.attached) row)
+    && pointwise nat_eq it.mounted (numbers (λ d. d.mounted) row))))))
 
 abbrev pub has_machine : Row → Option Vm → List Machine → Bool
 has_machine row (Some vm) (it ∷ []) = is_as_recorded row vm it
@@ -39,4 +40,5 @@ abbrev pub has_disks : Row → List Disk → Bool
 has_disks row disks = list_all (λ d. list_any (λ it. it.disk == d.disk) disks) row.disks
 
 abbrev pub agrees : Row → List Machine → List Disk → Bool
-agrees row machines disks = not (is_some row.doubt) && (has_machine row row.vm (its_machines row machines) && has_disks row disks)
+agrees row machines disks =
+    not (is_some row.doubt) && (has_machine row row.vm (its_machines row machines) && has_disks row disks)

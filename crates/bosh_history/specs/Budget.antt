@@ -14,4 +14,7 @@ is_left k o name = holds (λ it. option_eq bytes_eq (Some it.dep) o.dep) (k.slot
 
 -- 36 for each row of the goal and each obsolete one, 8 for each key and for each compile machine that is left over
 abbrev pub budget : Known → TaskOpen → ℕ
-budget k o = 36 * (length (rows_of o.goal) + length o.obsolete) + 8 * length (keys_of o.goal) + 8 * length (filter (is_left k o) k.machines)
+budget k o =
+    36 * (length (rows_of o.goal) + length o.obsolete)
+    + 8 * length (keys_of o.goal)
+    + 8 * length (filter (is_left k o) k.machines)

@@ -93,8 +93,8 @@ compiles (CompilePackage vm work deps) (answers.Built digest) k =
     record k { built = inserted built_cmp (record { name = work.name; key = work.key; digest = digest }) k.built }
 compiles call answer k = k
 
--- A call fails where it is answered so, and where what it names is gone: but for a ping, and for the deletion of a machine
--- that is known to be lost.
+-- A call fails where it is answered so, and where what it names is gone: but for a ping, and for the deletion of a
+-- machine that is known to be lost.
 abbrev pub is_lost : Known → Owner → Bool
 is_lost k (Instance i) = (k.row i).lost
 is_lost k owner = false
@@ -127,7 +127,9 @@ pinged (Ping vm) answer (Instance i) t = record t { pinged = at same_inst i true
 pinged call answer owner t = t
 
 abbrev pub task_told : Known → Begin → Answer → Task → Task
-task_told k b answer t = record (pinged b.call answer b.owner t) { failed = least_failure t.failed (failure_of k b answer) }
+task_told k b answer t = record (pinged b.call answer b.owner t) {
+  failed = least_failure t.failed (failure_of k b answer);
+}
 
 abbrev pub call_ended : Answer → Option Begin → Known → Known
 call_ended answer (Some b) k = record (compiles b.call answer (ends_of b answer b.owner k)) {

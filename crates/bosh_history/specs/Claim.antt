@@ -1,4 +1,5 @@
--- What a worker of a task is to do next: the first of the rules that gives an answer decides (this project's profile).
+-- What a worker of a task is to do next: the first of the rules that gives an answer decides (this project's
+-- profile).
 use Rattle.std.specs.Prelude.{ℕ, ◌+◌, Bool, true, false, not, ◌&&◌, ◌||◌, if◌then◌else◌, Option, Some, None, is_some, List, [], ◌∷◌}
 use Rattle.bosh_base.specs.declared.call.Call.{Call}
 use Rattle.bosh_base.specs.declared.entry.Entry.{Entry}
@@ -36,14 +37,19 @@ is_passed m t (Instance i) =
 is_passed m t owner = not (is_idle m owner)
 
 abbrev pub beginning : Moment → ℕ → ℕ → Owner → Call → Entry
-beginning m t worker owner call = Begin (record { n = m.known.last_call + 1; task = t; worker = worker; owner = owner; call = call })
+beginning m t worker owner call =
+    Begin (record { n = m.known.last_call + 1; task = t; worker = worker; owner = owner; call = call })
 
 -- where no call is left the item is done, and else its update begins and then the call
 abbrev pub instance_item : Moment → ℕ → ℕ → Inst → Option Call → Entry
 instance_item m t worker i None =
-    if is_to_go (m.known.task t) i then Gone (record { task = t; inst = i }) else UpdDone (record { task = t; inst = i })
+    if is_to_go (m.known.task t) i
+    then Gone (record { task = t; inst = i })
+    else UpdDone (record { task = t; inst = i })
 instance_item m t worker i (Some call) =
-    if has_to_begin (m.known.task t) (Instance i) then UpdBegin (record { task = t; inst = i }) else beginning m t worker (Instance i) call
+    if has_to_begin (m.known.task t) (Instance i)
+    then UpdBegin (record { task = t; inst = i })
+    else beginning m t worker (Instance i) call
 
 -- a compile machine that another call compiles for is passed over
 abbrev pub item : Moment → ℕ → ℕ → Owner → Option Call → Option Entry
@@ -65,8 +71,8 @@ abbrev pub by_items : Moment → ℕ → ℕ → List Owner → Claimed
 by_items m t worker [] = Over
 by_items m t worker (owner ∷ owners) = first_item m t worker (owner ∷ owners)
 
--- An ended task is over; one with a failed call is over once it has no open call; and else the items of the present phase are
--- tried in order.
+-- An ended task is over; one with a failed call is over once it has no open call; and else the items of the present
+-- phase are tried in order.
 abbrev pub claimed : Moment → ℕ → ℕ → Claimed
 claimed m t worker =
     if is_some (m.known.task t).end then Over

@@ -41,12 +41,13 @@ abbrev pub keeps_contents : Moment → End → Option Begin → Bool
 keeps_contents m e (Some b) = by_owner b.owner
   where
     by_owner : Owner → Bool
-    by_owner (Instance i) = moves_contents m.effects b.call (active_of m.known i) (active_of (learn m.known (entries.End e)) i)
+    by_owner (Instance i) =
+        moves_contents m.effects b.call (active_of m.known i) (active_of (learn m.known (entries.End e)) i)
     by_owner owner = true
 keeps_contents m e None = true
 
--- a migration goes from the active disk to a new one of the instance, and a disk is created beside the active one where that
--- is not right
+-- a migration goes from the active disk to a new one of the instance, and a disk is created beside the active one
+-- where that is not right
 abbrev pub is_new_disk : Known → Inst → ℕ → Bool
 is_new_disk k i d = list_any (λ it. it.disk == d && is_new it) (k.row i).disks
 

@@ -1,4 +1,5 @@
--- What a task that is reported done left: exactly its goal, as far as the task could find out (this project's profile).
+-- What a task that is reported done left: exactly its goal, as far as the task could find out (this project's
+-- profile).
 use Rattle.std.specs.Prelude.{◌≡◌, ℕ, Bool, true, false, nat_eq, nat_lt, not, ◌&&◌, ◌||◌, ◌==◌, Option, Some, None, is_some, List, [], ◌∷◌, filter}
 use Rattle.std.specs.Cmp.Lexicographic.{pointwise}
 use Rattle.std.specs.List.{list_any, list_all}
@@ -40,7 +41,9 @@ belongs dep goal None = true
 
 -- each machine of the deployment that is there is of a row that is to have one
 abbrev pub has_no_other_machine : List Entry → List ℕ → Option Goal → Bool
-has_no_other_machine effects dep goal = list_all (λ v. not (is_vm_there effects v) || belongs dep goal (vm_creation effects v)) (numbers_to (vms_created effects))
+has_no_other_machine effects dep goal =
+    list_all (λ v. not (is_vm_there effects v) || belongs dep goal (vm_creation effects v))
+    (numbers_to (vms_created effects))
 
 -- .. the only one of it
 abbrev pub is_alone : List Entry → GoalRow → Bool
@@ -54,26 +57,31 @@ is_alone effects want = at_most_one (vms_of effects (Instance want.inst))
 -- ---- one row
 
 abbrev pub was_made_for : GoalRow → Option Effect → Bool
-was_made_for want (Some e) = same_owner e.owner (Instance want.inst) && (option_eq same_make (make_of e.call) (Some want.make) && nat_lt want.fresh_after e.n)
+was_made_for want (Some e) =
+    same_owner e.owner (Instance want.inst)
+    && (option_eq same_make (make_of e.call) (Some want.make) && nat_lt want.fresh_after e.n)
 was_made_for want None = false
 
 -- a disk that is there, attached to the machine and mounted
 abbrev pub is_at : List Entry → ℕ → ℕ → Bool
-is_at effects v d = is_disk_there effects d && (option_eq nat_eq (holder_of effects d) (Some v) && is_disk_mounted effects d)
+is_at effects v d =
+    is_disk_there effects d && (option_eq nat_eq (holder_of effects d) (Some v) && is_disk_mounted effects d)
 
 -- the one active disk of the row, of that want
 abbrev pub actives : Row → List DiskRow
 actives row = filter is_active row.disks
 
 abbrev pub has_wanted_disk : List Entry → ℕ → DiskWant → List DiskRow → Bool
-has_wanted_disk effects v wanted (d ∷ []) = is_right wanted d && (is_at effects v d.disk && pointwise nat_eq (attached_to effects v) (d.disk ∷ []))
+has_wanted_disk effects v wanted (d ∷ []) =
+    is_right wanted d && (is_at effects v d.disk && pointwise nat_eq (attached_to effects v) (d.disk ∷ []))
 has_wanted_disk effects v wanted disks = false
 
 abbrev pub has_its_disk : List Entry → ℕ → Option DiskWant → Row → Bool
 has_its_disk effects v (Some wanted) row = has_wanted_disk effects v wanted (actives row)
 has_its_disk effects v None row = pointwise nat_eq (attached_to effects v) []
 
--- its machine: made as it is wanted and late enough, not silent, with the spec that is wanted and running where it is to run
+-- its machine: made as it is wanted and late enough, not silent, with the spec that is wanted and running where it is
+-- to run
 abbrev pub is_machine_of : List Entry → GoalRow → Row → List ℕ → Bool
 is_machine_of effects want row (v ∷ []) =
     was_made_for want (vm_creation effects v)
@@ -84,7 +92,8 @@ is_machine_of effects want row vms = false
 
 -- detached it has no machine, and its active disk is there and attached to none
 abbrev pub is_put_away : List Entry → Row → List ℕ → Bool
-is_put_away effects row [] = list_all (λ d. is_disk_there effects d.disk && not (is_some (holder_of effects d.disk))) (actives row)
+is_put_away effects row [] =
+    list_all (λ d. is_disk_there effects d.disk && not (is_some (holder_of effects d.disk))) (actives row)
 is_put_away effects row vms = false
 
 -- spoiled it still has its one active disk, where it wants one
@@ -120,7 +129,8 @@ is_exact_row m t want =
     by_state : Bool → Bool → Bool
     by_state true spoiled = is_put_away m.effects (m.known.row want.inst) (vms_of m.effects (Instance want.inst))
     by_state false true = is_spoiled_well m t want (m.known.row want.inst)
-    by_state false false = is_machine_of m.effects want (m.known.row want.inst) (vms_of m.effects (Instance want.inst))
+    by_state false false =
+        is_machine_of m.effects want (m.known.row want.inst) (vms_of m.effects (Instance want.inst))
 
 -- ---- disks
 
@@ -160,7 +170,8 @@ is_exact_instance m t i = holds (is_exact_row m t) (want_in (m.known.task t).goa
 abbrev pub is_exact_clean_up : Moment → ℕ → Bool
 is_exact_clean_up m t = list_all (λ d. not (is_disk_there m.effects d)) (m.known.task t).disks
 
--- a deploy and a deletion left their goal whole, a task of one instance that instance, and a clean-up none of its disks
+-- a deploy and a deletion left their goal whole, a task of one instance that instance, and a clean-up none of its
+-- disks
 abbrev pub is_exact : Moment → ℕ → Bool
 is_exact m t = by_kind (m.known.task t).kind
   where

@@ -93,7 +93,8 @@ canaries_for t i = canaries t i.group (canaries_of t (plan_in t.goal i))
 
 -- the instance is a canary, or every canary is done
 abbrev pub canaries_first : Task → Inst → Bool
-canaries_first t i = is_among same_inst i (canaries_for t i) || list_all (λ it. is_finished (t.upd it)) (canaries_for t i)
+canaries_first t i =
+    is_among same_inst i (canaries_for t i) || list_all (λ it. is_finished (t.upd it)) (canaries_for t i)
 
 -- how many updates of a group began and are not done
 abbrev pub in_flight : Task → List ℕ → ℕ

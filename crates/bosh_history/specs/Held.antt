@@ -1,4 +1,5 @@
--- Which addresses are held, and what the goal of a deployment depends on beside its manifest (this project's profile).
+-- Which addresses are held, and what the goal of a deployment depends on beside its manifest (this project's
+-- profile).
 use Rattle.std.specs.Prelude.{ℕ, ◌+◌, Bool, not, ◌&&◌, Option, Some, None, is_some, List, [], ◌∷◌, ◌++◌, map, filter}
 use Rattle.std.specs.List.{list_any, flat_map}
 use Rattle.std.specs.Str.{bytes_eq}
@@ -69,11 +70,13 @@ held_elsewhere k dep = filter (λ it. not (bytes_eq (dep_of k it.owner) dep)) (h
 -- ---- what a goal depends on
 
 abbrev pub same_bytes_joint : Joint → Joint → Bool
-same_bytes_joint a b = bytes_eq a.dep b.dep && (bytes_eq a.group b.group && (bytes_eq a.job b.job && bytes_eq a.link b.link))
+same_bytes_joint a b =
+    bytes_eq a.dep b.dep && (bytes_eq a.group b.group && (bytes_eq a.job b.job && bytes_eq a.link b.link))
 
 -- the link is offered, of that type
 abbrev pub is_offered : Joint → List ℕ → List Offer → Bool
-is_offered joint kind offers = list_any (λ offer. same_bytes_joint offer.joint joint && bytes_eq offer.kind kind) offers
+is_offered joint kind offers =
+    list_any (λ offer. same_bytes_joint offer.joint joint && bytes_eq offer.kind kind) offers
 
 abbrev pub offers_in : Option Goal → List Offer
 offers_in (Some goal) = goal.offers
@@ -81,7 +84,10 @@ offers_in None = []
 
 -- what others may take of a deployment: what its last done deploy offers, as far as its current goal still does
 abbrev pub known_offers : Known → List ℕ → DepOffers
-known_offers k dep = record { dep = dep; offers = filter (λ offer. is_offered offer.joint offer.kind (offers_in (k.goal dep))) (k.shared dep) }
+known_offers k dep = record {
+  dep = dep;
+  offers = filter (λ offer. is_offered offer.joint offer.kind (offers_in (k.goal dep))) (k.shared dep);
+}
 
 abbrev pub view : Known → List ℕ → View
 view k dep = record {

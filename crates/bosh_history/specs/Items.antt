@@ -1,6 +1,6 @@
--- What is left to do of a task, in the order of its phases: machines are asked, leftover compile machines are swept, keys are
--- compiled, obsolete instances are deleted, and then the groups are updated, stage by stage
--- (this project's profile; bosh.io, "Deploying", for the order of compilation and updates).
+-- What is left to do of a task, in the order of its phases: machines are asked, leftover compile machines are swept,
+-- keys are compiled, obsolete instances are deleted, and then the groups are updated, stage by stage (this project's
+-- profile; bosh.io, "Deploying", for the order of compilation and updates).
 use Rattle.std.specs.Prelude.{ℕ, ◌+◌, Bool, true, false, eqb, nat_lt, not, ◌&&◌, ◌||◌, ◌==◌, if◌then◌else◌, Option, Some, None, is_some, List, [], ◌++◌, map, filter, length}
 use Rattle.std.specs.List.{list_all}
 use Rattle.std.specs.Option.{option_eq}
@@ -50,19 +50,21 @@ slots_of None = []
 
 -- A slot of the task is left while its machine is recorded, and while there is a key that it may take.
 abbrev pub is_slot_left : Known → ℕ → ℕ → Bool
-is_slot_left k t s = nat_lt s (length (slots_of (k.task t).goal)) && (is_some (k.slot t s) || is_some (next_key k t s))
+is_slot_left k t s =
+    nat_lt s (length (slots_of (k.task t).goal)) && (is_some (k.slot t s) || is_some (next_key k t s))
 
 -- a compile machine of an earlier task of the deployment
 abbrev pub is_leftover : Known → ℕ → SlotName → Bool
-is_leftover k t name = not (name.task == t) && holds (λ it. option_eq bytes_eq (Some it.dep) (k.task t).dep) (k.slot name.task name.slot)
+is_leftover k t name =
+    not (name.task == t) && holds (λ it. option_eq bytes_eq (Some it.dep) (k.task t).dep) (k.slot name.task name.slot)
 
 abbrev pub slot_phase : Known → ℕ → SlotName → Option ℕ
 slot_phase k t name =
     if name.task == t then (if is_slot_left k t name.slot then Some 2 else None)
     else (if is_leftover k t name then Some 1 else None)
 
--- the phase in which something is left to do for an owner: 0 for pings and for the disks of a clean-up, 1 for the sweep, 2 for
--- keys, 3 for obsolete instances, and from 4 on the stages of groups
+-- the phase in which something is left to do for an owner: 0 for pings and for the disks of a clean-up, 1 for the
+-- sweep, 2 for keys, 3 for obsolete instances, and from 4 on the stages of groups
 abbrev pub phase_of : Known → ℕ → Owner → Option ℕ
 phase_of k t (Instance i) = instance_phase (k.task t) i
 phase_of k t (Compile task slot) = slot_phase k t (record { task = task; slot = slot })

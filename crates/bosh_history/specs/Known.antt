@@ -1,4 +1,5 @@
--- What a director knows: each fact is a function of its subject, and beside it stands the list of those that are recorded.
+-- What a director knows: each fact is a function of its subject, and beside it stands the list of those that are
+-- recorded.
 use Rattle.std.specs.Prelude.{ℕ, Bool, false, eqb, Option, Some, None, List, [], find}
 use Rattle.std.specs.Option.{option_and_then}
 use Rattle.std.specs.Str.{bytes_eq}

@@ -20,10 +20,13 @@ learn k (entries.TaskOpen o) = opened o k
 learn k (entries.Begin b) = call_begun b k
 learn k (entries.End e) = call_ended e.answer (k.begun e.n) k
 learn k (entries.UpdBegin u) = with_task u.task (update_at Busy u.inst) k
-learn k (entries.UpdDone u) = with_task u.task (update_at Finished u.inst) (update_done (want_in (k.task u.task).goal u.inst) u.inst k)
-learn k (entries.Gone u) = with_task u.task (λ t. record t { gone = at same_inst u.inst true t.gone }) (instance_gone u.inst k)
+learn k (entries.UpdDone u) =
+    with_task u.task (update_at Finished u.inst) (update_done (want_in (k.task u.task).goal u.inst) u.inst k)
+learn k (entries.Gone u) =
+    with_task u.task (λ t. record t { gone = at same_inst u.inst true t.gone }) (instance_gone u.inst k)
 learn k (entries.TaskDone t) = task_done t k
-learn k (entries.TaskError e) = with_task e.task (λ t. record t { end = Some (end_by e.cause (k.begun (number_of e.cause))) }) k
+learn k (entries.TaskError e) =
+    with_task e.task (λ t. record t { end = Some (end_by e.cause (k.begun (number_of e.cause))) }) k
 learn k (entries.Snapshot s) = known_by s
 learn k entry = k
 

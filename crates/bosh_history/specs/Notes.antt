@@ -1,5 +1,5 @@
--- Which entry may be noted at a moment (this project's profile; bosh.io, "Deployment manifest", "update", for the canaries
--- and the limit). Each field is an equation that computes on a closed moment.
+-- Which entry may be noted at a moment (this project's profile; bosh.io, "Deployment manifest", "update", for the
+-- canaries and the limit). Each field is an equation that computes on a closed moment.
 use Rattle.std.specs.Prelude.{◌≡◌, ℕ, ◌+◌, ◌≤◌, Bool, true, false, ◌&&◌, ◌||◌, ◌==◌, Option, Some, None, is_some, List}
 use Rattle.std.specs.List.{list_any, list_all}
 use Rattle.std.specs.Option.{option_eq}
@@ -39,8 +39,8 @@ use Rattle.bosh_roll.specs.declared.upd.Upd.{Upd}
 use Rattle.bosh_roll.specs.declared.upd.Upd.TheVariants.{Todo}
 use Rattle.bosh_rows.specs.Same.{same_inst}
 
--- What is settled outside of histories: what a compilation gives, whether a file is a cloud config, whether a release goes with
--- those that are recorded, and whether a task may open with its goal.
+-- What is settled outside of histories: what a compilation gives, whether a file is a cloud config, whether a release
+-- goes with those that are recorded, and whether a task may open with its goal.
 pub record Outside : Type 0 where
   pub built : KeyWork → List Digest → Digest
   pub is_config : List ℕ → Bool

@@ -42,7 +42,8 @@ withdraws_nothing k goal = list_all keeps k.deployments
 abbrev pub is_recorded : Known → List ℕ → Bool
 is_recorded k dep = is_among bytes_eq dep k.deployments
 
--- a deploy may be of a new deployment, any other task is of a recorded one, and one of an instance is of one that is wanted
+-- a deploy may be of a new deployment, any other task is of a recorded one, and one of an instance is of one that is
+-- wanted
 abbrev pub names_what_is_there : Known → TaskKind → Goal → Bool
 names_what_is_there k kind goal = deploys kind || (is_recorded k goal.dep && by_name (named kind))
   where

@@ -37,7 +37,8 @@ abbrev pub runs_with : List Entry → ℕ → ℕ → Bool
 runs_with effects d v = is_running effects v && (not (is_silent effects v) && is_mounted_on effects v d)
 
 abbrev pub can_write : Moment → Inst → Bool
-can_write m i = holds (λ d. list_any (runs_with m.effects d.disk) (vms_of m.effects (Instance i))) (active (m.known.row i).disks)
+can_write m i =
+    holds (λ d. list_any (runs_with m.effects d.disk) (vms_of m.effects (Instance i))) (active (m.known.row i).disks)
 
 abbrev pub is_instances : Option Effect → Bool
 is_instances (Some e) = is_one e.owner
@@ -77,7 +78,8 @@ may_take outside m n = holds takes (m.calls n)
 -- the calls that were open and had their effect, in order of number
 abbrev pub MayTake : Outside → Moment → ℕ → List ℕ → Type 0
 MayTake outside m last [] = Unit {0}
-MayTake outside m last (n ∷ took) = ((nat_lt last n && may_take outside m n) ≡ true) × MayTake outside (taking m n) n took
+MayTake outside m last (n ∷ took) =
+    ((nat_lt last n && may_take outside m n) ≡ true) × MayTake outside (taking m n) n took
 
 pub record Stops (outside : Outside) (m : Moment) (s : stop.Stop) : Type 0 where
   pub is_halted : m.halted ≡ true

@@ -19,7 +19,8 @@ abbrev pub is_within_limit : Task → Inst → Bool
 is_within_limit t i = nat_le (in_flight t i.group) (limit_of t (plan_in t.goal i))
 
 abbrev pub are_within_limits : Known → Bool
-are_within_limits k = list_all (λ t. not (is_open k t) || list_all (is_within_limit (k.task t)) (k.task t).changed) (numbers_to k.tasks)
+are_within_limits k =
+    list_all (λ t. not (is_open k t) || list_all (is_within_limit (k.task t)) (k.task t).changed) (numbers_to k.tasks)
 
 abbrev pub is_untouched : Upd → Bool
 is_untouched Todo = true

@@ -46,8 +46,8 @@ is_taken k t s key = list_any takes k.machines
     takes : SlotName → Bool
     takes name = name.task == t && (not (name.slot == s) && works_for (k.slot t name.slot))
 
--- the first key of the goal that a slot of the task may take: all that it needs is compiled, it is not, and no other slot of
--- the task works for it
+-- the first key of the goal that a slot of the task may take: all that it needs is compiled, it is not, and no other
+-- slot of the task works for it
 abbrev pub next_key : Known → ℕ → ℕ → Option KeyWork
 next_key k t s = find is_free (keys_of (k.task t).goal)
   where

@@ -24,7 +24,14 @@ use Rattle.bosh_rows.specs.Same.{same_inst}
 -- ---- as an entry tells it
 
 abbrev pub task_row : Known → ℕ → TaskRow
-task_row k t = record { task = t; kind = (k.task t).kind; dep = (k.task t).dep; end = (k.task t).end; source = (k.task t).source; calls = (k.task t).calls }
+task_row k t = record {
+  task = t;
+  kind = (k.task t).kind;
+  dep = (k.task t).dep;
+  end = (k.task t).end;
+  source = (k.task t).source;
+  calls = (k.task t).calls;
+}
 
 abbrev pub dep_row : Known → List ℕ → Option DepRow
 dep_row k dep = option_map (λ goal. record { dep = dep; goal = goal; shared = k.shared dep }) (k.goal dep)
@@ -76,7 +83,14 @@ abbrev pub compile_slot : Snapshot → ℕ → ℕ → Option Slot
 compile_slot s t number = option_map slot (find (λ it. it.task == t && it.slot == number) s.compile_rows)
 
 abbrev pub task : Snapshot → TaskRow → Task
-task s it = record no_task { kind = it.kind; dep = it.dep; source = it.source; calls = it.calls; end = it.end; goal = option_and_then (current_goal s) it.dep }
+task s it = record no_task {
+  kind = it.kind;
+  dep = it.dep;
+  source = it.source;
+  calls = it.calls;
+  end = it.end;
+  goal = option_and_then (current_goal s) it.dep;
+}
 
 abbrev pub task_of : Snapshot → ℕ → Task
 task_of s t = found (find (λ it. it.task == t) s.tasks)

@@ -1,5 +1,5 @@
--- Which goals a task may open with, as facts on the goal and the records alone (this project's profile). The goal of a
--- manifest, and a current goal with one row changed, are such.
+-- Which goals a task may open with, as facts on the goal and the records alone (this project's profile). The goal of
+-- a manifest, and a current goal with one row changed, are such.
 use Rattle.std.specs.Prelude.{◌≡◌, ℕ, Bool, true, false, eqb, nat_le, not, ◌&&◌, ◌||◌, ◌==◌, Option, Some, None, List, [], ◌∷◌, ◌++◌, map, filter, length}
 use Rattle.std.specs.List.{list_any, list_all, flat_map}
 use Rattle.std.specs.Str.{bytes_eq}
@@ -37,7 +37,8 @@ has_plan goal want = is_one (filter (λ plan. bytes_eq plan.name want.inst.group
 abbrev pub is_row_of : Known → Goal → GoalRow → Bool
 is_row_of k goal want = bytes_eq want.inst.dep goal.dep && (has_plan goal want && nat_le want.fresh_after k.last_call)
 
--- no instance stands twice, each is of the deployment and of a group, and none is wanted of a later call than the last
+-- no instance stands twice, each is of the deployment and of a group, and none is wanted of a later call than the
+-- last
 abbrev pub has_instances : Known → Goal → Bool
 has_instances k goal = are_distinct same_inst (map inst_of goal.rows) && list_all (is_row_of k goal) goal.rows
 
@@ -66,14 +67,15 @@ another_keeps k goal i a = list_any keeps k.instances
     keeps j = not (same_inst i j) && (is_in (Some goal) j && has_addr a (k.row j).make)
 
 abbrev pub are_rows_free : Known → Goal → Bool
-are_rows_free k goal = list_all (λ want. list_all (λ a. not (another_keeps k goal want.inst a)) (addrs want.make)) goal.rows
+are_rows_free k goal =
+    list_all (λ want. list_all (λ a. not (another_keeps k goal want.inst a)) (addrs want.make)) goal.rows
 
 -- a recorded row or a compile machine has the address
 abbrev pub is_used : Known → ℕ → Bool
 is_used k a = list_any (λ i. has_addr a (k.row i).make) k.instances || is_held (held_by_machines k) a
 
--- Its rows and slots have different addresses; nobody else holds one; no row has that of another row that stays; and no slot
--- has that of a machine that is recorded.
+-- Its rows and slots have different addresses; nobody else holds one; no row has that of another row that stays; and
+-- no slot has that of a machine that is recorded.
 abbrev pub has_addresses : Known → Goal → Bool
 has_addresses k goal =
     are_distinct eqb (row_addrs goal ++ slot_addrs goal)
@@ -101,7 +103,8 @@ has_keys k goal = are_keys_in_order k [] goal.keys && (nat_le (length goal.keys)
 abbrev pub is_tie_kept : Known → Goal → Tie → Bool
 is_tie_kept k goal tie =
     bytes_eq tie.provider.dep goal.dep
-    || (is_offered tie.provider tie.kind (k.shared tie.provider.dep) && is_offered tie.provider tie.kind (offers_in (k.goal tie.provider.dep)))
+    || (is_offered tie.provider tie.kind (k.shared tie.provider.dep)
+    && is_offered tie.provider tie.kind (offers_in (k.goal tie.provider.dep)))
 
 -- ---- one instance
 
@@ -114,8 +117,8 @@ are_rows_alike [] [] = true
 are_rows_alike (a ∷ more) (b ∷ others) = is_alike a b && are_rows_alike more others
 are_rows_alike rows others = false
 
--- The goal of a task of one instance has the rows of the current one; unless the named one is to be detached, no address of it
--- is that of a recorded row which is not in the goal, since such a task deletes none.
+-- The goal of a task of one instance has the rows of the current one; unless the named one is to be detached, no
+-- address of it is that of a recorded row which is not in the goal, since such a task deletes none.
 abbrev pub has_no_address : Known → Goal → GoalRow → Bool
 has_no_address k goal want = list_all (λ i. is_in (Some goal) i || not (takes i)) k.instances
   where
@@ -126,11 +129,14 @@ abbrev pub is_renewed : Known → Goal → Inst → Option Goal → Bool
 is_renewed k goal i (Some current) =
     is_in (Some current) i
     && (are_rows_alike goal.rows current.rows
-    && list_all (λ want. not (same_inst want.inst i) || (is_detached want.state || has_no_address k goal want)) goal.rows)
+    && list_all (λ want. not (same_inst want.inst i) || (is_detached want.state || has_no_address k goal want))
+    goal.rows)
 is_renewed k goal i None = false
 
 abbrev pub is_empty_goal : Goal → Bool
-is_empty_goal goal = nat_le (length goal.rows) 0 && (nat_le (length goal.keys) 0 && (nat_le (length goal.slots) 0 && nat_le (length goal.offers) 0))
+is_empty_goal goal =
+    nat_le (length goal.rows) 0
+    && (nat_le (length goal.keys) 0 && (nat_le (length goal.slots) 0 && nat_le (length goal.offers) 0))
 
 abbrev pub is_of_kind : Known → TaskKind → Goal → Bool
 is_of_kind k DeleteDeployment goal = is_empty_goal goal
@@ -145,7 +151,8 @@ is_of_kind k kind goal = by_name (named kind)
 abbrev pub is_sound_goal : Known → TaskKind → Goal → Bool
 is_sound_goal k kind goal =
     has_instances k goal
-    && (has_addresses k goal && (has_keys k goal && (list_all (is_tie_kept k goal) goal.ties && is_of_kind k kind goal)))
+    && (has_addresses k goal
+    && (has_keys k goal && (list_all (is_tie_kept k goal) goal.ties && is_of_kind k kind goal)))
 
 abbrev pub is_sound : Known → TaskOpen → Bool
 is_sound k o = by_goal o.goal

@@ -37,7 +37,8 @@ is_idle m owner = list_all (λ n. not (holds (is_owners owner) (m.calls n))) (nu
 
 -- no open call is the task's
 abbrev pub has_no_call : Moment → ℕ → Bool
-has_no_call m t = list_all (λ n. not (holds (λ call. call.begin.task == t) (m.calls n))) (numbers_to m.known.last_call)
+has_no_call m t =
+    list_all (λ n. not (holds (λ call. call.begin.task == t) (m.calls n))) (numbers_to m.known.last_call)
 
 abbrev pub compiles : Key → Call → Bool
 compiles key (calls.CompilePackage vm work deps) = same_key work.key key
@@ -45,7 +46,8 @@ compiles key call = false
 
 -- an open call compiles the key
 abbrev pub is_compiling : Moment → Key → Bool
-is_compiling m key = list_any (λ n. holds (λ call. compiles key call.begin.call) (m.calls n)) (numbers_to m.known.last_call)
+is_compiling m key =
+    list_any (λ n. holds (λ call. compiles key call.begin.call) (m.calls n)) (numbers_to m.known.last_call)
 
 -- ---- instances
 
@@ -99,7 +101,11 @@ nth n items = first (drop n items)
 
 -- an idle slot makes a machine for the first key that it may take
 abbrev pub creation : Known → ℕ → ℕ → Option Call
-creation k t s = option_and_then (λ work. option_map (λ make. calls.CreateVm (compile_make work.key make) []) (nth s (slots_of (k.task t).goal))) (next_key k t s)
+creation k t s =
+    option_and_then
+    (λ work.
+    option_map (λ make. calls.CreateVm (compile_make work.key make) []) (nth s (slots_of (k.task t).goal)))
+    (next_key k t s)
 
 abbrev pub own_slot : Moment → ℕ → ℕ → Option Slot → Option Call
 own_slot m t s (Some slot) = slot_by m t slot slot.vm slot.doubt
@@ -116,5 +122,6 @@ disk_call d it = if is_some it.doubt then calls.HasDisk d else calls.DeleteDisk 
 -- the call that is to be made now for an owner of which something is left to do in the task
 abbrev pub call_now : Moment → ℕ → Owner → Option Call
 call_now m t (Instance i) = instance_call m.known (m.known.task t) i
-call_now m t (Compile task slot) = if task == t then own_slot m t slot (m.known.slot task slot) else sweep_call (m.known.slot task slot)
+call_now m t (Compile task slot) =
+    if task == t then own_slot m t slot (m.known.slot task slot) else sweep_call (m.known.slot task slot)
 call_now m t (Disk d) = option_map (disk_call d) (m.known.orphan d)

@@ -27,8 +27,8 @@ has_machine k i = is_some (k.row i).vm && not (k.row i).lost
 abbrev pub is_of_dep : Option (List ℕ) → Inst → Bool
 is_of_dep dep i = holds (bytes_eq i.dep) dep
 
--- A deploy that looks whether each machine answers asks those of all rows of its deployment, and the task that resolves one
--- instance asks that of its row.
+-- A deploy that looks whether each machine answers asks those of all rows of its deployment, and the task that
+-- resolves one instance asks that of its row.
 abbrev pub to_ping : Known → TaskOpen → List Inst
 to_ping k o = filter (λ i. asks o.kind i && has_machine k i) k.instances
   where
@@ -96,4 +96,6 @@ settles DeleteDeployment goal dep k = record k {
 settles kind goal dep k = k
 
 abbrev pub task_done : ℕ → Known → Known
-task_done t k = with_task t (λ it. record it { end = Some ends.Finished }) (settles (k.task t).kind (k.task t).goal (dep_of_task k t) k)
+task_done t k =
+    with_task t (λ it. record it { end = Some ends.Finished })
+    (settles (k.task t).kind (k.task t).goal (dep_of_task k t) k)

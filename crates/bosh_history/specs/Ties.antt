@@ -46,7 +46,8 @@ was_made_as effects owner it (Some vm) = was_made owner vm.agent (Some it.make) 
 was_made_as effects owner it None = true
 
 abbrev pub has_machine : List Entry → Owner → Option Slot → Bool
-has_machine effects owner (Some it) = pointwise nat_eq (vms_of effects owner) (number_of it.vm) && was_made_as effects owner it it.vm
+has_machine effects owner (Some it) =
+    pointwise nat_eq (vms_of effects owner) (number_of it.vm) && was_made_as effects owner it it.vm
 has_machine effects owner None = pointwise nat_eq (vms_of effects owner) []
 
 -- its machine is the only one there of its slot, made as recorded
@@ -59,12 +60,14 @@ is_tied_slot effects name None = false
 -- ---- orphaned disks
 
 abbrev pub is_wanted_as : Orphan → Option Effect → Bool
-is_wanted_as it (Some e) = same_owner e.owner (Instance it.inst) && option_eq same_want (want_of e.call) (Some it.want)
+is_wanted_as it (Some e) =
+    same_owner e.owner (Instance it.inst) && option_eq same_want (want_of e.call) (Some it.want)
 is_wanted_as it None = false
 
 -- it was made as recorded, and is there, but for a deletion in doubt
 abbrev pub is_tied_orphan : List Entry → ℕ → Option Orphan → Bool
-is_tied_orphan effects d (Some it) = is_wanted_as it (disk_creation effects d) && (is_disk_there effects d || is_some it.doubt)
+is_tied_orphan effects d (Some it) =
+    is_wanted_as it (disk_creation effects d) && (is_disk_there effects d || is_some it.doubt)
 is_tied_orphan effects d None = false
 
 -- ---- whom machines and disks belong to
@@ -74,7 +77,9 @@ is_number v vm = holds (λ it. it.vm == v) vm
 
 abbrev pub belongs_to : Moment → ℕ → Owner → Bool
 belongs_to m v (Instance i) = is_number v (m.known.row i).vm || is_number v (as_done m.effects (m.known.row i)).vm
-belongs_to m v (Compile t s) = holds (λ it. is_number v it.vm || holds (λ that. is_number v that.vm) (slot_as_done m.effects it)) (m.known.slot t s)
+belongs_to m v (Compile t s) =
+    holds (λ it. is_number v it.vm || holds (λ that. is_number v that.vm) (slot_as_done m.effects it))
+    (m.known.slot t s)
 belongs_to m v (Disk d) = false
 
 abbrev pub is_owned : Moment → ℕ → Option Effect → Bool
@@ -95,7 +100,9 @@ one_if false = 0
 
 abbrev pub times : Moment → ℕ → ℕ → Owner → ℕ
 times m d tag (Instance i) =
-    count_by (λ it. it.disk == d) (m.known.row i).disks + one_if (is_making tag (m.known.row i).doubt) + one_if (is_some (m.known.orphan d))
+    count_by (λ it. it.disk == d) (m.known.row i).disks
+    + one_if (is_making tag (m.known.row i).doubt)
+    + one_if (is_some (m.known.orphan d))
 times m d tag owner = 0
 
 abbrev pub is_counted_once : Moment → ℕ → Option Effect → Bool
@@ -116,7 +123,8 @@ has_room_for_disks row = nat_le (count_by (λ d. d.attached) row.disks + one_if 
 -- ---- all
 
 abbrev pub are_rows_tied : Moment → Bool
-are_rows_tied m = list_all (λ i. is_tied_row m.effects (m.known.row i) && has_room_for_disks (m.known.row i)) m.known.instances
+are_rows_tied m =
+    list_all (λ i. is_tied_row m.effects (m.known.row i) && has_room_for_disks (m.known.row i)) m.known.instances
 
 abbrev pub are_slots_tied : Moment → Bool
 are_slots_tied m = list_all (λ name. is_tied_slot m.effects name (m.known.slot name.task name.slot)) m.known.machines
@@ -126,15 +134,20 @@ are_orphans_tied m = list_all (λ d. is_tied_orphan m.effects d (m.known.orphan 
 
 -- each machine that is there is of one that is recorded
 abbrev pub are_machines_owned : Moment → Bool
-are_machines_owned m = list_all (λ v. not (is_vm_there m.effects v) || is_owned m v (vm_creation m.effects v)) (numbers_to (vms_created m.effects))
+are_machines_owned m =
+    list_all (λ v. not (is_vm_there m.effects v) || is_owned m v (vm_creation m.effects v))
+    (numbers_to (vms_created m.effects))
 
 -- each disk that is there is recorded once
 abbrev pub are_disks_counted : Moment → Bool
-are_disks_counted m = list_all (λ d. not (is_disk_there m.effects d) || is_counted_once m d (disk_creation m.effects d)) (numbers_to (disks_created m.effects))
+are_disks_counted m =
+    list_all (λ d. not (is_disk_there m.effects d) || is_counted_once m d (disk_creation m.effects d))
+    (numbers_to (disks_created m.effects))
 
 -- what is recorded is what the cloud has, and the cloud has nothing that is not recorded
 abbrev pub is_tied : Moment → Bool
-is_tied m = are_rows_tied m && (are_slots_tied m && (are_orphans_tied m && (are_machines_owned m && are_disks_counted m)))
+is_tied m =
+    are_rows_tied m && (are_slots_tied m && (are_orphans_tied m && (are_machines_owned m && are_disks_counted m)))
 
 abbrev pub IsTiedFrom : Moment → List Move → Type 0
 IsTiedFrom m [] = is_tied m ≡ true

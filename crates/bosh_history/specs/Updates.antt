@@ -28,7 +28,9 @@ abbrev pub update_at : Upd → Inst → Task → Task
 update_at upd i t = record t { upd = at same_inst i upd t.upd }
 
 abbrev pub update_done : Option GoalRow → Inst → Known → Known
-update_done (Some want) i k = record (disks_orphaned i (left_behind want (k.row i)) k) { row = at same_inst i (updated want (k.row i)) k.row }
+update_done (Some want) i k = record (disks_orphaned i (left_behind want (k.row i)) k) {
+  row = at same_inst i (updated want (k.row i)) k.row;
+}
 update_done None i k = k
 
 abbrev pub instance_gone : Inst → Known → Known

@@ -1,5 +1,5 @@
 -- What a call of an instance changes in what is recorded of it (this project's profile).
-use Rattle.std.specs.Prelude.{ℕ, Bool, true, false, not, ◌&&◌, ◌==◌, if◌then◌else◌, Option, Some, None, List, [], ◌∷◌, ◌++◌, map, filter}
+use Rattle.std.specs.Prelude.{ℕ, Bool, true, false, not, ◌==◌, if◌then◌else◌, Option, Some, None, List, [], ◌∷◌, ◌++◌, map, filter}
 use Rattle.std.specs.List.{list_any}
 use Rattle.bosh_base.specs.Call.{method_of}
 use Rattle.bosh_base.specs.Method.{is_changing}
@@ -16,17 +16,27 @@ use Rattle.bosh_base.specs.declared.row.Doubt as doubt
 use Rattle.bosh_base.specs.declared.row.Role.{Role}
 use Rattle.bosh_base.specs.declared.row.Role.TheVariants.{Active, New, Old}
 use Rattle.bosh_base.specs.declared.row.Row.{Row}
-use Rattle.bosh_base.specs.declared.row.Vm.{Vm}
+use Rattle.bosh_base.specs.declared.spec.Spec.{Spec}
 use Rattle.bosh_rows.specs.Disks.{is_active, stays}
 
 -- nothing is recorded of the instance
 abbrev pub bare : Inst → Row
-bare i = record { inst = i; make = None; vm = None; spec = None; running = false; drained = false; disks = []; doubt = None; lost = false }
+bare i = record {
+  inst = i;
+  make = None;
+  vm = None;
+  spec = None;
+  running = false;
+  drained = false;
+  disks = [];
+  doubt = None;
+  lost = false;
+}
 
 -- ---- a call begins
 
--- Until it is answered, nobody knows whether a changing call had its effect. The contents of a new disk are not relied on
--- before a migration to it was answered, so that one leaves no doubt.
+-- Until it is answered, nobody knows whether a changing call had its effect. The contents of a new disk are not
+-- relied on before a migration to it was answered, so that one leaves no doubt.
 abbrev pub leaves_doubt : Call → Bool
 leaves_doubt (MigrateDisk vm from to) = false
 leaves_doubt call = is_changing (method_of call)
@@ -47,6 +57,15 @@ begun n call row = record row {
 abbrev pub let_go : DiskRow → DiskRow
 let_go d = record d { attached = false; mounted = false }
 
+abbrev pub attach : DiskRow → DiskRow
+attach d = record d { attached = true }
+
+abbrev pub mount : DiskRow → DiskRow
+mount d = record d { mounted = true }
+
+abbrev pub unmount : DiskRow → DiskRow
+unmount d = record d { mounted = false }
+
 -- one disk of several changes
 abbrev pub changing : ℕ → (DiskRow → DiskRow) → List DiskRow → List DiskRow
 changing d change disks = map (λ it. if it.disk == d then change it else it) disks
@@ -57,9 +76,25 @@ attached_by numbers d = record d { attached = list_any (λ n. n == d.disk) numbe
 abbrev pub mounted_by : List ℕ → DiskRow → DiskRow
 mounted_by numbers d = record d { mounted = list_any (λ n. n == d.disk) numbers }
 
+-- the row with these disks, and no call in doubt
+abbrev pub with_disks : List DiskRow → Row → Row
+with_disks disks row = record row { disks = disks; doubt = None }
+
+-- the row with what its machine tells of itself
+abbrev pub with_facts : Option Spec → Bool → Bool → Row → Row
+with_facts spec running drained row = record row { spec = spec; running = running; drained = drained; doubt = None }
+
 -- the machine is absent, and with it what it had
 abbrev pub without_machine : Row → Row
-without_machine row = record row { vm = None; spec = None; running = false; drained = false; disks = map let_go row.disks; doubt = None; lost = false }
+without_machine row = record row {
+  vm = None;
+  spec = None;
+  running = false;
+  drained = false;
+  disks = map let_go row.disks;
+  doubt = None;
+  lost = false;
+}
 
 -- the machine that was made by a call, or that there is none
 abbrev pub with_machine : ℕ → Option ℕ → Row → Row
@@ -73,7 +108,10 @@ new_role disks = if list_any is_active disks then New else Active
 -- the disk that was made by a call, or that there is none
 abbrev pub with_disk : ℕ → DiskWant → Option ℕ → Row → Row
 with_disk tag wanted (Some d) row = record row {
-  disks = row.disks ++ record { disk = d; tag = tag; want = wanted; role = new_role row.disks; attached = false; mounted = false } ∷ [];
+  disks =
+      row.disks
+      ++ record { disk = d; tag = tag; want = wanted; role = new_role row.disks; attached = false; mounted = false }
+      ∷ [];
   doubt = None;
 }
 with_disk tag wanted None row = record row { doubt = None }
@@ -89,7 +127,8 @@ with_found tag found None row = row
 
 -- the contents were moved
 abbrev pub migrated : ℕ → ℕ → List DiskRow → List DiskRow
-migrated from to disks = changing to (λ d. record d { role = Active }) (changing from (λ d. record d { role = Old }) disks)
+migrated from to disks =
+    changing to (λ d. record d { role = Active }) (changing from (λ d. record d { role = Old }) disks)
 
 -- an answer that tells what there is; one that is not of the call's kind tells nothing
 abbrev pub told : ℕ → Call → Answer → Row → Row
@@ -100,22 +139,22 @@ told n (HasVm vm) answers.No row = without_machine row
 told n (HasVm vm) answers.Yes row = record row { doubt = None }
 told n (CreateDisk wanted vm) (answers.Cid d) row = with_disk n wanted (Some d) row
 told n (FindDisk tag) (answers.Found found) row = with_found tag found row.doubt row
-told n (AttachDisk vm d) answers.Done row = record row { disks = changing d (λ it. record it { attached = true }) row.disks; doubt = None }
-told n (DetachDisk vm d) answers.Done row = record row { disks = changing d let_go row.disks; doubt = None }
-told n (GetDisks vm) (answers.Disks numbers) row = record row { disks = map (attached_by numbers) row.disks; doubt = None }
-told n (MountDisk vm d) answers.Done row = record row { disks = changing d (λ it. record it { mounted = true }) row.disks; doubt = None }
-told n (UnmountDisk vm d) answers.Done row = record row { disks = changing d (λ it. record it { mounted = false }) row.disks; doubt = None }
-told n (ListDisk vm) (answers.Disks numbers) row = record row { disks = map (mounted_by numbers) row.disks; doubt = None }
+told n (AttachDisk vm d) answers.Done row = with_disks (changing d attach row.disks) row
+told n (DetachDisk vm d) answers.Done row = with_disks (changing d let_go row.disks) row
+told n (GetDisks vm) (answers.Disks numbers) row = with_disks (map (attached_by numbers) row.disks) row
+told n (MountDisk vm d) answers.Done row = with_disks (changing d mount row.disks) row
+told n (UnmountDisk vm d) answers.Done row = with_disks (changing d unmount row.disks) row
+told n (ListDisk vm) (answers.Disks numbers) row = with_disks (map (mounted_by numbers) row.disks) row
 told n (MigrateDisk vm from to) answers.Done row = record row { disks = migrated from to row.disks }
 told n (Apply vm spec) answers.Done row = record row { spec = Some spec; doubt = None }
 told n (Start vm) answers.Done row = record row { running = true; drained = false; doubt = None }
 told n (Drain vm) answers.Done row = record row { drained = true; doubt = None }
 told n (Stop vm) answers.Done row = record row { running = false; doubt = None }
-told n (GetState vm) (answers.Facts spec running drained) row = record row { spec = spec; running = running; drained = drained; doubt = None }
+told n (GetState vm) (answers.Facts spec running drained) row = with_facts spec running drained row
 told n call answer row = row
 
--- What a call names is not there. A ping then finds the machine lost; the deletion of a lost machine is as good as done; any
--- other call had no effect.
+-- What a call names is not there. A ping then finds the machine lost; the deletion of a lost machine is as good as
+-- done; any other call had no effect.
 abbrev pub gone : Call → Row → Row
 gone (Ping vm) row = record row { lost = true }
 gone (DeleteVm vm) row = if row.lost then without_machine row else record row { doubt = None }

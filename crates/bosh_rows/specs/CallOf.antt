@@ -1,5 +1,5 @@
 -- The call that a step is (bosh.io, "CPI API v1" and "Agent API").
-use Rattle.std.specs.Prelude.{ℕ, Option, Some, None, List}
+use Rattle.std.specs.Prelude.{ℕ, Option, None}
 use Rattle.std.specs.Option.{option_and_then, option_map}
 use Rattle.bosh_base.specs.declared.call.Call.{Call}
 use Rattle.bosh_base.specs.declared.call.Call.TheVariants as calls
@@ -7,9 +7,7 @@ use Rattle.bosh_base.specs.declared.disk_want.DiskWant.{DiskWant}
 use Rattle.bosh_base.specs.declared.goal.GoalRow.{GoalRow}
 use Rattle.bosh_base.specs.declared.method.Method.{Method}
 use Rattle.bosh_base.specs.declared.method.Method.TheVariants.{CreateVm, DeleteVm, HasVm, FindVm, CreateDisk, FindDisk, AttachDisk, DetachDisk, GetDisks, GetState, Ping, Apply, Start, Drain, Stop, MountDisk, UnmountDisk, ListDisk, MigrateDisk}
-use Rattle.bosh_base.specs.declared.row.Doubt as doubt
 use Rattle.bosh_base.specs.declared.row.Row.{Row}
-use Rattle.bosh_base.specs.declared.row.Vm as vm
 use Rattle.bosh_rows.specs.Disks.{active, active_disks}
 use Rattle.bosh_rows.specs.NextStep.{next_step}
 use Rattle.bosh_rows.specs.declared.step.Step.{Step}
@@ -29,7 +27,8 @@ on_doubt row call = option_map (λ it. call it.n) row.doubt
 abbrev pub disk_wanted : Option GoalRow → Option DiskWant
 disk_wanted want = option_and_then (λ w. w.disk) want
 
--- the call of a step of an instance, with the machine and the disks of its row; none where the row lacks what it names
+-- the call of a step of an instance, with the machine and the disks of its row; none where the row lacks what it
+-- names
 abbrev pub call_of : Step → Option GoalRow → Row → Option Call
 call_of step want row = by_method step.method
   where
@@ -52,7 +51,8 @@ call_of step want row = by_method step.method
     by_method MountDisk = on_both row step.disk calls.MountDisk
     by_method UnmountDisk = on_both row step.disk calls.UnmountDisk
     by_method ListDisk = on_machine row calls.ListDisk
-    by_method MigrateDisk = option_and_then (λ old. on_both row step.disk (λ v to. calls.MigrateDisk v old.disk to)) (active row.disks)
+    by_method MigrateDisk =
+        option_and_then (λ old. on_both row step.disk (λ v to. calls.MigrateDisk v old.disk to)) (active row.disks)
     by_method method = None
 
 -- the call of the next step

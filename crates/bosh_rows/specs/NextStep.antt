@@ -1,7 +1,7 @@
 -- What is to be done next for an instance: the first rule that applies
 -- (this project's profile; bosh.io, "Deploying" and "Job lifecycle": a machine is drained, stopped, and its disks are
 -- unmounted and detached before it is deleted; a job is stopped before its spec or its disk changes).
-use Rattle.std.specs.Prelude.{ℕ, Bool, not, nat_le, ◌&&◌, ◌||◌, if◌then◌else◌, Option, Some, None, is_some, List, [], ◌∷◌}
+use Rattle.std.specs.Prelude.{Bool, not, nat_le, ◌&&◌, ◌||◌, if◌then◌else◌, Option, Some, None, List, [], ◌∷◌}
 use Rattle.std.specs.List.{list_any}
 use Rattle.std.specs.Option.{option_eq, option_map}
 use Rattle.bosh_base.specs.Call.{method_of}
@@ -67,7 +67,8 @@ probe_step doubt = plain (probe_method (method_of doubt.call))
 -- nobody wants the machine: the instance is to be detached, or is wanted of another make or of a later call
 abbrev pub has_to_go : GoalRow → Row → Vm → Bool
 has_to_go want row vm =
-    is_detached want.state || (not (option_eq same_make row.make (Some want.make)) || nat_le vm.agent want.fresh_after)
+    is_detached want.state
+    || (not (option_eq same_make row.make (Some want.make)) || nat_le vm.agent want.fresh_after)
 
 -- 2. A machine that nobody wants is drained, stopped, loses its disks, and is deleted.
 abbrev pub removal : Row → Option Step

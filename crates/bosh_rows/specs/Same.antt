@@ -1,6 +1,5 @@
 -- Tests of the parts that rows and goals are compared by: each is the `==` of its type.
-use Rattle.std.specs.Prelude.{Bool, false, true, ◌&&◌, ◌==◌, Option, Some, None, List}
-use Rattle.std.specs.Option.{option_eq}
+use Rattle.std.specs.Prelude.{Bool, false, ◌&&◌, ◌==◌, Option, Some, None}
 use Rattle.std.specs.Str.{bytes_eq}
 use Rattle.bosh_base.specs.contracts.disk_want.DiskWantPartialEq.TheImpl as disk_want
 use Rattle.bosh_base.specs.contracts.make.MakePartialEq.TheImpl as make

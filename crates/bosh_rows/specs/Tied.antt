@@ -3,7 +3,7 @@ use Rattle.std.specs.Prelude.{◌≡◌, ℕ, Bool, true, false, not, nat_eq, �
 use Rattle.std.specs.List.{list_any, list_all}
 use Rattle.std.specs.Cmp.Lexicographic.{pointwise}
 use Rattle.std.specs.Option.{option_eq}
-use Rattle.bosh_base.specs.Cloud.{numbers_to, vms_created, vm_creation, is_vm_there, is_silent, spec_of, is_running, is_drained, disk_creation, is_disk_there, is_holder, is_disk_mounted, attached_to, make_of, want_of}
+use Rattle.bosh_base.specs.Cloud.{numbers_to, vms_created, vm_creation, is_vm_there, spec_of, is_running, is_drained, disk_creation, is_disk_there, is_holder, is_disk_mounted, attached_to, make_of, want_of}
 use Rattle.bosh_base.specs.CallStep.{found_vm, found_disk}
 use Rattle.bosh_base.specs.declared.answer.Answer.TheVariants as answers
 use Rattle.bosh_base.specs.declared.call.Call.{Call}
@@ -31,16 +31,20 @@ is_made_for owner None = false
 
 -- the machines there that were created for an owner, by number
 abbrev pub vms_of : List Entry → Owner → List ℕ
-vms_of effects owner = filter (λ v. is_vm_there effects v && is_made_for owner (vm_creation effects v)) (numbers_to (vms_created effects))
+vms_of effects owner =
+    filter (λ v. is_vm_there effects v && is_made_for owner (vm_creation effects v))
+    (numbers_to (vms_created effects))
 
 -- a machine was created for the owner, by this call and as it was asked
 abbrev pub was_made : Owner → ℕ → Option Make → Option effect.Effect → Bool
-was_made owner agent make (Some e) = same_owner e.owner owner && (e.n == agent && option_eq same_make (make_of e.call) make)
+was_made owner agent make (Some e) =
+    same_owner e.owner owner && (e.n == agent && option_eq same_make (make_of e.call) make)
 was_made owner agent make None = false
 
 -- a disk was created for the owner, by this call and as it was asked
 abbrev pub was_provided : Owner → ℕ → DiskWant → Option effect.Effect → Bool
-was_provided owner tag wanted (Some e) = same_owner e.owner owner && (e.n == tag && option_eq same_want (want_of e.call) (Some wanted))
+was_provided owner tag wanted (Some e) =
+    same_owner e.owner owner && (e.n == tag && option_eq same_want (want_of e.call) (Some wanted))
 was_provided owner tag wanted None = false
 
 -- a machine was lost, whole or its agent
@@ -57,8 +61,8 @@ is_named_lost effects v = list_any names effects
 abbrev pub without_doubt : Row → Row
 without_doubt row = record row { doubt = None }
 
--- The row as the call in doubt leaves it where it had its effect: a machine or disk that it made is the one that is found by
--- its number.
+-- The row as the call in doubt leaves it where it had its effect: a machine or disk that it made is the one that is
+-- found by its number.
 abbrev pub as_done : List Entry → Row → Row
 as_done effects row = by_doubt row.doubt
   where
@@ -106,8 +110,8 @@ is_tied_to_lost effects row =
     list_all (λ v. list_any (λ it. it == v) (number_of row.vm)) (vms_of effects (Instance row.inst))
     && list_all (is_disk_kept effects row) row.disks
 
--- the row's facts are those of the cloud: its machine is the only one there of its instance, and it has the recorded disks
--- alone
+-- the row's facts are those of the cloud: its machine is the only one there of its instance, and it has the recorded
+-- disks alone
 abbrev pub is_tied_to : List Entry → Row → Bool
 is_tied_to effects row =
     pointwise nat_eq (vms_of effects (Instance row.inst)) (number_of row.vm)
