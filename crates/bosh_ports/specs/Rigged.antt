@@ -73,9 +73,10 @@ FailedBelow (Some FailKept) bodies faults was body now = KeptBelow bodies faults
 FailedBelow (Some StopAfter) bodies faults was body now = KeptBelow bodies faults was body now
 FailedBelow None bodies faults was body now = Rose (faults was) (faults now)
 
--- the same, of the answer of an append
+-- the same, of the answer of an append; one that found the keeper broken left the keeper below as it was
 abbrev pub FailedAppend : {K T : Type 0} → (K → Option (List (List ℕ))) → (K → ℕ) → Result T KeepFault → RigState K → List ℕ → RigState K → Type 0
 FailedAppend bodies faults (Err Failed) was body now = FailedBelow (due was.armed) bodies faults was.inner body now.inner
+FailedAppend bodies faults (Err Broken) was body now = now.inner ≡ was.inner
 FailedAppend bodies faults answer was body now = Unit {0}
 
 -- a reload that is done ends what had sprung

@@ -5,10 +5,13 @@
 mod bodies;
 mod contents;
 mod copy;
+mod errors;
 mod failing;
+mod fault_count;
 mod folder;
 mod folder_shelf;
 mod gate;
+mod inside;
 mod keeper;
 mod listing;
 mod mem_keeper;
@@ -17,13 +20,15 @@ mod mem_sink;
 mod mem_source;
 mod paths;
 mod piece;
+mod reading;
+mod retry;
 mod rig;
 mod rigged;
 mod shelf;
 mod sink;
 mod source;
-mod stdin_source;
-mod stdout_sink;
+mod walk;
+mod writing;
 
 pub use bodies::Bodies;
 pub use copy::CopyFault;
@@ -35,13 +40,10 @@ pub use mem_shelf::MemShelf;
 pub use mem_sink::MemSink;
 pub use mem_source::MemSource;
 pub use paths::Paths;
+pub use reading::Reading;
 pub use rig::{Armed, Rig};
 pub use rigged::Rigged;
 pub use shelf::{MOST_BYTES, MOST_PATHS, Shelf, ShelfFault, has_line_feed, is_below};
 pub use sink::{Put, Sink};
 pub use source::{Source, Taken};
-pub use stdin_source::StdinSource;
-pub use stdout_sink::StdoutSink;
-
-#[cfg(test)]
-mod tests;
+pub use writing::Writing;

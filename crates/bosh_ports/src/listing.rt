@@ -6,7 +6,7 @@ ghost use Rattle.bosh_ports.specs.Contents.{contents};
 ghost use Rattle.bosh_ports.specs.Shelf.{AnswersPaths, is_below, key_order};
 ghost use Rattle.bosh_ports.specs.declared.shelf.ShelfFault.TheVariants.{Failed};
 
-use crate::shelf::{MOST_PATHS, is_below};
+use crate::shelf::is_below;
 use crate::{Paths, ShelfFault};
 use std::alloc::Global;
 use std::collections::BTreeMap;
@@ -24,10 +24,7 @@ pub(crate) fn paths_below<V>(
     let mut paths = Paths::new(alloc);
     for path in files.keys() {
         if is_below(folder, path) {
-            if paths.len() >= MOST_PATHS {
-                return Err(ShelfFault::TooLarge);
-            }
-            paths.add(path.to_vec(alloc)?)?;
+            paths.add(alloc, path)?;
         }
     }
     if paths.is_empty() {

@@ -2,7 +2,7 @@
 ghost use Rattle.std.specs.Prelude.{◌≡◌, ◌≤◌, ◌+◌, ◌↔◌, [], None, Some, IfErr, IfOk, OnOk, IsErrOf, IsTrue, IsFalse, length, if◌then◌else◌};
 ghost use Rattle.bosh_ports.specs.Faults.{NeverFalls, count_with};
 ghost use Rattle.bosh_ports.specs.Shelf.{AnswersFile, AnswersPaths, FailsByCount, IsListing, file_at, Places, has_line_feed, paths_below, placed};
-ghost use Rattle.bosh_ports.specs.MemShelf.{IsFailing, ShelfState};
+ghost use Rattle.bosh_ports.specs.MemShelf.{IsFailing, ShelfState, faults_after};
 ghost use Rattle.bosh_ports.specs.declared.shelf.ShelfFault.TheVariants.{Memory};
 
 use crate::listing::paths_below;
@@ -82,6 +82,7 @@ impl Shelf for MemShelf {
         ensures fails { IsErrOf result ShelfFault.Failed ↔ IsFailing self.old }
         ensures calls { self.new.calls ≡ count_with self.old.calls 1 }
         ensures failing { self.new.failing ≡ self.old.failing }
+        ensures faults { self.new.faults ≡ faults_after self.old.faults result }
         ensures answer { AnswersFile result (file_at self.old.files path.now) }
         ensures size { IfOk result (λ bytes. length bytes.items ≤ MOST_BYTES) }
         ensures files { Some self.new.files ≡ Some self.old.files }
@@ -102,6 +103,7 @@ impl Shelf for MemShelf {
         ensures fails { IsErrOf result ShelfFault.Failed ↔ IsFailing self.old }
         ensures calls { self.new.calls ≡ count_with self.old.calls 1 }
         ensures failing { self.new.failing ≡ self.old.failing }
+        ensures faults { self.new.faults ≡ faults_after self.old.faults result }
         ensures answer { AnswersPaths result (paths_below folder.now self.old.files) }
         ensures listing { IfOk result (λ paths. IsListing folder.now paths) }
         ensures files { Some self.new.files ≡ Some self.old.files }

@@ -1,11 +1,12 @@
 // A list of paths.
-ghost use Rattle.std.specs.Prelude.{◌≡◌, ◌≤◌, ◌==◌, ◌++◌, [], ◌∷◌, length, slice_get, Some, MatchOption, OnOk, IfOk, IfErr};
+ghost use Rattle.std.specs.Prelude.{◌≡◌, ◌≤◌, ◌⊎◌, ◌==◌, ◌++◌, [], ◌∷◌, length, slice_get, Some, MatchOption, OnOk, IfOk, IfErr};
 ghost use Rattle.std.specs.Slice.Iter.{iter_rest};
 ghost use Rattle.bosh_ports.specs.Contents.{contents};
 
-use crate::CopyFault;
 use crate::contents::copy_of;
-use std::alloc::{AllocError, Global};
+use crate::shelf::MOST_PATHS;
+use crate::{CopyFault, ShelfFault};
+use std::alloc::Global;
 use std::marker::Model;
 use std::slice::Iter;
 
@@ -63,11 +64,16 @@ impl Paths {
         }
     }
 
-    /// Puts a path at the end.
-    pub(crate) fn add(&mut self, path: Vec<u8>) -> Result<(), AllocError>
-        ensures { OnOk result (self.new ≡ self.old ++ path.items ∷ []) }
+    /// Puts a copy of a path at the end of a list that a shelf gives, of `MOST_PATHS` at most.
+    pub(crate) fn add(&mut self, alloc: Global, path: &[u8]) -> Result<(), ShelfFault>
+        ensures ok { OnOk result ((self.new ≡ self.old ++ path.now ∷ []) × (length self.new ≤ MOST_PATHS)) }
+        ensures too_large { result ≡ Err ShelfFault.TooLarge → MOST_PATHS ≤ length self.old }
+        ensures fault { IfErr result (λ fault. (fault ≡ ShelfFault.TooLarge) ⊎ (fault ≡ ShelfFault.Memory)) }
     {
-        self.items.push(path)?;
+        if self.items.len() >= MOST_PATHS {
+            return Err(ShelfFault::TooLarge);
+        }
+        self.items.push(path.to_vec(alloc)?)?;
         Ok(())
     }
 

@@ -1,9 +1,8 @@
-use Rattle.std.specs.BTreeMap.{keys}
-use Rattle.bosh_ports.specs.Shelf.{AllOneLine}
-use Rattle.bosh_ports.proofs.folder.read_folder.Given as goal
+use Rattle.bosh_ports.specs.Walk.{GoesOn}
+use Rattle.bosh_ports.proofs.folder.meet_entries.Given as goal
 
 abbrev pub invariant-loop-entry : goal.invariant-loop-entry
 invariant-loop-entry g l =
     (goal.iterator-loop-entry g).can_next l.entry-iterator
     × (goal.iterator-loop-entry g).is_finite l.entry-iterator
-    × AllOneLine (keys l.found)
+    × GoesOn l.initial.walk l.walk
