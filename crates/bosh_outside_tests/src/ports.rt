@@ -116,7 +116,11 @@ impl Write for Line {
 #[test]
 fn an_interruption_is_no_fault(rt: HostRuntime) -> Result<(), Fail> {
     let alloc = rt.alloc();
-    let answers = [ErrorKind::Interrupted, ErrorKind::Interrupted, ErrorKind::Other];
+    let answers = [
+        ErrorKind::Interrupted,
+        ErrorKind::Interrupted,
+        ErrorKind::Other,
+    ];
     let mut source = Reading::new(Line {
         answers: answers.to_vec(alloc)?,
         calls: 0,
@@ -229,7 +233,10 @@ fn what_a_link_leads_to_is_absent(rt: HostRuntime) -> Result<(), Fail> {
     let paths = shelf.list(alloc, b"linked")?;
     assert_eq!(rt; paths.len(), 1);
     assert_eq!(rt; paths.as_slice()[0].as_slice(), b"linked/d/a".as_slice());
-    assert_eq!(rt; shelf.read(alloc, b"linked/d/a")?.as_slice(), b"1".as_slice());
+    assert_eq!(rt;
+        shelf.read(alloc, b"linked/d/a")?.as_slice(),
+        b"1".as_slice()
+    );
     assert_eq!(rt; shelf.faults(), 0);
     fs::remove_file(&rt, "entry")?;
     fs::remove_dir_all(&rt, "linked")?;

@@ -5,7 +5,8 @@ use Rattle.bosh_ports.specs.Faults.{count_with}
 use Rattle.bosh_ports.specs.declared.shelf.ShelfFault.{ShelfFault}
 use Rattle.bosh_ports.specs.declared.shelf.ShelfFault.TheVariants.{Failed}
 
--- the files in the byte order of their paths, the calls so far, the number of the call that fails, and the faults so far
+-- the files in the byte order of their paths, the calls so far, the number of the call that fails, and the faults so
+-- far
 pub record ShelfState : Type 0 where
   pub files : List (List ℕ × List ℕ)
   pub calls : ℕ

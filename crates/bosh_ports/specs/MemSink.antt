@@ -6,8 +6,8 @@ use Rattle.bosh_ports.specs.Sink.{written_after}
 use Rattle.bosh_ports.specs.declared.sink.Put.{Put}
 use Rattle.bosh_ports.specs.declared.sink.Put.TheVariants.{Took, Failed}
 
--- the bytes written, how many a call takes at most, the calls up to the failing one, the faults so far, how many of them
--- were for want of memory, and how many bytes it has the memory for
+-- the bytes written, how many a call takes at most, the calls up to the failing one, the faults so far, how many of
+-- them were for want of memory, and how many bytes it has the memory for
 pub record SinkState : Type 0 where
   pub written : List ℕ
   pub piece : ℕ
@@ -20,8 +20,8 @@ pub record SinkState : Type 0 where
 abbrev pub share : SinkState → List ℕ → ℕ
 share sink bytes = min sink.piece (length bytes)
 
--- Every call but the failing one takes as many bytes as the sink's piece allows. Another call fails only where the memory
--- that the sink has does not hold them: a sink with room enough never fails of itself.
+-- Every call but the failing one takes as many bytes as the sink's piece allows. Another call fails only where the
+-- memory that the sink has does not hold them: a sink with room enough never fails of itself.
 abbrev pub AnswersInTurn : SinkState → List ℕ → Put → Type 0
 AnswersInTurn sink bytes (Took n) = (IsNext sink.failing → ⊥) × (n ≡ share sink bytes)
 AnswersInTurn sink bytes Failed = IsNext sink.failing ⊎ (sink.room < length sink.written + share sink bytes)

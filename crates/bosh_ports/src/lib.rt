@@ -2,9 +2,8 @@
 //! and a gate. Each has a stand-in in memory, and those that a program starts on have a thin adapter.
 #![tactic(auto)]
 
-mod bodies;
+mod byte_strings;
 mod contents;
-mod copy;
 mod errors;
 mod failing;
 mod fault_count;
@@ -18,7 +17,6 @@ mod mem_keeper;
 mod mem_shelf;
 mod mem_sink;
 mod mem_source;
-mod paths;
 mod piece;
 mod reading;
 mod retry;
@@ -30,8 +28,7 @@ mod source;
 mod walk;
 mod writing;
 
-pub use bodies::Bodies;
-pub use copy::CopyFault;
+pub use byte_strings::{Bodies, ByteStrings, Paths};
 pub use folder_shelf::FolderShelf;
 pub use gate::{Gate, OpenGate};
 pub use keeper::{KeepFault, Keeper};
@@ -39,7 +36,6 @@ pub use mem_keeper::MemKeeper;
 pub use mem_shelf::MemShelf;
 pub use mem_sink::MemSink;
 pub use mem_source::MemSource;
-pub use paths::Paths;
 pub use reading::Reading;
 pub use rig::{Armed, Rig};
 pub use rigged::Rigged;

@@ -28,7 +28,14 @@ impl Model for MemSink {
 
     ghost Value = { SinkState };
 
-    ghost view = { λ s. record { written = s.written.items; piece = s.piece; failing = s.failing; faults = s.faults; starved = s.starved; room = vec_capacity s.written } };
+    ghost view = { λ s. record {
+      written = s.written.items;
+      piece = s.piece;
+      failing = s.failing;
+      faults = s.faults;
+      starved = s.starved;
+      room = vec_capacity s.written;
+    } };
 
     ghost invariant = { λ s. 1 ≤ s.piece };
 }

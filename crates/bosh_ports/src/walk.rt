@@ -25,7 +25,7 @@ pub(crate) struct Walk {
 
 impl Model for Walk {
     ghost use Rattle.std.specs.Prelude.{◌≤◌, vec_len};
-    ghost use Rattle.std.specs.BTreeMap.{keys};
+    ghost use Rattle.std.specs.BTreeMap.{btree_map_len, keys};
     ghost use Rattle.bosh_ports.specs.Shelf.{AllOneLine};
     ghost use Rattle.bosh_ports.specs.Walk.{WalkState};
 
@@ -33,7 +33,7 @@ impl Model for Walk {
 
     ghost view = { λ s. record { pending = vec_len s.folders; met = s.met } };
 
-    ghost invariant = { λ s. (s.met ≤ 4096) × AllOneLine (keys s.files) };
+    ghost invariant = { λ s. (s.met ≤ 4096) × (btree_map_len s.files ≤ 4096) × AllOneLine (keys s.files) };
 }
 
 impl Walk {
@@ -56,7 +56,8 @@ impl Walk {
         self.folders.pop()
     }
 
-    /// Takes note of what stands at a path: a file, a folder, or what is neither. A path with a line feed is passed over.
+    /// Takes note of what stands at a path: a file, a folder, or what is neither. A path with a line feed is passed
+    /// over.
     pub(crate) fn meet(&mut self, path: &str, kind: FileType) -> Result<(), ShelfFault>
         requires { self.old.met ≤ 4096 }
         ensures { GoesOn self.old self.new }

@@ -1,22 +1,27 @@
-// A list of paths.
-ghost use Rattle.std.specs.Prelude.{◌≡◌, ◌≤◌, ◌⊎◌, ◌==◌, ◌++◌, [], ◌∷◌, length, slice_get, Some, MatchOption, OnOk, IfOk, IfErr};
+// A list of byte strings.
+ghost use Rattle.std.specs.Prelude.{◌≡◌, ◌≤◌, ◌<◌, ◌==◌, ◌++◌, [], ◌∷◌, length, set, slice_get};
+ghost use Rattle.std.specs.Prelude.{Some, MatchOption, OnOk, IfOk, IfErr};
 ghost use Rattle.std.specs.Slice.Iter.{iter_rest};
 ghost use Rattle.bosh_ports.specs.Contents.{contents};
 
 use crate::contents::copy_of;
-use crate::shelf::MOST_PATHS;
-use crate::{CopyFault, ShelfFault};
-use std::alloc::Global;
+use std::alloc::{AllocError, Global};
 use std::marker::Model;
 use std::slice::Iter;
 
-/// A list of paths, each as its bytes.
+/// A list of byte strings, seen as the bytes of each.
 #[derive(Drop)]
-pub struct Paths {
+pub struct ByteStrings {
     items: Vec<Vec<u8>>,
 }
 
-impl Model for Paths {
+/// The bodies that a keeper keeps, in their order.
+pub type Bodies = ByteStrings;
+
+/// The paths that a shelf lists.
+pub type Paths = ByteStrings;
+
+impl Model for ByteStrings {
     ghost use Rattle.std.specs.Prelude.{List, ℕ};
     ghost use Rattle.bosh_ports.specs.Contents.{contents};
 
@@ -25,11 +30,11 @@ impl Model for Paths {
     ghost view = { λ list. contents list.items.items };
 }
 
-impl Paths {
-    pub fn new(alloc: Global) -> Paths
+impl ByteStrings {
+    pub fn new(alloc: Global) -> ByteStrings
         ensures { result ≡ [] }
     {
-        Paths {
+        ByteStrings {
             items: Vec::new(alloc),
         }
     }
@@ -46,14 +51,14 @@ impl Paths {
         self.items.is_empty()
     }
 
-    /// The path at a place, counted from 0, or none past the end.
+    /// The byte string at a place, counted from 0, or none past the end.
     pub fn get(&self, k: usize) -> Option<&Vec<u8>>
         ensures { MatchOption result (length self.now ≤ k) (λ item. slice_get self.now k ≡ Some item.now.items) }
     {
         self.items.get(k)
     }
 
-    /// Puts a path at the end, or gives it back for want of memory.
+    /// Puts a byte string at the end, or gives it back for want of memory.
     pub fn push(&mut self, item: Vec<u8>) -> Result<(), Vec<u8>>
         ensures ok { OnOk result (self.new ≡ self.old ++ item.items ∷ []) }
         ensures given_back { IfErr result (λ back. (back ≡ item) × (self.new ≡ self.old)) }
@@ -64,17 +69,12 @@ impl Paths {
         }
     }
 
-    /// Puts a copy of a path at the end of a list that a shelf gives, of `MOST_PATHS` at most.
-    pub(crate) fn add(&mut self, alloc: Global, path: &[u8]) -> Result<(), ShelfFault>
-        ensures ok { OnOk result ((self.new ≡ self.old ++ path.now ∷ []) × (length self.new ≤ MOST_PATHS)) }
-        ensures too_large { result ≡ Err ShelfFault.TooLarge → MOST_PATHS ≤ length self.old }
-        ensures fault { IfErr result (λ fault. (fault ≡ ShelfFault.TooLarge) ⊎ (fault ≡ ShelfFault.Memory)) }
+    /// Puts another byte string in the place of one.
+    pub(crate) fn put(&mut self, k: usize, item: Vec<u8>)
+        requires { k < length self.old }
+        ensures { self.new ≡ set self.old k item.items }
     {
-        if self.items.len() >= MOST_PATHS {
-            return Err(ShelfFault::TooLarge);
-        }
-        self.items.push(path.to_vec(alloc)?)?;
-        Ok(())
+        self.items[k] = item;
     }
 
     pub fn as_slice(&self) -> &[Vec<u8>]
@@ -89,10 +89,10 @@ impl Paths {
         self.items.iter()
     }
 
-    pub fn copy(&self, alloc: Global) -> Result<Paths, CopyFault>
+    pub fn copy(&self, alloc: Global) -> Result<ByteStrings, AllocError>
         ensures { IfOk result (λ copy. copy ≡ self.now) }
     {
-        Ok(Paths {
+        Ok(ByteStrings {
             items: copy_of(alloc, &self.items)?,
         })
     }
