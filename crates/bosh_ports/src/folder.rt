@@ -110,6 +110,7 @@ fn read_folder<R: Files + AllocGlobal + Clone + Drop>(
     }
 }
 
+// Dear to prove, since the open folder is alive wherever an entry may end the walk.
 fn meet_entries<R: Files + AllocGlobal + Clone + Drop>(
     entries: ReadDir<R>,
     walk: &mut Walk,

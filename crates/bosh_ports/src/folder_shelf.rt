@@ -22,7 +22,9 @@ pub struct FolderShelf<'a, R: Files + AllocGlobal + Clone + Drop> {
 }
 
 impl<'a, R: Files + AllocGlobal + Clone + Drop> FolderShelf<'a, R> {
-    pub fn new(rt: &'a R) -> FolderShelf<'a, R> {
+    pub fn new(rt: &'a R) -> FolderShelf<'a, R>
+        ensures { result.faults ≡ 0 }
+    {
         FolderShelf { rt, faults: 0 }
     }
 }

@@ -12,6 +12,7 @@ use std::alloc::Global;
 use std::collections::BTreeMap;
 
 /// The paths below a folder, of the keys of a map.
+// Dear to prove, since the list is alive wherever a path may be one too many.
 pub(crate) fn paths_below<V>(
     alloc: Global,
     files: &BTreeMap<Vec<u8>, V>,

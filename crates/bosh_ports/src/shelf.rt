@@ -19,8 +19,8 @@ pub const MOST_PATHS: usize = 4_096;
 pub enum ShelfFault {
     /// There is no such file, or no file below the folder.
     Absent,
-    /// The file has more than `MOST_BYTES` bytes, or the folder more than `MOST_PATHS` paths, or as many folders below
-    /// it where the shelf has folders.
+    /// The file has more than `MOST_BYTES` bytes, or more than `MOST_PATHS` paths lie below the folder. A shelf over the
+    /// system's folders says it also where more folders than that were to be read, the one asked for among them.
     TooLarge,
     /// The shelf failed, and the call may be made again.
     Failed,
