@@ -78,24 +78,23 @@ fn pieces_go_in_turn_and_one_call_fails(rt: HostRuntime) {
     assert_eq!(rt; (sink.faults(), sink.starved()), (1, 0));
 }
 
-fn breaks_its_append(
-    rt: &impl Abort,
-    keeper: &mut Rigged<MemKeeper>,
-    how: Rig,
-    kept: u64,
-) -> Result<(), KeepFault> {
-    keeper.rig(2, how)?;
-    keeper.append(b"one")?;
-    assert_eq!(rt; keeper.append(b"two"), Err(KeepFault::Failed));
-    assert_eq!(rt; keeper.append(b"three"), Err(KeepFault::Broken));
-    assert_eq!(rt; keeper.sprung(), Some(how));
-    keeper.reload()?;
-    assert_eq!(rt; keeper.len(), kept);
-    Ok(())
+fn breaks_its_append(keeper: &mut Rigged<MemKeeper>, how: Rig) -> bool {
+    keeper.rig(2, how).is_ok()
+        && keeper.append(b"one").is_ok()
+        && keeper.append(b"two") == Err(KeepFault::Failed)
+        && keeper.append(b"three") == Err(KeepFault::Broken)
+        && keeper.sprung() == Some(how)
+}
+
+fn keeps(keeper: &mut Rigged<MemKeeper>, kept: u64) -> bool {
+    match keeper.reload() {
+        Ok(()) => keeper.len() == kept,
+        Err(_) => false,
+    }
 }
 
 #[test]
-fn each_rig_breaks_its_append(rt: HostRuntime) -> Result<(), Fail> {
+fn each_rig_breaks_its_append(rt: HostRuntime) {
     let alloc = rt.alloc();
     for (how, kept) in [
         (Rig::FailLost, 1),
@@ -104,9 +103,8 @@ fn each_rig_breaks_its_append(rt: HostRuntime) -> Result<(), Fail> {
         (Rig::StopAfter, 2),
     ] {
         let mut keeper = Rigged::new(alloc, MemKeeper::new(alloc));
-        breaks_its_append(&rt, &mut keeper, how, kept)?;
+        assert!(rt; breaks_its_append(&mut keeper, how) && keeps(&mut keeper, kept));
     }
-    Ok(())
 }
 
 fn is_body(alloc: Global, keeper: &mut MemKeeper, body: &[u8]) -> bool {
@@ -154,16 +152,20 @@ fn add_three(shelf: &mut MemShelf) -> Result<(), ShelfFault> {
     shelf.add(b"da", b"3")
 }
 
+fn gives_its_files(alloc: Global, shelf: &mut MemShelf) -> bool {
+    shelf.fail(3);
+    holds(alloc, shelf, b"d/b", b"2")
+        && lists(alloc, shelf, b"d", b"d/a") == 2
+        && answers_file(alloc, shelf, b"d/b", ShelfFault::Failed)
+        && shelf.faults() == 1
+}
+
 #[test]
 fn a_shelf_gives_its_files(rt: HostRuntime) {
     let alloc = rt.alloc();
     let mut shelf = MemShelf::new(alloc);
-    assert_eq!(rt; add_three(&mut shelf), Ok(()));
-    shelf.fail(3);
-    assert!(rt; holds(alloc, &mut shelf, b"d/b", b"2"));
-    assert_eq!(rt; lists(alloc, &mut shelf, b"d", b"d/a"), 2);
-    assert!(rt; answers_file(alloc, &mut shelf, b"d/b", ShelfFault::Failed));
-    assert_eq!(rt; shelf.faults(), 1);
+    let added = add_three(&mut shelf).is_ok();
+    assert!(rt; added && gives_its_files(alloc, &mut shelf));
 }
 
 /// A reader or a writer that is interrupted twice, fails, and then moves a byte a call.
@@ -267,8 +269,9 @@ fn the_folder_is_reached(rt: HostRuntime) -> Result<(), Fail> {
     let alloc = rt.alloc();
     make_files(&rt)?;
     let mut shelf = FolderShelf::new(&rt);
-    assert!(rt; holds(alloc, &mut shelf, b"shelf/d/b", b"2"));
-    assert_eq!(rt; lists(alloc, &mut shelf, b"shelf", b"shelf/a"), 2);
+    let found = holds(alloc, &mut shelf, b"shelf/d/b", b"2")
+        && lists(alloc, &mut shelf, b"shelf", b"shelf/a") == 2;
+    assert!(rt; found);
     for outside in [
         b"shelf/../shelf/a".as_slice(),
         b"/etc/passwd",
@@ -279,6 +282,22 @@ fn the_folder_is_reached(rt: HostRuntime) -> Result<(), Fail> {
     }
     fs::remove_dir_all(&rt, "shelf")?;
     Ok(())
+}
+
+fn is_absent<S: Shelf>(alloc: Global, shelf: &mut S, path: &[u8]) -> bool {
+    answers_file(alloc, shelf, path, ShelfFault::Absent)
+        && answers_folder(alloc, shelf, path, ShelfFault::Absent)
+}
+
+fn has_one_file<S: Shelf>(alloc: Global, shelf: &mut S) -> bool {
+    lists(alloc, shelf, b"linked", b"linked/d/a") == 1
+        && holds(alloc, shelf, b"linked/d/a", b"1")
+        && shelf.faults() == 0
+}
+
+fn remove_links<R: Files + Alloc>(rt: &R) -> io::Result<()> {
+    fs::remove_file(rt, "entry")?;
+    fs::remove_dir_all(rt, "linked")
 }
 
 fn make_links<R: Files>(rt: &R) -> io::Result<()> {
@@ -301,14 +320,10 @@ fn what_a_link_leads_to_is_absent(rt: HostRuntime) -> Result<(), Fail> {
         b"entry/d/a",
         b"entry/d",
     ] {
-        assert!(rt; answers_file(alloc, &mut shelf, path, ShelfFault::Absent));
-        assert!(rt; answers_folder(alloc, &mut shelf, path, ShelfFault::Absent));
+        assert!(rt; is_absent(alloc, &mut shelf, path));
     }
-    assert_eq!(rt; lists(alloc, &mut shelf, b"linked", b"linked/d/a"), 1);
-    assert!(rt; holds(alloc, &mut shelf, b"linked/d/a", b"1"));
-    assert_eq!(rt; shelf.faults(), 0);
-    fs::remove_file(&rt, "entry")?;
-    fs::remove_dir_all(&rt, "linked")?;
+    assert!(rt; has_one_file(alloc, &mut shelf));
+    remove_links(&rt)?;
     Ok(())
 }
 
