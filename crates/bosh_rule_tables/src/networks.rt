@@ -57,10 +57,20 @@ fn use_of(plan: &NetPlan, net: &Name, zone: &Name, addr: Addr) -> &'static str {
     }
 }
 
+fn told(
+    alloc: Global,
+    plan: &NetPlan,
+    place: &(Name, Name),
+    addr: Addr,
+) -> Result<Outcome, CaseFault> {
+    let (net, zone) = place;
+    Ok(Outcome::word(alloc, use_of(plan, net, zone, addr))?)
+}
+
 /// To whom the plan of the setting gives an address of a network in a zone.
 pub(crate) fn address(alloc: Global, setting: &Node, given: &Node) -> Result<Outcome, CaseFault> {
     let addr: Addr = field(alloc, given, "addr")?;
     let place = two(alloc, given, ["net", "zone"]);
-    let ((net, zone), plan) = both(place, plan(alloc, setting))?;
-    Ok(Outcome::word(alloc, use_of(&plan, &net, &zone, addr))?)
+    let (place, plan) = both(place, plan(alloc, setting))?;
+    told(alloc, &plan, &place, addr)
 }

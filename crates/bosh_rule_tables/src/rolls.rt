@@ -48,9 +48,10 @@ fn state(letter: u8) -> Result<Upd, CaseFault> {
     }
 }
 
-fn states(alloc: Global, letters: &Text) -> Result<Seq<Upd>, CaseFault> {
+fn states(alloc: Global, given: &Node) -> Result<Seq<Upd>, CaseFault> {
+    let letters: Text = field(alloc, given, "states")?;
     let mut states = Vec::new(alloc);
-    for letter in letters {
+    for letter in &letters {
         states.push(state(*letter)?)?;
     }
     Ok(Seq::from(states))
@@ -59,8 +60,8 @@ fn states(alloc: Global, letters: &Text) -> Result<Seq<Upd>, CaseFault> {
 /// Whether the update of the instance at a place may begin.
 pub(crate) fn begins(alloc: Global, given: &Node) -> Result<Outcome, CaseFault> {
     let (canaries, limit): (u32, u32) = two(alloc, given, ["canaries", "limit"])?;
-    let (place, letters): (u32, Text) = two(alloc, given, ["place", "states"])?;
-    let states = states(alloc, &letters)?;
+    let place: u32 = field(alloc, given, "place")?;
+    let states = states(alloc, given)?;
     if place as usize >= states.len() {
         return Err(CaseFault::Form);
     }

@@ -1,5 +1,5 @@
 //! The order of compilation, and what is compiled.
-ghost use Rattle.std.specs.Prelude.{◌≡◌, ◌↔◌, All, IsTrue};
+ghost use Rattle.std.specs.Prelude.{◌≡◌, ◌↔◌, ◌<◌, All, IsTrue};
 ghost use Rattle.bosh_rule_tables.specs.Works.{rank_of, NeedsLower};
 
 use bosh_base::{Digest, Key, KeyWork, Seq};
@@ -14,12 +14,18 @@ fn rank(key: &Key) -> u8
     key.fingerprint.0[0]
 }
 
+fn is_below(key: &Key, limit: u8) -> bool
+    ensures { IsTrue result ↔ (rank_of key.now < limit) }
+{
+    rank(key) < limit
+}
+
 // Whether each need of a work has a lower rank.
 fn needs_lower(work: &KeyWork) -> bool
     ensures { IsTrue result ↔ NeedsLower work.now }
 {
     let own = rank(&work.key);
-    work.deps.iter().all(|key| rank(key) < own)
+    work.deps.iter().all(|key| is_below(key, own))
 }
 
 fn need_lower(works: &[KeyWork]) -> bool
@@ -56,10 +62,13 @@ pub(crate) fn is_ready(alloc: Global, given: &Node) -> Result<Outcome, CaseFault
     Outcome::flag(alloc, ready(&work, compiled.as_slice()))
 }
 
+fn digits(alloc: Global, digest: Digest) -> Result<Outcome, CaseFault> {
+    let digits = hex::encode(alloc, digest.0.as_slice())?;
+    Ok(Outcome::bytes(digits.into_bytes()))
+}
+
 /// The digest of what compiling a work gives, in hex.
 pub(crate) fn digest(alloc: Global, given: &Node) -> Result<Outcome, CaseFault> {
     let (work, deps): (KeyWork, Seq<Digest>) = two(alloc, given, ["work", "deps"])?;
-    let digest = built(&work, deps.as_slice());
-    let digits = hex::encode(alloc, digest.0.as_slice())?;
-    Ok(Outcome::bytes(digits.into_bytes()))
+    digits(alloc, built(&work, deps.as_slice()))
 }
