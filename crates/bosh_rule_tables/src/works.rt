@@ -20,12 +20,17 @@ fn is_below(key: &Key, limit: u8) -> bool
     rank(key) < limit
 }
 
+fn are_below(keys: &[Key], limit: u8) -> bool
+    ensures { IsTrue result ↔ All (λ key. rank_of key < limit) keys.now }
+{
+    keys.iter().all(|key| is_below(key, limit))
+}
+
 // Whether each need of a work has a lower rank.
 fn needs_lower(work: &KeyWork) -> bool
     ensures { IsTrue result ↔ NeedsLower work.now }
 {
-    let own = rank(&work.key);
-    work.deps.iter().all(|key| is_below(key, own))
+    are_below(work.deps.as_slice(), rank(&work.key))
 }
 
 fn need_lower(works: &[KeyWork]) -> bool
