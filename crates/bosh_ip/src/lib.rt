@@ -14,6 +14,3 @@ pub use fault::IpFault;
 pub use laws::{refused_spells_none, shown_reads_back, spelled_once};
 pub use network::{Cidr, contains, parse_cidr};
 pub use range::{Span, parse_range};
-
-#[cfg(test)]
-mod tests;
