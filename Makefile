@@ -1,7 +1,8 @@
 # run: the program on the first session.  build: proves and builds the program.  test: the gate.  trials: wrong bodies
-# that the gate does not try.  sessions: every session of sessions/ through the built program.  bench: how times grow, of
-# sessions, of the order of compilation, of texts read, of entries.  fmt: lays out all sources.
-.PHONY: run build test trials sessions bench fmt
+# that the gate does not try.  tables: the cases of all tables.  sessions: every session of sessions/ through the built
+# program.  bench: how times grow, of sessions, of the order of compilation, of texts read, of entries.  fmt: lays out
+# all sources.
+.PHONY: run build test trials tables sessions bench fmt
 
 PROGRAM := crates/boshd/out/boshd
 
@@ -21,6 +22,11 @@ test:
 
 trials:
 	@bash trials/run.sh $(CRATE)
+
+tables:
+	@for tables in bosh_tables bosh_rule_tables bosh_entry_tables; do \
+		(cd crates/$$tables && rt run -- data/*.cases) || exit 1; \
+	done
 
 sessions:
 	@bash sessions/run.sh

@@ -14,6 +14,3 @@ pub use laws::{levels_are_determined, rank_shows_no_cycle};
 pub use listing::built;
 pub use order::levels;
 pub use readiness::ready;
-
-#[cfg(test)]
-mod tests;

@@ -1,5 +1,6 @@
 -- Structs of many fields are read in pairs of pairs.
 use Rattle.std.proofs.Common.{◌≡◌, ℕ, List, [], false, None}
+use Rattle.bosh_base.specs.declared.answer.Answer.TheVariants.{Facts}
 use Rattle.bosh_entry.specs.declared.format.Format.{Format}
 use Rattle.bosh_entry.specs.Pair.{pair_at}
 use Rattle.bosh_entry.specs.Number.{number_at, small_at}
@@ -7,22 +8,23 @@ use Rattle.bosh_entry.specs.Plain.{name_at, digest_at}
 use Rattle.bosh_entry.specs.List.{list_at, text_at}
 use Rattle.bosh_entry.specs.Choice.{flag_at, option_at}
 use Rattle.bosh_entry.specs.Later.{later_at}
-use Rattle.bosh_entry.specs.Addr.{addr_at}
+use Rattle.bosh_entry.specs.Answer.{facts_at}
+use Rattle.bosh_entry.specs.Addr.{addr_at, net_addr_at}
 use Rattle.bosh_entry.specs.Inst.{inst_at}
 use Rattle.bosh_entry.specs.Owner.{owner_at}
 use Rattle.bosh_entry.specs.Call.{call_at}
 use Rattle.bosh_entry.specs.DiskWant.{disk_want_at}
 use Rattle.bosh_entry.specs.Make.{make_at}
-use Rattle.bosh_entry.specs.Spec.{spec_at}
+use Rattle.bosh_entry.specs.Spec.{mark_at, placed_at, spec_at}
 use Rattle.bosh_entry.specs.State.{state_at}
-use Rattle.bosh_entry.specs.Key.{key_work_at}
+use Rattle.bosh_entry.specs.Key.{key_at, key_work_at}
 use Rattle.bosh_entry.specs.Link.{joint_at, tie_at}
 use Rattle.bosh_entry.specs.Offer.{offer_at}
 use Rattle.bosh_entry.specs.Stemcell.{stemcell_at}
 use Rattle.bosh_entry.specs.Release.{template_spec_at, prop_at, prop_spec_at, link_spec_at, job_spec_at, package_spec_at, release_at}
 use Rattle.bosh_entry.specs.Goal.{goal_row_at, group_plan_at, goal_at}
 use Rattle.bosh_entry.specs.Task.{task_kind_at, task_end_at, task_row_at}
-use Rattle.bosh_entry.specs.Row.{vm_at, disk_row_at, doubt_at, row_at}
+use Rattle.bosh_entry.specs.Row.{role_at, vm_at, disk_row_at, doubt_at, row_at}
 use Rattle.bosh_entry.specs.Snapshot.{dep_row_at, compile_row_at, orphan_at, built_key_at, snapshot_at}
 use Rattle.bosh_entry.specs.Entry.{task_open_at, effect_at}
 use Rattle.bosh_entry.proofs.PairLemmas.{made, first, field, ◌then◌}
@@ -146,3 +148,95 @@ pub release_parts : (bytes : List ℕ)
 unfolding release_at
 release_parts =
     (first (λ name version jobs packages. record { name = name; version = version; jobs = jobs; packages = packages }) name_at then field text_at then (field (list_at job_spec_at) then field (list_at package_spec_at))).same
+
+pub disk_row_parts : (bytes : List ℕ)
+    → disk_row_at bytes
+    ≡ made (λ x. record { disk = x.0.0.0; tag = x.0.0.1; want = x.0.1.0; role = x.0.1.1; attached = x.1.0; mounted = x.1.1 })
+    (pair_at (pair_at (pair_at number_at number_at) (pair_at disk_want_at role_at)) (pair_at flag_at flag_at) bytes)
+unfolding disk_row_at
+disk_row_parts =
+    (first (λ disk tag want role attached mounted. record { disk = disk; tag = tag; want = want; role = role; attached = attached; mounted = mounted }) number_at then field number_at then (field disk_want_at then field role_at) then (field flag_at then field flag_at)).same
+
+pub make_parts : (bytes : List ℕ)
+    → make_at bytes
+    ≡ made (λ x. record { os = x.0.0.0; version = x.0.0.1; az = x.0.1.0; vm = x.0.1.1; nets = x.1 })
+    (pair_at (pair_at (pair_at text_at text_at) (pair_at name_at text_at)) (list_at net_addr_at) bytes)
+unfolding make_at
+make_parts =
+    (first (λ os version az vm nets. record { os = os; version = version; az = az; vm = vm; nets = nets }) text_at then field text_at then (field name_at then field text_at) then field (list_at net_addr_at)).same
+
+pub link_spec_parts : (bytes : List ℕ)
+    → link_spec_at bytes
+    ≡ made (λ x. record { name = x.0.0; kind = x.0.1; optional = x.1.0; properties = x.1.1 })
+    (pair_at (pair_at name_at text_at) (pair_at flag_at (list_at text_at)) bytes)
+unfolding link_spec_at
+link_spec_parts =
+    (first (λ name kind optional properties. record { name = name; kind = kind; optional = optional; properties = properties }) name_at then field text_at then (field flag_at then field (list_at text_at))).same
+
+pub group_plan_parts : (bytes : List ℕ)
+    → group_plan_at bytes
+    ≡ made (λ x. record { name = x.0.0; canaries = x.0.1; limit = x.1.0; stage = x.1.1 })
+    (pair_at (pair_at name_at small_at) (pair_at small_at small_at) bytes)
+unfolding group_plan_at
+group_plan_parts =
+    (first (λ name canaries limit stage. record { name = name; canaries = canaries; limit = limit; stage = stage }) name_at then field small_at then (field small_at then field small_at)).same
+
+pub built_key_parts : (bytes : List ℕ)
+    → built_key_at bytes
+    ≡ made (λ x. record { name = x.0.0; key = x.0.1; digest = x.1 })
+    (pair_at (pair_at name_at key_at) digest_at bytes)
+unfolding built_key_at
+built_key_parts =
+    (first (λ name key digest. record { name = name; key = key; digest = digest }) name_at then field key_at then field digest_at).same
+
+pub key_work_parts : (bytes : List ℕ)
+    → key_work_at bytes
+    ≡ made (λ x. record { name = x.0.0; key = x.0.1; deps = x.1 })
+    (pair_at (pair_at name_at key_at) (list_at key_at) bytes)
+unfolding key_work_at
+key_work_parts =
+    (first (λ name key deps. record { name = name; key = key; deps = deps }) name_at then field key_at then field (list_at key_at)).same
+
+pub key_parts : (bytes : List ℕ)
+    → key_at bytes
+    ≡ made (λ x. record { fingerprint = x.0.0; os = x.0.1; version = x.1 })
+    (pair_at (pair_at digest_at text_at) text_at bytes)
+unfolding key_at
+key_parts =
+    (first (λ fingerprint os version. record { fingerprint = fingerprint; os = os; version = version }) digest_at then field text_at then field text_at).same
+
+pub inst_parts : (bytes : List ℕ)
+    → inst_at bytes
+    ≡ made (λ x. record { dep = x.0.0; group = x.0.1; index = x.1 })
+    (pair_at (pair_at name_at name_at) small_at bytes)
+unfolding inst_at
+inst_parts =
+    (first (λ dep group index. record { dep = dep; group = group; index = index }) name_at then field name_at then field small_at).same
+
+pub package_spec_parts : (bytes : List ℕ)
+    → package_spec_at bytes
+    ≡ made (λ x. record { name = x.0.0; fingerprint = x.0.1; deps = x.1 })
+    (pair_at (pair_at name_at digest_at) (list_at name_at) bytes)
+unfolding package_spec_at
+package_spec_parts =
+    (first (λ name fingerprint deps. record { name = name; fingerprint = fingerprint; deps = deps }) name_at then field digest_at then field (list_at name_at)).same
+
+pub template_spec_parts : (bytes : List ℕ)
+    → template_spec_at bytes
+    ≡ made (λ x. record { source = x.0.0; destination = x.0.1; text = x.1 })
+    (pair_at (pair_at text_at text_at) text_at bytes)
+unfolding template_spec_at
+template_spec_parts =
+    (first (λ source destination text. record { source = source; destination = destination; text = text }) text_at then field text_at then field text_at).same
+
+pub spec_parts : (bytes : List ℕ)
+    → spec_at bytes
+    ≡ made (λ x. record { jobs = x.0.0; packages = x.0.1; files = x.1 })
+    (pair_at (pair_at (list_at mark_at) (list_at mark_at)) (list_at placed_at) bytes)
+unfolding spec_at
+spec_parts =
+    (first (λ jobs packages files. record { jobs = jobs; packages = packages; files = files }) (list_at mark_at) then field (list_at mark_at) then field (list_at placed_at)).same
+
+pub facts_parts : (bytes : List ℕ)
+    → facts_at bytes ≡ made (λ x. Facts x.0 x.1.0 x.1.1) (pair_at (option_at spec_at) (pair_at flag_at flag_at) bytes)
+facts_parts = (first (λ s running drained. Facts s running drained) (option_at spec_at) then (field flag_at then field flag_at)).same

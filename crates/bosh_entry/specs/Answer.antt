@@ -34,6 +34,10 @@ is_answer (Built d) = is_digest d
 is_answer Gone = true
 is_answer Failed = true
 
+-- what a machine tells of itself
+abbrev pub facts_at : Reader Answer
+facts_at = making Facts with option_at spec_at with flag_at with flag_at
+
 abbrev pub answers : List (Reader Answer)
 answers =
     making Done
@@ -42,7 +46,7 @@ answers =
     ∷ making Yes
     ∷ making No
     ∷ making Disks with list_at number_at
-    ∷ making Facts with option_at spec_at with flag_at with flag_at
+    ∷ facts_at
     ∷ making Built with digest_at
     ∷ making Gone
     ∷ making Failed

@@ -70,12 +70,19 @@ is_task_end format (Fault n m o) = is_number n && is_method m && is_owner o
 is_task_end format Interrupted = true
 is_task_end format (Gone n m o) = is_present format && (is_number n && is_method m && is_owner o)
 
+-- the call that failed, and the one that named what was not there
+abbrev pub fault_at : Reader TaskEnd
+fault_at = making Fault with number_at with method_at with owner_at
+
+abbrev pub gone_at : Reader TaskEnd
+gone_at = making Gone with number_at with method_at with owner_at
+
 abbrev pub task_ends : Format → List (Reader TaskEnd)
 task_ends format =
     making Finished
-    ∷ making Fault with number_at with method_at with owner_at
+    ∷ fault_at
     ∷ making Interrupted
-    ∷ present_at format (making Gone with number_at with method_at with owner_at)
+    ∷ present_at format gone_at
     ∷ []
 
 unfoldable pub task_end_at : Format → Reader TaskEnd

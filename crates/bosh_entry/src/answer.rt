@@ -1,12 +1,27 @@
 ghost use Rattle.std.specs.Prelude.{◌≡◌};
+ghost use Rattle.bosh_entry.specs.Reading.{Gives};
+ghost use Rattle.bosh_entry.specs.Answer.{facts_at};
 
 use crate::coded::Coded;
 use crate::fault::EntryFault;
 use crate::format::Format;
+use crate::pair::write_three;
 use crate::source::Source;
 use crate::variant::write_variant;
 use bosh_base::{Answer, Digest, Seq};
 use std::alloc::Global;
+
+#[tactic(auto, using(crate::proofs::StructLemmas::facts_parts))]
+fn facts(alloc: Global, format: Format, from: &mut Source) -> Result<Answer, EntryFault>
+    ensures { Gives result from.new.rest.now (facts_at from.old.rest.now) }
+{
+    let (spec, (running, drained)) = Coded::read(alloc, format, from)?;
+    Ok(Answer::Facts {
+        spec,
+        running,
+        drained,
+    })
+}
 
 impl Coded for Answer {
     ghost use Rattle.bosh_entry.specs.Answer.{answer, is_answer, answer_at};
@@ -32,9 +47,7 @@ impl Coded for Answer {
                 drained,
             } => {
                 out.push(6)?;
-                spec.write(out)?;
-                running.write(out)?;
-                drained.write(out)
+                write_three(spec, running, drained, out)
             }
             Answer::Built(digest) => write_variant(7, digest, out),
             Answer::Gone => 8u8.write(out),
@@ -46,17 +59,13 @@ impl Coded for Answer {
     fn read(alloc: Global, format: Format, from: &mut Source) -> Result<Self, EntryFault> {
         match from.byte()? {
             0 => Ok(Answer::Done),
-            1 => Ok(Answer::Cid(u64::read(alloc, format, from)?)),
-            2 => Ok(Answer::Found(Option::read(alloc, format, from)?)),
+            1 => u64::read(alloc, format, from).map(Answer::Cid),
+            2 => Option::read(alloc, format, from).map(Answer::Found),
             3 => Ok(Answer::Yes),
             4 => Ok(Answer::No),
-            5 => Ok(Answer::Disks(Seq::read(alloc, format, from)?)),
-            6 => Ok(Answer::Facts {
-                spec: Option::read(alloc, format, from)?,
-                running: bool::read(alloc, format, from)?,
-                drained: bool::read(alloc, format, from)?,
-            }),
-            7 => Ok(Answer::Built(Digest::read(alloc, format, from)?)),
+            5 => Seq::read(alloc, format, from).map(Answer::Disks),
+            6 => facts(alloc, format, from),
+            7 => Digest::read(alloc, format, from).map(Answer::Built),
             8 => Ok(Answer::Gone),
             9 => Ok(Answer::Failed),
             _ => Err(EntryFault::NotAnEntry),

@@ -1,12 +1,12 @@
 ghost use Rattle.std.specs.Prelude.{◌≡◌};
-ghost use Rattle.bosh_base.specs.declared.method.Method.TheVariants.{CreateVm, CreateDisk, Apply, MigrateDisk, CompilePackage};
+ghost use Rattle.bosh_base.specs.declared.method.Method.TheVariants.{CreateVm, CreateDisk, AttachDisk, DetachDisk, Apply, MountDisk, UnmountDisk, MigrateDisk, CompilePackage};
 ghost use Rattle.bosh_entry.specs.Reading.{Gives};
 ghost use Rattle.bosh_entry.specs.Call.{call_of_at};
 
 use crate::coded::Coded;
 use crate::fault::EntryFault;
 use crate::format::Format;
-use crate::pair::write_both;
+use crate::pair::{write_both, write_three};
 use crate::source::Source;
 use bosh_base::{Call, DiskWant, KeyWork, Make, Method, Seq, Spec};
 use std::alloc::Global;
@@ -38,6 +38,46 @@ fn apply(alloc: Global, format: Format, from: &mut Source) -> Result<Call, Entry
     Ok(Call::Apply {
         vm: from.number()?,
         spec: Spec::read(alloc, format, from)?,
+    })
+}
+
+#[tactic(auto, unfolding(crate::specs::Call::call_of_at))]
+fn attach_disk(from: &mut Source) -> Result<Call, EntryFault>
+    ensures { Gives result from.new.rest.now (call_of_at AttachDisk from.old.rest.now) }
+{
+    Ok(Call::AttachDisk {
+        vm: from.number()?,
+        disk: from.number()?,
+    })
+}
+
+#[tactic(auto, unfolding(crate::specs::Call::call_of_at))]
+fn detach_disk(from: &mut Source) -> Result<Call, EntryFault>
+    ensures { Gives result from.new.rest.now (call_of_at DetachDisk from.old.rest.now) }
+{
+    Ok(Call::DetachDisk {
+        vm: from.number()?,
+        disk: from.number()?,
+    })
+}
+
+#[tactic(auto, unfolding(crate::specs::Call::call_of_at))]
+fn mount_disk(from: &mut Source) -> Result<Call, EntryFault>
+    ensures { Gives result from.new.rest.now (call_of_at MountDisk from.old.rest.now) }
+{
+    Ok(Call::MountDisk {
+        vm: from.number()?,
+        disk: from.number()?,
+    })
+}
+
+#[tactic(auto, unfolding(crate::specs::Call::call_of_at))]
+fn unmount_disk(from: &mut Source) -> Result<Call, EntryFault>
+    ensures { Gives result from.new.rest.now (call_of_at UnmountDisk from.old.rest.now) }
+{
+    Ok(Call::UnmountDisk {
+        vm: from.number()?,
+        disk: from.number()?,
     })
 }
 
@@ -96,16 +136,8 @@ impl Coded for Call {
             Call::MountDisk { vm, disk } => write_both(vm, disk, out),
             Call::UnmountDisk { vm, disk } => write_both(vm, disk, out),
             Call::ListDisk { vm } => vm.write(out),
-            Call::MigrateDisk { vm, from, to } => {
-                vm.write(out)?;
-                from.write(out)?;
-                to.write(out)
-            }
-            Call::CompilePackage { vm, work, deps } => {
-                vm.write(out)?;
-                work.write(out)?;
-                deps.write(out)
-            }
+            Call::MigrateDisk { vm, from, to } => write_three(vm, from, to, out),
+            Call::CompilePackage { vm, work, deps } => write_three(vm, work, deps, out),
         }
     }
 
@@ -120,14 +152,8 @@ impl Coded for Call {
             Method::DeleteDisk => from.number().map(|disk| Call::DeleteDisk { disk }),
             Method::HasDisk => from.number().map(|disk| Call::HasDisk { disk }),
             Method::FindDisk => from.number().map(|tag| Call::FindDisk { tag }),
-            Method::AttachDisk => Ok(Call::AttachDisk {
-                vm: from.number()?,
-                disk: from.number()?,
-            }),
-            Method::DetachDisk => Ok(Call::DetachDisk {
-                vm: from.number()?,
-                disk: from.number()?,
-            }),
+            Method::AttachDisk => attach_disk(from),
+            Method::DetachDisk => detach_disk(from),
             Method::GetDisks => from.number().map(|vm| Call::GetDisks { vm }),
             Method::Ping => from.number().map(|vm| Call::Ping { vm }),
             Method::GetState => from.number().map(|vm| Call::GetState { vm }),
@@ -135,14 +161,8 @@ impl Coded for Call {
             Method::Start => from.number().map(|vm| Call::Start { vm }),
             Method::Drain => from.number().map(|vm| Call::Drain { vm }),
             Method::Stop => from.number().map(|vm| Call::Stop { vm }),
-            Method::MountDisk => Ok(Call::MountDisk {
-                vm: from.number()?,
-                disk: from.number()?,
-            }),
-            Method::UnmountDisk => Ok(Call::UnmountDisk {
-                vm: from.number()?,
-                disk: from.number()?,
-            }),
+            Method::MountDisk => mount_disk(from),
+            Method::UnmountDisk => unmount_disk(from),
             Method::ListDisk => from.number().map(|vm| Call::ListDisk { vm }),
             Method::MigrateDisk => migrate_disk(from),
             Method::CompilePackage => compile_package(alloc, format, from),

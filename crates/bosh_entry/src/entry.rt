@@ -5,6 +5,7 @@ use crate::fault::EntryFault;
 use crate::format::Format;
 use crate::later::before_later;
 use crate::number::worker;
+use crate::pair::write_four;
 use crate::source::Source;
 use bosh_base::{
     Answer, Begin, Call, Effect, End, Failure, Inst, Loss, Owner, TaskError, TaskOpen, Text,
@@ -23,14 +24,14 @@ impl Coded for TaskOpen {
 
     #[tactic(auto, unfolding(crate::specs::Entry::task_open, crate::specs::Entry::is_task_open))]
     fn write(&self, out: &mut Vec<u8>) -> Result<(), EntryFault> {
-        self.task.write(out)?;
-        self.kind.write(out)?;
-        self.dep.write(out)?;
-        self.goal.write(out)?;
-        self.changed.write(out)?;
-        self.obsolete.write(out)?;
-        self.disks.write(out)?;
-        self.source.write(out)
+        write_four(&self.task, &self.kind, &self.dep, &self.goal, out)?;
+        write_four(
+            &self.changed,
+            &self.obsolete,
+            &self.disks,
+            &self.source,
+            out,
+        )
     }
 
     #[tactic(auto, using(crate::proofs::StructLemmas::task_open_parts))]
@@ -70,12 +71,17 @@ impl Coded for Begin {
 
     #[tactic(auto, unfolding(crate::specs::Entry::begin_at))]
     fn read(alloc: Global, format: Format, from: &mut Source) -> Result<Self, EntryFault> {
+        let n = from.number()?;
+        let task = from.number()?;
+        let worker = worker(from)?;
+        let owner = Owner::read(alloc, format, from)?;
+        let call = Call::read(alloc, format, from)?;
         Ok(Begin {
-            n: u64::read(alloc, format, from)?,
-            task: u64::read(alloc, format, from)?,
-            worker: worker(from)?,
-            owner: Owner::read(alloc, format, from)?,
-            call: Call::read(alloc, format, from)?,
+            n,
+            task,
+            worker,
+            owner,
+            call,
         })
     }
 }

@@ -3,9 +3,10 @@ ghost use Rattle.std.specs.Prelude.{◌≡◌};
 use crate::coded::Coded;
 use crate::fault::EntryFault;
 use crate::format::Format;
-use crate::later::before_later;
+use crate::later::before_later_list;
+use crate::pair::{write_both, write_four, write_three};
 use crate::source::Source;
-use bosh_base::{Goal, GoalRow, GroupPlan, Name, Seq};
+use bosh_base::{Goal, GoalRow, GroupPlan, Seq};
 use std::alloc::Global;
 
 impl Coded for GoalRow {
@@ -19,12 +20,8 @@ impl Coded for GoalRow {
 
     #[tactic(auto, unfolding(crate::specs::Goal::goal_row, crate::specs::Goal::is_goal_row))]
     fn write(&self, out: &mut Vec<u8>) -> Result<(), EntryFault> {
-        self.inst.write(out)?;
-        self.make.write(out)?;
-        self.spec.write(out)?;
-        self.disk.write(out)?;
-        self.state.write(out)?;
-        self.fresh_after.write(out)
+        write_four(&self.inst, &self.make, &self.spec, &self.disk, out)?;
+        write_both(&self.state, &self.fresh_after, out)
     }
 
     #[tactic(auto, using(crate::proofs::StructLemmas::goal_row_parts))]
@@ -59,13 +56,15 @@ impl Coded for GroupPlan {
         self.stage.write(out)
     }
 
-    #[tactic(auto, unfolding(crate::specs::Goal::group_plan_at))]
+    #[tactic(auto, using(crate::proofs::StructLemmas::group_plan_parts))]
     fn read(alloc: Global, format: Format, from: &mut Source) -> Result<Self, EntryFault> {
+        let fields = Coded::read(alloc, format, from)?;
+        let ((name, canaries), (limit, stage)) = fields;
         Ok(GroupPlan {
-            name: Name::read(alloc, format, from)?,
-            canaries: u32::read(alloc, format, from)?,
-            limit: u32::read(alloc, format, from)?,
-            stage: u32::read(alloc, format, from)?,
+            name,
+            canaries,
+            limit,
+            stage,
         })
     }
 }
@@ -81,18 +80,13 @@ impl Coded for Goal {
 
     #[tactic(auto, unfolding(crate::specs::Goal::goal, crate::specs::Goal::is_goal))]
     fn write(&self, out: &mut Vec<u8>) -> Result<(), EntryFault> {
-        self.dep.write(out)?;
-        self.rows.write(out)?;
-        self.groups.write(out)?;
-        self.ties.write(out)?;
-        self.keys.write(out)?;
-        self.slots.write(out)?;
-        self.offers.write(out)
+        write_four(&self.dep, &self.rows, &self.groups, &self.ties, out)?;
+        write_three(&self.keys, &self.slots, &self.offers, out)
     }
 
     #[tactic(auto, using(crate::proofs::StructLemmas::goal_parts))]
     fn read(alloc: Global, format: Format, from: &mut Source) -> Result<Self, EntryFault> {
-        let (fields, offers) = before_later(alloc, format, from, Seq::new(alloc))?;
+        let (fields, offers) = before_later_list(alloc, format, from)?;
         let (((dep, rows), (groups, ties)), (keys, slots)) = fields;
         Ok(Goal {
             dep,

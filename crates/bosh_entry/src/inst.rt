@@ -4,7 +4,7 @@ use crate::coded::Coded;
 use crate::fault::EntryFault;
 use crate::format::Format;
 use crate::source::Source;
-use bosh_base::{Inst, Name};
+use bosh_base::Inst;
 use std::alloc::Global;
 
 impl Coded for Inst {
@@ -23,12 +23,10 @@ impl Coded for Inst {
         self.index.write(out)
     }
 
-    #[tactic(auto, unfolding(crate::specs::Inst::inst_at))]
+    #[tactic(auto, using(crate::proofs::StructLemmas::inst_parts))]
     fn read(alloc: Global, format: Format, from: &mut Source) -> Result<Self, EntryFault> {
-        Ok(Inst {
-            dep: Name::read(alloc, format, from)?,
-            group: Name::read(alloc, format, from)?,
-            index: u32::read(alloc, format, from)?,
-        })
+        let fields = Coded::read(alloc, format, from)?;
+        let ((dep, group), index) = fields;
+        Ok(Inst { dep, group, index })
     }
 }

@@ -4,7 +4,7 @@ use crate::coded::Coded;
 use crate::fault::EntryFault;
 use crate::format::Format;
 use crate::source::Source;
-use bosh_base::{Digest, Key, KeyWork, Name, Seq, Text};
+use bosh_base::{Key, KeyWork};
 use std::alloc::Global;
 
 impl Coded for Key {
@@ -23,12 +23,14 @@ impl Coded for Key {
         self.version.write(out)
     }
 
-    #[tactic(auto, unfolding(crate::specs::Key::key_at))]
+    #[tactic(auto, using(crate::proofs::StructLemmas::key_parts))]
     fn read(alloc: Global, format: Format, from: &mut Source) -> Result<Self, EntryFault> {
+        let fields = Coded::read(alloc, format, from)?;
+        let ((fingerprint, os), version) = fields;
         Ok(Key {
-            fingerprint: Digest::read(alloc, format, from)?,
-            os: Text::read(alloc, format, from)?,
-            version: Text::read(alloc, format, from)?,
+            fingerprint,
+            os,
+            version,
         })
     }
 }
@@ -49,12 +51,10 @@ impl Coded for KeyWork {
         self.deps.write(out)
     }
 
-    #[tactic(auto, unfolding(crate::specs::Key::key_work_at))]
+    #[tactic(auto, using(crate::proofs::StructLemmas::key_work_parts))]
     fn read(alloc: Global, format: Format, from: &mut Source) -> Result<Self, EntryFault> {
-        Ok(KeyWork {
-            name: Name::read(alloc, format, from)?,
-            key: Key::read(alloc, format, from)?,
-            deps: Seq::read(alloc, format, from)?,
-        })
+        let fields = Coded::read(alloc, format, from)?;
+        let ((name, key), deps) = fields;
+        Ok(KeyWork { name, key, deps })
     }
 }

@@ -1,12 +1,15 @@
-ghost use Rattle.std.specs.Prelude.{◌≡◌};
+ghost use Rattle.std.specs.Prelude.{◌≡◌, []};
 ghost use Rattle.bosh_entry.specs.Reading.{Gives};
 ghost use Rattle.bosh_entry.specs.Later.{later_at};
+ghost use Rattle.bosh_entry.specs.List.{list_at};
 ghost use Rattle.bosh_entry.specs.Pair.{pair_at};
 
 use crate::coded::Coded;
 use crate::fault::EntryFault;
 use crate::format::Format;
+use crate::list::Listed;
 use crate::source::Source;
+use bosh_base::Seq;
 use std::alloc::Global;
 
 /// A field that the older format has not: there it is `absent`.
@@ -54,4 +57,15 @@ pub fn before_both_later<A: Coded, S: Coded, T: Coded>(
     let fields = before_later(alloc, format, from, first_absent)?;
     let last = later(alloc, format, from, second_absent)?;
     Ok((fields, last))
+}
+
+/// Fields, and after them a list that the older format has not: there it is empty.
+pub fn before_later_list<A: Coded, T: Listed>(
+    alloc: Global,
+    format: Format,
+    from: &mut Source,
+) -> Result<(A, Seq<T>), EntryFault>
+    ensures { Gives result from.new.rest.now (pair_at (A.reading format) (later_at [] (list_at (T.reading format)) format) from.old.rest.now) }
+{
+    before_later(alloc, format, from, Seq::new(alloc))
 }

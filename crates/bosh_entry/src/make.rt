@@ -3,8 +3,9 @@ ghost use Rattle.std.specs.Prelude.{◌≡◌};
 use crate::coded::Coded;
 use crate::fault::EntryFault;
 use crate::format::Format;
+use crate::pair::write_four;
 use crate::source::Source;
-use bosh_base::{Make, Name, Seq, Text};
+use bosh_base::Make;
 use std::alloc::Global;
 
 impl Coded for Make {
@@ -18,21 +19,20 @@ impl Coded for Make {
 
     #[tactic(auto, unfolding(crate::specs::Make::make, crate::specs::Make::is_make))]
     fn write(&self, out: &mut Vec<u8>) -> Result<(), EntryFault> {
-        self.os.write(out)?;
-        self.version.write(out)?;
-        self.az.write(out)?;
-        self.vm.write(out)?;
+        write_four(&self.os, &self.version, &self.az, &self.vm, out)?;
         self.nets.write(out)
     }
 
-    #[tactic(auto, unfolding(crate::specs::Make::make_at))]
+    #[tactic(auto, using(crate::proofs::StructLemmas::make_parts))]
     fn read(alloc: Global, format: Format, from: &mut Source) -> Result<Self, EntryFault> {
+        let fields = Coded::read(alloc, format, from)?;
+        let (((os, version), (az, vm)), nets) = fields;
         Ok(Make {
-            os: Text::read(alloc, format, from)?,
-            version: Text::read(alloc, format, from)?,
-            az: Name::read(alloc, format, from)?,
-            vm: Text::read(alloc, format, from)?,
-            nets: Seq::read(alloc, format, from)?,
+            os,
+            version,
+            az,
+            vm,
+            nets,
         })
     }
 }

@@ -3,6 +3,7 @@ ghost use Rattle.std.specs.Prelude.{◌≡◌};
 use crate::coded::Coded;
 use crate::fault::EntryFault;
 use crate::format::Format;
+use crate::pair::{write_both, write_four};
 use crate::source::Source;
 use bosh_base::Offer;
 use std::alloc::Global;
@@ -18,12 +19,8 @@ impl Coded for Offer {
 
     #[tactic(auto, unfolding(crate::specs::Offer::offer, crate::specs::Offer::is_offer))]
     fn write(&self, out: &mut Vec<u8>) -> Result<(), EntryFault> {
-        self.joint.write(out)?;
-        self.kind.write(out)?;
-        self.public_name.write(out)?;
-        self.addrs.write(out)?;
-        self.listed.write(out)?;
-        self.properties.write(out)
+        write_four(&self.joint, &self.kind, &self.public_name, &self.addrs, out)?;
+        write_both(&self.listed, &self.properties, out)
     }
 
     #[tactic(auto, using(crate::proofs::StructLemmas::offer_parts))]

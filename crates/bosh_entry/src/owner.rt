@@ -33,12 +33,12 @@ impl Coded for Owner {
     #[tactic(auto, unfolding(crate::specs::Owner::owner_at))]
     fn read(alloc: Global, format: Format, from: &mut Source) -> Result<Self, EntryFault> {
         match from.byte()? {
-            0 => Ok(Owner::Instance(Inst::read(alloc, format, from)?)),
+            0 => Inst::read(alloc, format, from).map(Owner::Instance),
             1 => Ok(Owner::Compile(
                 u64::read(alloc, format, from)?,
                 u32::read(alloc, format, from)?,
             )),
-            2 => Ok(Owner::Disk(u64::read(alloc, format, from)?)),
+            2 => u64::read(alloc, format, from).map(Owner::Disk),
             _ => Err(EntryFault::NotAnEntry),
         }
     }

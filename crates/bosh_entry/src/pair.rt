@@ -22,6 +22,37 @@ pub fn write_both<A: Coded, B: Coded>(
     second.write(out)
 }
 
+/// Adds the spellings of three values at the end.
+pub fn write_three<A: Coded, B: Coded, C: Coded>(
+    first: &A,
+    second: &B,
+    third: &C,
+    out: &mut Vec<u8>,
+) -> Result<(), EntryFault>
+    ensures ok { OnOk result (out.new.items ≡ out.old.items ++ A.spelling Present first.now ++ B.spelling Present second.now ++ C.spelling Present third.now) }
+    ensures fits { OnOk result ((A.fits Present first.now && B.fits Present second.now && C.fits Present third.now) ≡ true) }
+    ensures err { IfErr result (λ fault. fault ≡ Memory) }
+{
+    write_both(first, second, out)?;
+    third.write(out)
+}
+
+/// Adds the spellings of four values at the end.
+pub fn write_four<A: Coded, B: Coded, C: Coded, D: Coded>(
+    first: &A,
+    second: &B,
+    third: &C,
+    fourth: &D,
+    out: &mut Vec<u8>,
+) -> Result<(), EntryFault>
+    ensures ok { OnOk result (out.new.items ≡ out.old.items ++ A.spelling Present first.now ++ B.spelling Present second.now ++ C.spelling Present third.now ++ D.spelling Present fourth.now) }
+    ensures fits { OnOk result ((A.fits Present first.now && B.fits Present second.now && C.fits Present third.now && D.fits Present fourth.now) ≡ true) }
+    ensures err { IfErr result (λ fault. fault ≡ Memory) }
+{
+    write_three(first, second, third, out)?;
+    fourth.write(out)
+}
+
 /// Two values, one after the other. Structs of many fields are read as pairs of pairs, so that what was read before bytes
 /// that spell no field is dropped in one place.
 impl<A: Coded, B: Coded> Coded for (A, B) {

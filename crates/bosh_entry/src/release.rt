@@ -3,11 +3,11 @@ ghost use Rattle.std.specs.Prelude.{◌≡◌};
 use crate::coded::Coded;
 use crate::fault::EntryFault;
 use crate::format::Format;
+use crate::pair::{write_four, write_three};
 use crate::source::Source;
 use crate::variant::write_variant;
 use bosh_base::{
-    Digest, JobSpec, LinkSpec, Name, PackageSpec, Prop, PropSpec, Release, Seq, Setting,
-    TemplateSpec, Text,
+    JobSpec, LinkSpec, PackageSpec, Prop, PropSpec, Release, Setting, TemplateSpec, Text,
 };
 use std::alloc::Global;
 
@@ -103,13 +103,15 @@ impl Coded for LinkSpec {
         self.properties.write(out)
     }
 
-    #[tactic(auto, unfolding(crate::specs::Release::link_spec_at))]
+    #[tactic(auto, using(crate::proofs::StructLemmas::link_spec_parts))]
     fn read(alloc: Global, format: Format, from: &mut Source) -> Result<Self, EntryFault> {
+        let fields = Coded::read(alloc, format, from)?;
+        let ((name, kind), (optional, properties)) = fields;
         Ok(LinkSpec {
-            name: Name::read(alloc, format, from)?,
-            kind: Text::read(alloc, format, from)?,
-            optional: bool::read(alloc, format, from)?,
-            properties: Seq::read(alloc, format, from)?,
+            name,
+            kind,
+            optional,
+            properties,
         })
     }
 }
@@ -130,12 +132,14 @@ impl Coded for TemplateSpec {
         self.text.write(out)
     }
 
-    #[tactic(auto, unfolding(crate::specs::Release::template_spec_at))]
+    #[tactic(auto, using(crate::proofs::StructLemmas::template_spec_parts))]
     fn read(alloc: Global, format: Format, from: &mut Source) -> Result<Self, EntryFault> {
+        let fields = Coded::read(alloc, format, from)?;
+        let ((source, destination), text) = fields;
         Ok(TemplateSpec {
-            source: Text::read(alloc, format, from)?,
-            destination: Text::read(alloc, format, from)?,
-            text: Text::read(alloc, format, from)?,
+            source,
+            destination,
+            text,
         })
     }
 }
@@ -151,13 +155,14 @@ impl Coded for JobSpec {
 
     #[tactic(auto, unfolding(crate::specs::Release::job_spec, crate::specs::Release::is_job_spec))]
     fn write(&self, out: &mut Vec<u8>) -> Result<(), EntryFault> {
-        self.name.write(out)?;
-        self.fingerprint.write(out)?;
-        self.templates.write(out)?;
-        self.packages.write(out)?;
-        self.properties.write(out)?;
-        self.provides.write(out)?;
-        self.consumes.write(out)
+        write_four(
+            &self.name,
+            &self.fingerprint,
+            &self.templates,
+            &self.packages,
+            out,
+        )?;
+        write_three(&self.properties, &self.provides, &self.consumes, out)
     }
 
     #[tactic(auto, using(crate::proofs::StructLemmas::job_spec_parts))]
@@ -193,12 +198,14 @@ impl Coded for PackageSpec {
         self.deps.write(out)
     }
 
-    #[tactic(auto, unfolding(crate::specs::Release::package_spec_at))]
+    #[tactic(auto, using(crate::proofs::StructLemmas::package_spec_parts))]
     fn read(alloc: Global, format: Format, from: &mut Source) -> Result<Self, EntryFault> {
+        let fields = Coded::read(alloc, format, from)?;
+        let ((name, fingerprint), deps) = fields;
         Ok(PackageSpec {
-            name: Name::read(alloc, format, from)?,
-            fingerprint: Digest::read(alloc, format, from)?,
-            deps: Seq::read(alloc, format, from)?,
+            name,
+            fingerprint,
+            deps,
         })
     }
 }

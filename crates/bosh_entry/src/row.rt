@@ -4,8 +4,9 @@ use crate::coded::Coded;
 use crate::fault::EntryFault;
 use crate::format::Format;
 use crate::later::before_later;
+use crate::pair::{write_both, write_four};
 use crate::source::Source;
-use bosh_base::{Call, DiskRow, DiskWant, Doubt, Inst, Role, Row, Seq, Vm};
+use bosh_base::{Call, DiskRow, Doubt, Role, Row, Vm};
 use std::alloc::Global;
 
 impl Coded for Role {
@@ -48,23 +49,21 @@ impl Coded for DiskRow {
 
     #[tactic(auto, unfolding(crate::specs::Row::disk_row, crate::specs::Row::is_disk_row))]
     fn write(&self, out: &mut Vec<u8>) -> Result<(), EntryFault> {
-        self.disk.write(out)?;
-        self.tag.write(out)?;
-        self.want.write(out)?;
-        self.role.write(out)?;
-        self.attached.write(out)?;
-        self.mounted.write(out)
+        write_four(&self.disk, &self.tag, &self.want, &self.role, out)?;
+        write_both(&self.attached, &self.mounted, out)
     }
 
-    #[tactic(auto, unfolding(crate::specs::Row::disk_row_at))]
+    #[tactic(auto, using(crate::proofs::StructLemmas::disk_row_parts))]
     fn read(alloc: Global, format: Format, from: &mut Source) -> Result<Self, EntryFault> {
+        let fields = Coded::read(alloc, format, from)?;
+        let (((disk, tag), (want, role)), (attached, mounted)) = fields;
         Ok(DiskRow {
-            disk: u64::read(alloc, format, from)?,
-            tag: u64::read(alloc, format, from)?,
-            want: DiskWant::read(alloc, format, from)?,
-            role: Role::read(alloc, format, from)?,
-            attached: bool::read(alloc, format, from)?,
-            mounted: bool::read(alloc, format, from)?,
+            disk,
+            tag,
+            want,
+            role,
+            attached,
+            mounted,
         })
     }
 }
@@ -128,14 +127,8 @@ impl Coded for Row {
 
     #[tactic(auto, unfolding(crate::specs::Row::row, crate::specs::Row::is_row))]
     fn write(&self, out: &mut Vec<u8>) -> Result<(), EntryFault> {
-        self.inst.write(out)?;
-        self.make.write(out)?;
-        self.vm.write(out)?;
-        self.spec.write(out)?;
-        self.running.write(out)?;
-        self.drained.write(out)?;
-        self.disks.write(out)?;
-        self.doubt.write(out)?;
+        write_four(&self.inst, &self.make, &self.vm, &self.spec, out)?;
+        write_four(&self.running, &self.drained, &self.disks, &self.doubt, out)?;
         self.lost.write(out)
     }
 

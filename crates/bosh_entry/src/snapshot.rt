@@ -3,9 +3,10 @@ ghost use Rattle.std.specs.Prelude.{◌≡◌};
 use crate::coded::Coded;
 use crate::fault::EntryFault;
 use crate::format::Format;
-use crate::later::before_later;
+use crate::later::before_later_list;
+use crate::pair::{write_both, write_four};
 use crate::source::Source;
-use bosh_base::{BuiltKey, CompileRow, DepRow, Digest, Key, Name, Orphan, Seq, Snapshot};
+use bosh_base::{BuiltKey, CompileRow, DepRow, Orphan, Seq, Snapshot};
 use std::alloc::Global;
 
 impl Coded for DepRow {
@@ -26,7 +27,7 @@ impl Coded for DepRow {
 
     #[tactic(auto, using(crate::proofs::StructLemmas::dep_row_parts))]
     fn read(alloc: Global, format: Format, from: &mut Source) -> Result<Self, EntryFault> {
-        let (fields, shared) = before_later(alloc, format, from, Seq::new(alloc))?;
+        let (fields, shared) = before_later_list(alloc, format, from)?;
         let (dep, goal) = fields;
         Ok(DepRow { dep, goal, shared })
     }
@@ -43,12 +44,8 @@ impl Coded for CompileRow {
 
     #[tactic(auto, unfolding(crate::specs::Snapshot::compile_row, crate::specs::Snapshot::is_compile_row))]
     fn write(&self, out: &mut Vec<u8>) -> Result<(), EntryFault> {
-        self.task.write(out)?;
-        self.slot.write(out)?;
-        self.dep.write(out)?;
-        self.make.write(out)?;
-        self.vm.write(out)?;
-        self.doubt.write(out)
+        write_four(&self.task, &self.slot, &self.dep, &self.make, out)?;
+        write_both(&self.vm, &self.doubt, out)
     }
 
     #[tactic(auto, using(crate::proofs::StructLemmas::compile_row_parts))]
@@ -112,13 +109,11 @@ impl Coded for BuiltKey {
         self.digest.write(out)
     }
 
-    #[tactic(auto, unfolding(crate::specs::Snapshot::built_key_at))]
+    #[tactic(auto, using(crate::proofs::StructLemmas::built_key_parts))]
     fn read(alloc: Global, format: Format, from: &mut Source) -> Result<Self, EntryFault> {
-        Ok(BuiltKey {
-            name: Name::read(alloc, format, from)?,
-            key: Key::read(alloc, format, from)?,
-            digest: Digest::read(alloc, format, from)?,
-        })
+        let fields = Coded::read(alloc, format, from)?;
+        let ((name, key), digest) = fields;
+        Ok(BuiltKey { name, key, digest })
     }
 }
 
@@ -133,16 +128,21 @@ impl Coded for Snapshot {
 
     #[tactic(auto, unfolding(crate::specs::Snapshot::snapshot, crate::specs::Snapshot::is_snapshot))]
     fn write(&self, out: &mut Vec<u8>) -> Result<(), EntryFault> {
-        self.releases.write(out)?;
-        self.stemcells.write(out)?;
-        self.config.write(out)?;
-        self.deployments.write(out)?;
-        self.rows.write(out)?;
-        self.compile_rows.write(out)?;
-        self.orphans.write(out)?;
-        self.built_keys.write(out)?;
-        self.tasks.write(out)?;
-        self.last_call.write(out)
+        write_four(
+            &self.releases,
+            &self.stemcells,
+            &self.config,
+            &self.deployments,
+            out,
+        )?;
+        write_four(
+            &self.rows,
+            &self.compile_rows,
+            &self.orphans,
+            &self.built_keys,
+            out,
+        )?;
+        write_both(&self.tasks, &self.last_call, out)
     }
 
     #[tactic(auto, using(crate::proofs::StructLemmas::snapshot_parts))]

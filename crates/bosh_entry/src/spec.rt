@@ -4,7 +4,7 @@ use crate::coded::Coded;
 use crate::fault::EntryFault;
 use crate::format::Format;
 use crate::source::Source;
-use bosh_base::{Digest, Mark, Name, Placed, Seq, Spec, Text};
+use bosh_base::{Digest, Mark, Name, Placed, Spec, Text};
 use std::alloc::Global;
 
 impl Coded for Mark {
@@ -71,12 +71,14 @@ impl Coded for Spec {
         self.files.write(out)
     }
 
-    #[tactic(auto, unfolding(crate::specs::Spec::spec_at))]
+    #[tactic(auto, using(crate::proofs::StructLemmas::spec_parts))]
     fn read(alloc: Global, format: Format, from: &mut Source) -> Result<Self, EntryFault> {
+        let fields = Coded::read(alloc, format, from)?;
+        let ((jobs, packages), files) = fields;
         Ok(Spec {
-            jobs: Seq::read(alloc, format, from)?,
-            packages: Seq::read(alloc, format, from)?,
-            files: Seq::read(alloc, format, from)?,
+            jobs,
+            packages,
+            files,
         })
     }
 }

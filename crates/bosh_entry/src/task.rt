@@ -1,9 +1,12 @@
 ghost use Rattle.std.specs.Prelude.{◌≡◌};
+ghost use Rattle.bosh_entry.specs.Reading.{Gives};
+ghost use Rattle.bosh_entry.specs.Task.{fault_at, gone_at};
 
 use crate::coded::Coded;
 use crate::fault::EntryFault;
 use crate::format::Format;
 use crate::later::before_both_later;
+use crate::pair::{write_both, write_four, write_three};
 use crate::source::Source;
 use crate::variant::write_variant;
 use bosh_base::{Inst, Method, Owner, TaskEnd, TaskKind, TaskRow};
@@ -37,11 +40,11 @@ impl Coded for TaskKind {
     fn read(alloc: Global, format: Format, from: &mut Source) -> Result<Self, EntryFault> {
         match from.byte()? {
             0 => Ok(TaskKind::Deploy),
-            1 => Ok(TaskKind::Recreate(Inst::read(alloc, format, from)?)),
-            2 => Ok(TaskKind::Start(Inst::read(alloc, format, from)?)),
-            3 => Ok(TaskKind::Stop(Inst::read(alloc, format, from)?)),
+            1 => Inst::read(alloc, format, from).map(TaskKind::Recreate),
+            2 => Inst::read(alloc, format, from).map(TaskKind::Start),
+            3 => Inst::read(alloc, format, from).map(TaskKind::Stop),
             4 => Ok(TaskKind::DeleteDeployment),
-            5 => Ok(TaskKind::DeleteDisk(u64::read(alloc, format, from)?)),
+            5 => u64::read(alloc, format, from).map(TaskKind::DeleteDisk),
             6 => Ok(TaskKind::CleanUp),
             7 => match format {
                 Format::Older => Err(EntryFault::NotAnEntry),
@@ -49,11 +52,29 @@ impl Coded for TaskKind {
             },
             8 => match format {
                 Format::Older => Err(EntryFault::NotAnEntry),
-                Format::Present => Ok(TaskKind::Resolve(Inst::read(alloc, format, from)?))
+                Format::Present => Inst::read(alloc, format, from).map(TaskKind::Resolve)
             },
             _ => Err(EntryFault::NotAnEntry),
         }
     }
+}
+
+fn fault(alloc: Global, format: Format, from: &mut Source) -> Result<TaskEnd, EntryFault>
+    ensures { Gives result from.new.rest.now (fault_at from.old.rest.now) }
+{
+    let n = from.number()?;
+    let method = Method::read(alloc, format, from)?;
+    let owner = Owner::read(alloc, format, from)?;
+    Ok(TaskEnd::Fault { n, method, owner })
+}
+
+fn gone(alloc: Global, format: Format, from: &mut Source) -> Result<TaskEnd, EntryFault>
+    ensures { Gives result from.new.rest.now (gone_at from.old.rest.now) }
+{
+    let n = from.number()?;
+    let method = Method::read(alloc, format, from)?;
+    let owner = Owner::read(alloc, format, from)?;
+    Ok(TaskEnd::Gone { n, method, owner })
 }
 
 impl Coded for TaskEnd {
@@ -71,16 +92,12 @@ impl Coded for TaskEnd {
             TaskEnd::Finished => 0u8.write(out),
             TaskEnd::Fault { n, method, owner } => {
                 out.push(1)?;
-                n.write(out)?;
-                method.write(out)?;
-                owner.write(out)
+                write_three(n, method, owner, out)
             }
             TaskEnd::Interrupted => 2u8.write(out),
             TaskEnd::Gone { n, method, owner } => {
                 out.push(3)?;
-                n.write(out)?;
-                method.write(out)?;
-                owner.write(out)
+                write_three(n, method, owner, out)
             }
         }
     }
@@ -89,19 +106,11 @@ impl Coded for TaskEnd {
     fn read(alloc: Global, format: Format, from: &mut Source) -> Result<Self, EntryFault> {
         match from.byte()? {
             0 => Ok(TaskEnd::Finished),
-            1 => Ok(TaskEnd::Fault {
-                n: u64::read(alloc, format, from)?,
-                method: Method::read(alloc, format, from)?,
-                owner: Owner::read(alloc, format, from)?,
-            }),
+            1 => fault(alloc, format, from),
             2 => Ok(TaskEnd::Interrupted),
             3 => match format {
                 Format::Older => Err(EntryFault::NotAnEntry),
-                Format::Present => Ok(TaskEnd::Gone {
-                    n: u64::read(alloc, format, from)?,
-                    method: Method::read(alloc, format, from)?,
-                    owner: Owner::read(alloc, format, from)?,
-                })
+                Format::Present => gone(alloc, format, from),
             },
             _ => Err(EntryFault::NotAnEntry),
         }
@@ -119,12 +128,8 @@ impl Coded for TaskRow {
 
     #[tactic(auto, unfolding(crate::specs::Task::task_row, crate::specs::Task::is_task_row))]
     fn write(&self, out: &mut Vec<u8>) -> Result<(), EntryFault> {
-        self.task.write(out)?;
-        self.kind.write(out)?;
-        self.dep.write(out)?;
-        self.end.write(out)?;
-        self.source.write(out)?;
-        self.calls.write(out)
+        write_four(&self.task, &self.kind, &self.dep, &self.end, out)?;
+        write_both(&self.source, &self.calls, out)
     }
 
     #[tactic(auto, using(crate::proofs::StructLemmas::task_row_parts))]

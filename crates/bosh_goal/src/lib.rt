@@ -8,6 +8,3 @@ mod laws;
 pub use bare::bare_goal;
 pub use fault::GoalFault;
 pub use laws::bare_rows_are_its_instances;
-
-#[cfg(test)]
-mod tests;

@@ -9,6 +9,3 @@ mod request;
 pub use fault::InputFault;
 pub use input::Input;
 pub use request::Request;
-
-#[cfg(test)]
-mod tests;

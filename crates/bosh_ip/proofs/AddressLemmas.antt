@@ -5,7 +5,6 @@ use Rattle.std.specs.Net.Addr.{ipv4_octets, ipv4_bits}
 use Rattle.std.specs.Net.Grammar.{IsIpv4Text}
 use Rattle.std.specs.Net.Text.{dotted_text}
 use Rattle.std.proofs.NetLemmas.Theorems.{IsIpv4Text_unique}
-use Rattle.std.specs.Int.{w32, to_be_bytes}
 use Rattle.std.specs.Net.Text.{ipv4_text}
 use Rattle.std.proofs.NetLemmas.Alphabet.{IsDigitOrDot, All-ipv4_text}
 use Rattle.std.proofs.lemmas.List.Elements.{All-weaker, All-same}
@@ -65,11 +64,6 @@ SpellsAddr_unique text m n h k =
     let c : m / 2 ^ 8 % 2 ^ 8 ≡ n / 2 ^ 8 % 2 ^ 8 = ap (λ x. get_or (ipv4_octets x) 2 0) same in
     let d : m % 2 ^ 8 ≡ n % 2 ^ 8 = ap (λ x. get_or (ipv4_octets x) 3 0) same in
     omega arith
-
--- std writes it of the four bytes, the highest first
-pub spelling_of_addr-bytes : (n : ℕ) → n < 2 ^ 32 → ipv4_text (to_be_bytes w32 n) ≡ spelling_of_addr n
-spelling_of_addr-bytes n fits =
-    spelling_of_addr-octets (n / 2 ^ 24 % 256) (n / 2 ^ 16 % 256) (n / 2 ^ 8 % 256) (n % 256) n (omega arith) (omega arith) (omega arith) (omega arith) (omega arith)
 
 -- each octet is a byte
 octets_fit : (n : ℕ) → n < 2 ^ 32 → (k : ℕ) → get_or (octets n) k 0 < 2 ^ 8

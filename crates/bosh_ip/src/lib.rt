@@ -9,11 +9,8 @@ mod laws;
 mod network;
 mod range;
 
-pub use address::{parse_addr, show_addr};
+pub use address::{add_addr, parse_addr, show_addr};
 pub use fault::IpFault;
 pub use laws::{refused_spells_none, shown_reads_back, spelled_once};
 pub use network::{Cidr, contains, parse_cidr};
 pub use range::{Span, parse_range};
-
-#[cfg(test)]
-mod tests;

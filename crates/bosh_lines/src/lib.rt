@@ -10,6 +10,3 @@ mod word;
 pub use command::{Command, parse_line};
 pub use fault::LineFault;
 pub use variable::Variable;
-
-#[cfg(test)]
-mod tests;

@@ -11,6 +11,3 @@ pub use consumer::{Consumer, Source};
 pub use fault::LinkFault;
 pub use provider::Provider;
 pub use resolution::resolve;
-
-#[cfg(test)]
-mod tests;

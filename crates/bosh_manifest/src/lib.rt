@@ -7,6 +7,3 @@ mod field;
 
 pub use bare::{BareGroup, BareManifest, read_bare};
 pub use fault::ManFault;
-
-#[cfg(test)]
-mod tests;

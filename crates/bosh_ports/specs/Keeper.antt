@@ -10,8 +10,8 @@ abbrev pub FailsByCount : {T : Type 0} → Result T KeepFault → ℕ → ℕ �
 FailsByCount (Err Failed) before after = Rose before after
 FailsByCount answer before after = Unit {0}
 
--- Whether the keeper was broken, and whether it is now: `Broken` comes exactly where it was, a failure breaks it, and any
--- other answer leaves it whole.
+-- Whether the keeper was broken, and whether it is now: `Broken` comes exactly where it was, a failure breaks it, and
+-- any other answer leaves it whole.
 abbrev pub TellsBroken : {T : Type 0} → Result T KeepFault → Bool → Bool → Type 0
 TellsBroken (Ok value) was is = (was ≡ false) × (is ≡ false)
 TellsBroken (Err Failed) was is = (was ≡ false) × (is ≡ true)
@@ -25,8 +25,8 @@ TellsMended (Err Failed) was is = is ≡ true
 TellsMended (Err Broken) was is = ⊥
 TellsMended (Err Memory) was is = is ≡ was
 
--- The list that a call leaves which is to make one list of another: the new one, after a failure the old or the new one,
--- and else the old one.
+-- The list that a call leaves which is to make one list of another: the new one, after a failure the old or the new
+-- one, and else the old one.
 abbrev pub Leaves : {T : Type 0} → Result T KeepFault → List (List ℕ) → List (List ℕ) → Option (List (List ℕ)) → Type 0
 Leaves (Ok value) before intended after = after ≡ Some intended
 Leaves (Err Failed) before intended after = (after ≡ Some before) ⊎ (after ≡ Some intended)

@@ -1,6 +1,8 @@
 pub mod Contents
+pub mod Errors
 pub mod Failing
 pub mod Faults
+pub mod Inside
 pub mod Keeper
 pub mod MemShelf
 pub mod MemSink
@@ -9,3 +11,5 @@ pub mod Rigged
 pub mod Shelf
 pub mod Sink
 pub mod Source
+pub mod Streams
+pub mod Walk

@@ -7,8 +7,8 @@ use Rattle.bosh_ports.specs.declared.rig.Rig.{Rig}
 use Rattle.bosh_ports.specs.declared.rig.Rig.TheVariants.{FailLost, FailKept, StopBefore, StopAfter}
 use Rattle.bosh_ports.specs.declared.rig.Armed.{Armed}
 
--- the keeper below, the rigs in the order in which they were set, the one that has sprung since the last reload, and how
--- often one did
+-- the keeper below, the rigs in the order in which they were set, the one that has sprung since the last reload, and
+-- how often one did
 pub record RigState (K : Type 0) : Type 0 where
   pub inner : K
   pub armed : List Armed
@@ -64,8 +64,9 @@ abbrev pub KeptBelow : {K : Type 0} → (K → Option (List (List ℕ))) → (K 
 KeptBelow bodies faults was body now =
     IfSome (bodies was) (λ before. (bodies now ≡ Some (before ++ body ∷ [])) ⊎ Rose (faults was) (faults now))
 
--- What a failed append did below, by the rig that sprang: one that keeps passed the body on, to the end of the list unless
--- the keeper below failed too; one that loses left the keeper below as it was; where none sprang, the keeper below failed.
+-- What a failed append did below, by the rig that sprang: one that keeps passed the body on, to the end of the list
+-- unless the keeper below failed too; one that loses left the keeper below as it was; where none sprang, the keeper
+-- below failed.
 abbrev pub FailedBelow : {K : Type 0} → Option Rig → (K → Option (List (List ℕ))) → (K → ℕ) → K → List ℕ → K → Type 0
 FailedBelow (Some FailLost) bodies faults was body now = now ≡ was
 FailedBelow (Some StopBefore) bodies faults was body now = now ≡ was
@@ -73,9 +74,12 @@ FailedBelow (Some FailKept) bodies faults was body now = KeptBelow bodies faults
 FailedBelow (Some StopAfter) bodies faults was body now = KeptBelow bodies faults was body now
 FailedBelow None bodies faults was body now = Rose (faults was) (faults now)
 
--- the same, of the answer of an append
-abbrev pub FailedAppend : {K T : Type 0} → (K → Option (List (List ℕ))) → (K → ℕ) → Result T KeepFault → RigState K → List ℕ → RigState K → Type 0
-FailedAppend bodies faults (Err Failed) was body now = FailedBelow (due was.armed) bodies faults was.inner body now.inner
+-- the same, of the answer of an append; one that found the keeper broken left the keeper below as it was
+abbrev pub FailedAppend : {K T : Type 0} → (K → Option (List (List ℕ))) → (K → ℕ) → Result T KeepFault →
+    RigState K → List ℕ → RigState K → Type 0
+FailedAppend bodies faults (Err Failed) was body now =
+    FailedBelow (due was.armed) bodies faults was.inner body now.inner
+FailedAppend bodies faults (Err Broken) was body now = now.inner ≡ was.inner
 FailedAppend bodies faults answer was body now = Unit {0}
 
 -- a reload that is done ends what had sprung

@@ -1,5 +1,5 @@
--- A shelf is a map from paths to bytes. Where it is told, it is the list of its files, each a path and its bytes, in the
--- byte order of the paths and each path once.
+-- A shelf is a map from paths to bytes. Where it is told, it is the list of its files, each a path and its bytes, in
+-- the byte order of the paths and each path once.
 use Rattle.std.specs.Prelude.{◌≡◌, ℕ, ◌<◌, ◌≤◌, ◌==◌, Bool, true, false, cond, List, [], ◌∷◌, ◌++◌, length, map, filter, All, nat_eq, Option, Some, None, IsSomeAnd, Result, Ok, Err, Vec, if◌then◌else◌}
 use Rattle.std.specs.List.{starts_with, list_any}
 use Rattle.std.specs.List.Sorted.{IsStrictlySortedBy}
@@ -55,8 +55,8 @@ abbrev pub FailsByCount : {T : Type 0} → Result T ShelfFault → ℕ → ℕ �
 FailsByCount (Err Failed) before after = Rose before after
 FailsByCount answer before after = Unit {0}
 
--- The answer about the file at a path: its bytes; `Absent` exactly where there is none; `TooLarge` exactly where it has more
--- than 1,048,576 bytes. A failure and want of memory come before these.
+-- The answer about the file at a path: its bytes; `Absent` exactly where there is none; `TooLarge` exactly where it has
+-- more than 1,048,576 bytes. A failure and want of memory come before these.
 abbrev pub AnswersFile : Result (Vec ℕ Global) ShelfFault → Option (List ℕ) → Type 0
 AnswersFile (Ok bytes) file = (file ≡ Some bytes.items) × (length bytes.items ≤ 1048576)
 AnswersFile (Err Absent) file = file ≡ None
@@ -64,8 +64,8 @@ AnswersFile (Err TooLarge) file = IsSomeAnd file (λ bytes. 1048576 < length byt
 AnswersFile (Err Failed) file = Unit {0}
 AnswersFile (Err Memory) file = Unit {0}
 
--- The answer about the paths below a folder: all of them; `Absent` exactly where there is none; `TooLarge` exactly where there
--- are more than 4,096. A failure and want of memory come before these.
+-- The answer about the paths below a folder: all of them; `Absent` exactly where there is none; `TooLarge` exactly
+-- where there are more than 4,096. A failure and want of memory come before these.
 abbrev pub AnswersPaths : Result (List (List ℕ)) ShelfFault → List (List ℕ) → Type 0
 AnswersPaths (Ok paths) below = (paths ≡ below) × (1 ≤ length below) × (length below ≤ 4096)
 AnswersPaths (Err Absent) below = below ≡ []

@@ -1,14 +1,17 @@
 // The files below the current folder as a shelf.
 ghost use Rattle.std.specs.Prelude.{◌≡◌, ◌≤◌, None, IfOk, length};
-ghost use Rattle.bosh_ports.specs.Shelf.{IsListing};
+ghost use Rattle.std.specs.BTreeMap.{keys};
+ghost use Rattle.bosh_ports.specs.Shelf.{AllOneLine, IsListing};
 
 use crate::folder::{files_below, kind_at, read_whole};
+use crate::inside::inside;
 use crate::listing::paths_below;
 use crate::shelf::MOST_BYTES;
+use crate::walk::Found;
 use crate::{Paths, Shelf, ShelfFault};
 use std::alloc::Global;
+use std::fs;
 use std::fs::Files;
-use std::{fs, str};
 
 /// The files below the current folder of a runtime. It reads nothing outside that folder, follows no symbolic link, and
 /// passes over names that are no text or have a line feed. It does not tell its files.
@@ -19,7 +22,9 @@ pub struct FolderShelf<'a, R: Files + AllocGlobal + Clone + Drop> {
 }
 
 impl<'a, R: Files + AllocGlobal + Clone + Drop> FolderShelf<'a, R> {
-    pub fn new(rt: &'a R) -> FolderShelf<'a, R> {
+    pub fn new(rt: &'a R) -> FolderShelf<'a, R>
+        ensures { result.faults ≡ 0 }
+    {
         FolderShelf { rt, faults: 0 }
     }
 }
@@ -50,17 +55,23 @@ impl<'a, R: Files + AllocGlobal + Clone + Drop> Shelf for FolderShelf<'a, R> {
     }
 }
 
+// A path that leads outside is absent.
 fn read_file<R: Files>(alloc: Global, rt: &R, path: &[u8]) -> Result<Vec<u8>, ShelfFault>
     ensures { IfOk result (λ bytes. length bytes.items ≤ MOST_BYTES) }
 {
-    let Some(place) = inside(path) else {
-        return Err(ShelfFault::Absent);
-    };
+    match inside(path) {
+        Some(place) => read_at(alloc, rt, place),
+        None => Err(ShelfFault::Absent),
+    }
+}
+
+fn read_at<R: Files>(alloc: Global, rt: &R, place: &str) -> Result<Vec<u8>, ShelfFault>
+    ensures { IfOk result (λ bytes. length bytes.items ≤ MOST_BYTES) }
+{
     if !kind_at(alloc, rt, place)?.is_file() {
         return Err(ShelfFault::Absent);
     }
-    let mut file = fs::open(rt, place)?;
-    read_whole(alloc, &mut file)
+    read_whole(alloc, fs::open(rt, place)?)
 }
 
 fn list_folder<R: Files + AllocGlobal + Clone + Drop>(
@@ -70,26 +81,19 @@ fn list_folder<R: Files + AllocGlobal + Clone + Drop>(
 ) -> Result<Paths, ShelfFault>
     ensures { IfOk result (λ paths. IsListing folder.now paths) }
 {
-    let Some(place) = inside(folder) else {
-        return Err(ShelfFault::Absent);
-    };
-    if !kind_at(alloc, rt, place)?.is_dir() {
-        return Err(ShelfFault::Absent);
-    }
-    let found = files_below(alloc, rt, place)?;
+    let found = find_at(alloc, rt, folder)?;
     paths_below(alloc, &found, folder)
 }
 
-// The path as a text, where it leads to a place below the current folder and has no line feed.
-fn inside(path: &[u8]) -> Option<&str> {
-    let Ok(text) = str::from_utf8(path) else {
-        return None;
-    };
-    let leaves = text.is_empty()
-        || text.starts_with('/')
-        || text.split('/').any(|name| name == "..");
-    if leaves || text.contains('\n') || text.contains('\0') {
-        return None;
+fn find_at<R: Files + AllocGlobal + Clone + Drop>(
+    alloc: Global,
+    rt: &R,
+    folder: &[u8],
+) -> Result<Found, ShelfFault>
+    ensures { IfOk result (λ found. AllOneLine (keys found)) }
+{
+    match inside(folder) {
+        Some(place) if kind_at(alloc, rt, place)?.is_dir() => files_below(alloc, rt, place),
+        _ => Err(ShelfFault::Absent),
     }
-    Some(text)
 }

@@ -2,7 +2,7 @@
 ghost use Rattle.std.specs.Prelude.{◌≡◌, ◌<◌, [], length, set, false, Some, IfErr, OnOk};
 ghost use Rattle.bosh_ports.specs.declared.keeper.KeepFault.TheVariants.{Memory};
 
-use crate::{Bodies, CopyFault, KeepFault, Keeper};
+use crate::{Bodies, KeepFault, Keeper};
 use std::alloc::Global;
 use std::marker::Model;
 
@@ -78,13 +78,8 @@ impl Keeper for MemKeeper {
     }
 
     fn replace(&mut self, list: &Bodies) -> Result<(), KeepFault> {
-        match list.copy(self.alloc) {
-            Ok(copy) => {
-                self.bodies = copy;
-                Ok(())
-            }
-            Err(CopyFault::Memory) => Err(KeepFault::Memory),
-        }
+        self.bodies = list.copy(self.alloc)?;
+        Ok(())
     }
 
     fn reload(&mut self) -> Result<(), KeepFault> {

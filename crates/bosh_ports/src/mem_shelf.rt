@@ -1,8 +1,10 @@
 // A shelf in memory, for tests.
-ghost use Rattle.std.specs.Prelude.{◌≡◌, ◌≤◌, ◌+◌, ◌↔◌, [], None, Some, IfErr, IfOk, OnOk, IsErrOf, IsTrue, IsFalse, length, if◌then◌else◌};
+ghost use Rattle.std.specs.Prelude.{◌≡◌, ◌≤◌, ◌+◌, ◌↔◌, [], None, Some, IfErr, IfOk, OnOk, IsErrOf};
+ghost use Rattle.std.specs.Prelude.{IsTrue, IsFalse, length, if◌then◌else◌};
 ghost use Rattle.bosh_ports.specs.Faults.{NeverFalls, count_with};
-ghost use Rattle.bosh_ports.specs.Shelf.{AnswersFile, AnswersPaths, FailsByCount, IsListing, file_at, Places, has_line_feed, paths_below, placed};
-ghost use Rattle.bosh_ports.specs.MemShelf.{IsFailing, ShelfState};
+ghost use Rattle.bosh_ports.specs.Shelf.{AnswersFile, AnswersPaths, FailsByCount, IsListing, Places};
+ghost use Rattle.bosh_ports.specs.Shelf.{file_at, has_line_feed, paths_below, placed};
+ghost use Rattle.bosh_ports.specs.MemShelf.{IsFailing, ShelfState, faults_after};
 ghost use Rattle.bosh_ports.specs.declared.shelf.ShelfFault.TheVariants.{Memory};
 
 use crate::listing::paths_below;
@@ -29,7 +31,12 @@ impl Model for MemShelf {
 
     ghost Value = { ShelfState };
 
-    ghost view = { λ s. record { files = files_of s.files.entries; calls = s.calls; failing = s.failing; faults = s.faults } };
+    ghost view = { λ s. record {
+      files = files_of s.files.entries;
+      calls = s.calls;
+      failing = s.failing;
+      faults = s.faults;
+    } };
 
     ghost invariant = { λ s. AllOneLine (keys s.files) };
 }
@@ -60,8 +67,8 @@ impl MemShelf {
         Ok(())
     }
 
-    /// Makes call number `k` fail, of all calls of `read` and `list` from the making of the shelf on, counted from 1. It
-    /// takes the place of a call that was named before.
+    /// Makes call number `k` fail, of all calls of `read` and `list` from the making of the shelf on, counted from 1.
+    /// It takes the place of a call that was named before.
     pub fn fail(&mut self, k: u64)
         ensures { self.new ≡ record self.old { failing = Some k } }
     {
@@ -82,6 +89,7 @@ impl Shelf for MemShelf {
         ensures fails { IsErrOf result ShelfFault.Failed ↔ IsFailing self.old }
         ensures calls { self.new.calls ≡ count_with self.old.calls 1 }
         ensures failing { self.new.failing ≡ self.old.failing }
+        ensures faults { self.new.faults ≡ faults_after self.old.faults result }
         ensures answer { AnswersFile result (file_at self.old.files path.now) }
         ensures size { IfOk result (λ bytes. length bytes.items ≤ MOST_BYTES) }
         ensures files { Some self.new.files ≡ Some self.old.files }
@@ -102,6 +110,7 @@ impl Shelf for MemShelf {
         ensures fails { IsErrOf result ShelfFault.Failed ↔ IsFailing self.old }
         ensures calls { self.new.calls ≡ count_with self.old.calls 1 }
         ensures failing { self.new.failing ≡ self.old.failing }
+        ensures faults { self.new.faults ≡ faults_after self.old.faults result }
         ensures answer { AnswersPaths result (paths_below folder.now self.old.files) }
         ensures listing { IfOk result (λ paths. IsListing folder.now paths) }
         ensures files { Some self.new.files ≡ Some self.old.files }

@@ -15,7 +15,7 @@ pub enum Rig {
 }
 
 /// A rig that waits for its append.
-#[derive(Clone, Copy, Debug, PartialEq, Eq)]
+#[derive(Clone, Copy)]
 pub struct Armed {
     /// How many appends from now on its append is: 1 is the next one, and 0 an append of the past.
     pub appends: u64,

@@ -3,7 +3,8 @@ ghost use Rattle.std.specs.Prelude.{◌≡◌, ◌<◌, ◌≤◌, ◌++◌, [],
 ghost use Rattle.std.specs.Option.{ForSome};
 ghost use Rattle.bosh_ports.specs.Faults.{NeverFalls};
 ghost use Rattle.bosh_ports.specs.Keeper.{FailsByCount, IsBodyAt, Leaves, TellsBroken, TellsMended};
-ghost use Rattle.bosh_ports.specs.Rigged.{SameRigs, RigsAfter, FailedAppend, sprung_after, due, armed_after, broken_of, faults_of};
+ghost use Rattle.bosh_ports.specs.Rigged.{SameRigs, RigsAfter, FailedAppend, sprung_after, due, armed_after};
+ghost use Rattle.bosh_ports.specs.Rigged.{broken_of, faults_of};
 ghost use Rattle.bosh_ports.specs.declared.keeper.KeepFault.TheVariants.{Memory};
 
 use crate::{Armed, Bodies, KeepFault, Keeper, Rig};
@@ -45,7 +46,8 @@ impl<K: Keeper> Rigged<K> {
     /// An append that ends for want of memory leaves the rigs as they were.
     pub fn rig(&mut self, k: u64, how: Rig) -> Result<(), KeepFault>
         requires { 1 ≤ k }
-        ensures ok { OnOk result (self.new ≡ record self.old { armed = self.old.armed ++ record { appends = k; how = how } ∷ [] }) }
+        ensures ok { OnOk result
+            (self.new ≡ record self.old { armed = self.old.armed ++ record { appends = k; how = how } ∷ [] }) }
         ensures memory { IfErr result (λ fault. (fault ≡ KeepFault.Memory) × (self.new ≡ self.old)) }
     {
         self.armed.push(Armed { appends: k, how })?;
@@ -105,7 +107,8 @@ impl<K: Keeper> Keeper for Rigged<K> {
     fn append(&mut self, body: &[u8]) -> Result<(), KeepFault>
         ensures rigs { RigsAfter result self.old self.new }
         ensures below { FailedAppend K.bodies K.faults result self.old body.now self.new }
-        ensures list { IfSome (K.bodies self.old.inner) (λ list. Leaves result list (list ++ body.now ∷ []) (K.bodies self.new.inner)) }
+        ensures list { IfSome (K.bodies self.old.inner)
+            (λ list. Leaves result list (list ++ body.now ∷ []) (K.bodies self.new.inner)) }
         ensures broken { TellsBroken result (broken_of K.is_broken self.old) (broken_of K.is_broken self.new) }
         ensures count { NeverFalls (faults_of K.faults self.old) (faults_of K.faults self.new) }
         ensures failed { FailsByCount result (faults_of K.faults self.old) (faults_of K.faults self.new) }
@@ -135,7 +138,8 @@ impl<K: Keeper> Keeper for Rigged<K> {
 
     fn replace(&mut self, list: &Bodies) -> Result<(), KeepFault>
         ensures rigs { SameRigs self.old self.new }
-        ensures list { IfSome (K.bodies self.old.inner) (λ before. Leaves result before list.now (K.bodies self.new.inner)) }
+        ensures list { IfSome (K.bodies self.old.inner)
+            (λ before. Leaves result before list.now (K.bodies self.new.inner)) }
         ensures broken { TellsBroken result (broken_of K.is_broken self.old) (broken_of K.is_broken self.new) }
         ensures count { NeverFalls (faults_of K.faults self.old) (faults_of K.faults self.new) }
         ensures failed { FailsByCount result (faults_of K.faults self.old) (faults_of K.faults self.new) }

@@ -1,7 +1,8 @@
 // Files by their paths.
 ghost use Rattle.std.specs.Prelude.{◌≡◌, ◌≤◌, ℕ, List, Option, Some, IfSome, IfOk, length};
 ghost use Rattle.bosh_ports.specs.Faults.{NeverFalls};
-ghost use Rattle.bosh_ports.specs.Shelf.{AnswersFile, AnswersPaths, FailsByCount, IsListing, file_at, has_line_feed, is_below, paths_below};
+ghost use Rattle.bosh_ports.specs.Shelf.{AnswersFile, AnswersPaths, FailsByCount, IsListing};
+ghost use Rattle.bosh_ports.specs.Shelf.{file_at, has_line_feed, is_below, paths_below};
 ghost use Rattle.bosh_ports.specs.declared.shelf.ShelfFault.TheVariants.{Memory};
 
 use crate::Paths;
@@ -18,7 +19,8 @@ pub const MOST_PATHS: usize = 4_096;
 pub enum ShelfFault {
     /// There is no such file, or no file below the folder.
     Absent,
-    /// The file has more than `MOST_BYTES` bytes, or the folder more than `MOST_PATHS` paths.
+    /// The file has more than `MOST_BYTES` bytes, or more than `MOST_PATHS` paths lie below the folder. A shelf over the
+    /// system's folders says it also where more folders than that were to be read, the one asked for among them.
     TooLarge,
     /// The shelf failed, and the call may be made again.
     Failed,

@@ -28,7 +28,8 @@ pub trait Sink {
     fn put(&mut self, piece: &[u8]) -> Put
         requires { 0 < length piece.now }
         ensures fits { FitsPiece result piece.now }
-        ensures written { IfSome (written self.old) (λ before. written self.new ≡ Some (written_after result before piece.now)) }
+        ensures written { IfSome (written self.old)
+            (λ before. written self.new ≡ Some (written_after result before piece.now)) }
         ensures count { NeverFalls (faults self.old) (faults self.new) }
         ensures failed { FailsByCount result (faults self.old) (faults self.new) };
 }

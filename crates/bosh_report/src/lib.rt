@@ -15,6 +15,3 @@ mod task;
 
 pub use fault::ReportFault;
 pub use reply::say;
-
-#[cfg(test)]
-mod tests;

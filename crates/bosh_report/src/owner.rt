@@ -4,6 +4,7 @@ ghost use Rattle.bosh_report.specs.Owner.{addr_text, disk_name, disk_or_dash, in
 use crate::ReportFault;
 use crate::piece::{Piece, add, add_number};
 use bosh_base::{Addr, Inst, Name, Owner};
+use bosh_ip::add_addr;
 
 /// `GROUP/INDEX`
 pub(crate) fn add_member(out: &mut Vec<u8>, group: &Name, index: u32) -> Result<(), ReportFault>
@@ -82,15 +83,7 @@ impl Piece for Owner {
 impl Piece for Addr {
     ghost text = { addr_text };
 
-    #[tactic(auto, unfolding(bosh_ip::specs::Address::spelling_of_addr))]
     fn add_to(&self, out: &mut Vec<u8>) -> Result<(), ReportFault> {
-        let bits = u64::from(self.0);
-        add_number(out, bits >> 24)?;
-        add(out, b".")?;
-        add_number(out, (bits >> 16) % 256)?;
-        add(out, b".")?;
-        add_number(out, (bits >> 8) % 256)?;
-        add(out, b".")?;
-        add_number(out, bits % 256)
+        Ok(add_addr(out, self.0)?)
     }
 }

@@ -8,6 +8,3 @@ mod upd;
 pub use group_roll::{GroupRoll, may_begin};
 pub use limit::limit_of;
 pub use upd::Upd;
-
-#[cfg(test)]
-mod tests;

@@ -12,7 +12,6 @@ use crate::output::Output;
 use crate::value::{add_truth, add_value, given_value, literal_value, setting_value};
 use crate::{Env, LinkEnv, Part, SpecWord, Template, TemplateFault};
 use bosh_base::{Addr, Copyable, Prop, PropSpec, Text, is_same};
-use bosh_ip::show_addr;
 use std::alloc::Global;
 
 // The declaration of a property.
@@ -81,10 +80,9 @@ fn add_linked(
 fn add_addr(alloc: Global, addr: Addr, output: &mut Output) -> Result<(), TemplateFault>
     ensures { Adds result output.old output.new (Ok (addr_text addr)) }
 {
-    match show_addr(alloc, addr.0) {
-        Ok(text) => output.add(text.as_slice()),
-        Err(_) => Err(TemplateFault::Memory),
-    }
+    let mut text = Vec::new(alloc);
+    bosh_ip::add_addr(&mut text, addr.0)?;
+    output.add(text.as_slice())
 }
 
 // Adds the address of one of the provider's instances.

@@ -20,8 +20,6 @@ mod plain;
 mod quoted;
 mod reader;
 mod scan;
-#[cfg(test)]
-mod tests;
 mod text;
 mod word;
 

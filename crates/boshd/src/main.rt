@@ -4,8 +4,9 @@
 mod words;
 
 use crate::words::read_words;
-use bosh_ports::{FolderShelf, MemKeeper, OpenGate, StdinSource, StdoutSink};
+use bosh_ports::{FolderShelf, MemKeeper, OpenGate, Reading, Writing};
 use first_session::{Status, run};
+use std::io;
 use std::process::ExitCode;
 
 fn main(rt: HostRuntime) -> ExitCode {
@@ -13,8 +14,8 @@ fn main(rt: HostRuntime) -> ExitCode {
     let Ok(words) = read_words(alloc, &rt) else {
         return ExitCode::from(Status::Memory.code());
     };
-    let mut input = StdinSource::new(&rt);
-    let mut out = StdoutSink::new(&rt);
+    let mut input = Reading::new(rt.reader());
+    let mut out = Writing::new(io::writer(&rt));
     let mut shelf = FolderShelf::new(&rt);
     let ended = run(
         alloc,

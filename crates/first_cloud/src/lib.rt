@@ -8,6 +8,3 @@ mod machine;
 pub use cloud::SimCloud;
 pub use fault::CloudFault;
 pub use machine::creation_adds_a_machine;
-
-#[cfg(test)]
-mod tests;

@@ -24,6 +24,3 @@ pub use refusal::{NotYet, full, not_yet, stopped, unknown_command};
 pub use session::{Ended, session_plain};
 pub use status::Status;
 pub use text_fault::TextFault;
-
-#[cfg(test)]
-mod tests;

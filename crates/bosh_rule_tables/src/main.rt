@@ -1,0 +1,19 @@
+//! Answers the cases of the tables of rules and replies that its words name, or of all tables of the current folder,
+//! and tells each that comes out otherwise than it states.
+#![tactic(auto)]
+
+mod calls;
+mod networks;
+mod replies;
+mod rolls;
+mod ties;
+mod works;
+
+use crate::calls::RuleCalls;
+use bosh_case_runner::run_tables;
+use std::io;
+use std::process::ExitCode;
+
+fn main(rt: HostRuntime) -> io::Result<ExitCode> {
+    run_tables(&rt, &RuleCalls)
+}

@@ -1,5 +1,0 @@
-//! Tests of the filling of nodes. They stand apart, since a crate with tests is proved twice.
-#![tactic(auto)]
-
-#[cfg(test)]
-mod rows;
