@@ -5,3 +5,4 @@ pub mod NextStep
 pub mod Same
 pub mod Standing
 pub mod Tied
+pub mod Told

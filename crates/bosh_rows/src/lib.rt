@@ -2,6 +2,8 @@
 //! wanted, and when it is what the cloud has.
 #![tactic(auto)]
 
+mod laws;
 mod step;
 
+pub use laws::an_answer_says;
 pub use step::Step;

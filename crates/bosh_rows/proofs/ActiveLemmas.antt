@@ -1,0 +1,35 @@
+-- What an answer leaves of the active disk of a row.
+use Rattle.std.proofs.Common.{◌≡◌, ℕ, Bool, true, false, not, ◌||◌, ◌==◌, if◌then◌else◌, Option, Some, None, List, [], ◌∷◌, ◌++◌, refl, arith}
+use Rattle.std.specs.Prelude.{map}
+use Rattle.std.proofs.lemmas.Bool.Decides.{eqb_tells}
+use Rattle.bosh_base.specs.declared.answer.Answer.{Answer}
+use Rattle.bosh_base.specs.declared.answer.Answer.TheVariants as answers
+use Rattle.bosh_base.specs.declared.call.Call.{Call}
+use Rattle.bosh_base.specs.declared.call.Call.TheVariants.{CreateVm, DeleteVm, HasVm, FindVm, CreateDisk, DeleteDisk, HasDisk, FindDisk, AttachDisk, DetachDisk, GetDisks, Ping, GetState, Apply, Start, Drain, Stop, MountDisk, UnmountDisk, ListDisk, MigrateDisk, CompilePackage}
+use Rattle.bosh_base.specs.declared.disk_want.DiskWant.{DiskWant}
+use Rattle.bosh_base.specs.declared.row.DiskRow.{DiskRow}
+use Rattle.bosh_base.specs.declared.row.Doubt.{Doubt}
+use Rattle.bosh_base.specs.declared.row.Role.TheVariants.{Active, Old}
+use Rattle.bosh_base.specs.declared.row.Row.{Row}
+use Rattle.bosh_rows.specs.After.{after, attach, mount, unmount, let_go, attached_by, mounted_by, changing, migrated, new_role, with_disk, with_found}
+use Rattle.bosh_rows.specs.Told.{active_number, disk_told, first_number, is_migration, CanMigrate}
+
+-- a change of each disk that keeps its number and its role keeps the active one
+active_mapped : (change : DiskRow → DiskRow) → ((d : DiskRow) → (change d).disk ≡ d.disk) → ((d : DiskRow) → (change d).role ≡ d.role)
+    → (disks : List DiskRow) → active_number (map change disks) ≡ active_number disks
+active_mapped change number role [] = refl
+active_mapped change number role (d ∷ disks) = grind (arith, number d, role d, active_mapped change number role disks)
+
+active_changed : (n : ℕ) (change : DiskRow → DiskRow) → ((d : DiskRow) → (change d).disk ≡ d.disk) → ((d : DiskRow) → (change d).role ≡ d.role)
+    → (disks : List DiskRow) → active_number (changing n change disks) ≡ active_number disks
+active_changed n change number role [] = refl
+active_changed n change number role (d ∷ disks) = grind (arith, eqb_tells d.disk n, number d, role d, active_changed n change number role disks)
+
+-- one more disk is active where none was
+active_added : (made : DiskRow) (disks : List DiskRow) → made.role ≡ new_role disks → active_number (disks ++ made ∷ []) ≡ first_number (active_number disks) (Some made.disk)
+active_added made [] role = grind (arith)
+active_added made (d ∷ disks) role = grind (arith, active_added made disks)
+
+active_with : (tag : ℕ) (wanted : DiskWant) (found : Option ℕ) (row : Row) → active_number (with_disk tag wanted found row).disks ≡ first_number (active_number row.disks) found
+active_with tag wanted (Some d) row = active_added (record { disk = d; tag = tag; want = wanted; role = new_role row.disks; attached = false; mounted = false }) row.disks refl
+active_with tag wanted None row = grind (arith)

@@ -1,0 +1,19 @@
+ghost use Rattle.std.specs.Prelude.{◌≡◌, ℕ, false, None};
+ghost use Rattle.bosh_base.specs.declared.answer.Answer.{Answer};
+ghost use Rattle.bosh_base.specs.declared.call.Call.{Call};
+ghost use Rattle.bosh_base.specs.declared.row.Row.{Row};
+ghost use Rattle.bosh_rows.specs.After.{after};
+ghost use Rattle.bosh_rows.specs.Told.{machine_told, or_before, running_told, says_absent, spec_told};
+
+/// What an answer leaves of the machine of a row, of its spec and of whether it runs: what the answer says of it; nothing
+/// where it says that the machine is absent; and else what was recorded before.
+#[tactic(auto, using(crate::proofs::ToldLemmas::machine_after, crate::proofs::ToldLemmas::spec_after, crate::proofs::ToldLemmas::running_after))]
+pub fn an_answer_says()
+    ensures machine { (n : ℕ) (call : Call) (answer : Answer) (row : Row) →
+        (after n call answer row).vm ≡ or_before (says_absent row call answer) None (machine_told n call answer) row.vm }
+    ensures spec { (n : ℕ) (call : Call) (answer : Answer) (row : Row) →
+        (after n call answer row).spec ≡ or_before (says_absent row call answer) None (spec_told call answer) row.spec }
+    ensures running { (n : ℕ) (call : Call) (answer : Answer) (row : Row) →
+        (after n call answer row).running
+        ≡ or_before (says_absent row call answer) false (running_told call answer) row.running }
+{}
