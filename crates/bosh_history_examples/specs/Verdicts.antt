@@ -11,7 +11,13 @@ use Rattle.bosh_history.specs.Moments.{Moment, later, noted}
 use Rattle.bosh_history.specs.Notes.{Outside}
 use Rattle.bosh_history.specs.Permitted.{IsPermitted, IsRunFrom}
 use Rattle.bosh_history.specs.Recovered.{follows}
-use Rattle.bosh_history.specs.Safe.{is_deletion_asked, shares_no_address, rolls_on, durable_well, compiles_once, keeps_disks, noted_well, in_phase}
+use Rattle.bosh_history.specs.Addresses.{shares_no_address}
+use Rattle.bosh_history.specs.CompileKeys.{compiles_once}
+use Rattle.bosh_history.specs.Deletions.{is_deletion_asked}
+use Rattle.bosh_history.specs.DiskContents.{keeps_disks}
+use Rattle.bosh_history.specs.Each.{durable_well, noted_well}
+use Rattle.bosh_history.specs.Phases.{in_phase}
+use Rattle.bosh_history.specs.Rolling.{rolls_on}
 use Rattle.bosh_history.specs.Sound.{is_sound}
 use Rattle.bosh_history.specs.Ties.{is_tied}
 use Rattle.bosh_history_examples.specs.Scenes.{Builder, History}
