@@ -5,5 +5,6 @@ use Rattle.bosh_base.specs.declared.entry.Entry.{Entry}
 use Rattle.bosh_history.specs.Known.{nothing_known}
 use Rattle.bosh_history.specs.Learn.{learn, known_of}
 
-pub known_of_last : (entries : List Entry) (entry : Entry) → known_of (entries ++ entry ∷ []) ≡ learn (known_of entries) entry
+pub known_of_last : (entries : List Entry) (entry : Entry) → known_of (entries ++ entry ∷ []) ≡ learn
+    (known_of entries) entry
 known_of_last entries entry = fold-append learn nothing_known entries (entry ∷ [])

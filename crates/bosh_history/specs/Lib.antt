@@ -9,6 +9,7 @@ pub mod DiskContents
 pub mod Each
 pub mod Exact
 pub mod Fit
+pub mod Frame
 pub mod Goals
 pub mod Held
 pub mod Items

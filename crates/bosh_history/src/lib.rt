@@ -4,4 +4,4 @@
 
 mod laws;
 
-pub use laws::one_more_entry;
+pub use laws::{an_entry_leaves_the_others, one_more, runs_go_on, the_durable_entries_tell};
