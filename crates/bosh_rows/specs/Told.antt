@@ -50,14 +50,15 @@ or_before absent none None before = if absent then none else before
 abbrev pub active_number : List DiskRow → Option ℕ
 active_number disks = option_map (λ d. d.disk) (active disks)
 
+-- the disk that is found, where the call that is looked for asked for one
+abbrev pub disk_made : Option ℕ → Call → Option ℕ
+disk_made found (CreateDisk wanted vm) = found
+disk_made found call = None
+
 -- the disk that an answer says is there, which becomes active where none is
 abbrev pub disk_told : Call → Answer → Option Doubt → Option ℕ
 disk_told (CreateDisk wanted vm) (answers.Cid d) doubt = Some d
-disk_told (FindDisk tag) (answers.Found found) doubt = option_and_then (λ it. made found it.call) doubt
-  where
-    made : Option ℕ → Call → Option ℕ
-    made found (CreateDisk wanted vm) = found
-    made found call = None
+disk_told (FindDisk tag) (answers.Found found) doubt = option_and_then (λ it. disk_made found it.call) doubt
 disk_told call answer doubt = None
 
 -- the first, or where there is none the second

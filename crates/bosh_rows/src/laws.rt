@@ -3,7 +3,7 @@ ghost use Rattle.bosh_base.specs.declared.answer.Answer.{Answer};
 ghost use Rattle.bosh_base.specs.declared.call.Call.{Call};
 ghost use Rattle.bosh_base.specs.declared.row.Row.{Row};
 ghost use Rattle.bosh_rows.specs.After.{after};
-ghost use Rattle.bosh_rows.specs.Told.{machine_told, or_before, running_told, says_absent, spec_told};
+ghost use Rattle.bosh_rows.specs.Told.{active_number, disk_told, first_number, is_migration, machine_told, or_before, running_told, says_absent, spec_told};
 
 /// What an answer leaves of the machine of a row, of its spec and of whether it runs: what the answer says of it; nothing
 /// where it says that the machine is absent; and else what was recorded before.
@@ -16,4 +16,13 @@ pub fn an_answer_says()
     ensures running { (n : ℕ) (call : Call) (answer : Answer) (row : Row) →
         (after n call answer row).running
         ≡ or_before (says_absent row call answer) false (running_told call answer) row.running }
+{}
+
+/// The active disk of a row after an answer is the one before it, and where there was none the one that the answer says is
+/// there; a migration is told apart.
+#[tactic(auto, using(crate::proofs::ActiveLemmas::active_after))]
+pub fn an_answer_keeps_the_active_disk()
+    ensures { (n : ℕ) (call : Call) (answer : Answer) (row : Row) → is_migration call ≡ false →
+        active_number (after n call answer row).disks
+        ≡ first_number (active_number row.disks) (disk_told call answer row.doubt) }
 {}

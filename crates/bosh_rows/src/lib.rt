@@ -5,5 +5,5 @@
 mod laws;
 mod step;
 
-pub use laws::an_answer_says;
+pub use laws::{an_answer_keeps_the_active_disk, an_answer_says};
 pub use step::Step;
