@@ -1,5 +1,5 @@
 -- What an entry leaves as it is.
-use Rattle.std.proofs.Common.{◌≡◌, ℕ, Bool, true, false, ◌==◌, List, Option, Some, None, refl, ap, ◌∙◌, arith}
+use Rattle.std.proofs.Common.{◌≡◌, ℕ, Bool, false, ◌==◌, List, Option, Some, None, refl, ap, ◌∙◌, arith}
 use Rattle.std.proofs.lemmas.Bool.Decides.{eqb_tells}
 use Rattle.bosh_base.specs.declared.answer.Answer.{Answer}
 use Rattle.bosh_base.specs.declared.call.Call.{Call}
@@ -13,9 +13,9 @@ use Rattle.bosh_base.specs.declared.inst.Inst.{Inst}
 use Rattle.bosh_base.specs.declared.owner.Owner.{Owner}
 use Rattle.bosh_base.specs.declared.owner.Owner.TheVariants.{Instance, Compile, Disk}
 use Rattle.bosh_base.specs.declared.task.TaskKind.{TaskKind}
-use Rattle.bosh_history.specs.Calls.{begins, call_ended, compiles, ends_of, orphan_after, shows_gone, slot_answered}
+use Rattle.bosh_history.specs.Calls.{begins, call_ended, compiles, ends_of, orphan_after, slot_answered}
 use Rattle.bosh_history.specs.Frame.{names_row, names_task, is_of_row}
-use Rattle.bosh_history.specs.Known.{Known, Slot, Task, dep_of_task, want_in}
+use Rattle.bosh_history.specs.Known.{Known, Slot, dep_of_task, want_in}
 use Rattle.bosh_history.specs.Learn.{learn}
 use Rattle.bosh_history.specs.Slots.{slot_after}
 use Rattle.bosh_history.specs.Tasks.{settles}

@@ -5,7 +5,7 @@ use Rattle.std.proofs.lemmas.List.Sums.{fold-append}
 use Rattle.bosh_base.specs.declared.moves.Move.{Move}
 use Rattle.bosh_history.specs.Moments.{Opening, Moment, beginning, later, moment}
 use Rattle.bosh_history.specs.Notes.{Outside}
-use Rattle.bosh_history.specs.Permitted.{IsPermitted, IsRunFrom, IsRun}
+use Rattle.bosh_history.specs.Permitted.{IsRunFrom, IsRun}
 
 pub moment_of_last : (o : Opening) (moves : List Move) (move : Move)
     → moment o (moves ++ move ∷ []) ≡ later (moment o moves) move

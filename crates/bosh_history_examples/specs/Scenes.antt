@@ -1,5 +1,5 @@
 -- Small values that the histories are made of, and the moves in few words.
-use Rattle.std.specs.Prelude.{ℕ, ◌+◌, ◌-◌, Bool, true, false, codes, Option, Some, None, List, [], ◌∷◌, ◌++◌, take, drop, map, fold, replicate}
+use Rattle.std.specs.Prelude.{ℕ, ◌+◌, ◌-◌, Bool, codes, Option, Some, List, [], ◌∷◌, take, drop, map, fold, replicate}
 use Rattle.bosh_base.specs.declared.answer.Answer.{Answer}
 use Rattle.bosh_base.specs.declared.call.Call.{Call}
 use Rattle.bosh_base.specs.declared.digest.Digest.{Digest}
@@ -27,7 +27,7 @@ use Rattle.bosh_base.specs.declared.spec.Spec.{Spec}
 use Rattle.bosh_base.specs.declared.state.State.{State}
 use Rattle.bosh_base.specs.declared.stemcell.Stemcell.{Stemcell}
 use Rattle.bosh_base.specs.declared.task.TaskKind.{TaskKind}
-use Rattle.bosh_history.specs.Moments.{Opening, Moment, beginning, nothing, later}
+use Rattle.bosh_history.specs.Moments.{Moment, beginning, nothing, later}
 
 -- what a compilation gives
 abbrev pub Builder : Type 0

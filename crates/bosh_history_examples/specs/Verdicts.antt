@@ -1,5 +1,4 @@
 -- What the definitions say of a history: where it is first refused, and where it first breaks each law.
-use Prim.Native.Nat.{zero, suc}
 use Rattle.std.specs.Prelude.{◌≡◌, ℕ, ◌+◌, ◌-◌, Bool, true, if◌then◌else◌, Option, Some, None, List, [], ◌∷◌, take, drop, fold}
 use Rattle.bosh_base.specs.declared.entry.Entry.TheVariants as entries
 use Rattle.bosh_base.specs.declared.moves.Move.{Move}

@@ -1,6 +1,7 @@
 -- What an answer leaves of the active disk of a row.
-use Rattle.std.proofs.Common.{◌≡◌, ℕ, Bool, true, false, not, ◌||◌, ◌==◌, if◌then◌else◌, Option, Some, None, List, [], ◌∷◌, ◌++◌, refl, arith}
+use Rattle.std.proofs.Common.{◌≡◌, ℕ, Bool, true, false, not, ◌||◌, ◌==◌, if◌then◌else◌, Option, Some, None, List, [], ◌∷◌, ◌++◌, refl, ap, ◌∙◌, arith}
 use Rattle.std.specs.Prelude.{map}
+use Rattle.std.specs.List.{list_all, list_any}
 use Rattle.std.specs.Option.{option_and_then}
 use Rattle.std.proofs.lemmas.Bool.Decides.{eqb_tells}
 use Rattle.bosh_base.specs.declared.answer.Answer.{Answer}
@@ -10,9 +11,9 @@ use Rattle.bosh_base.specs.declared.call.Call.TheVariants.{CreateVm, DeleteVm, H
 use Rattle.bosh_base.specs.declared.disk_want.DiskWant.{DiskWant}
 use Rattle.bosh_base.specs.declared.row.DiskRow.{DiskRow}
 use Rattle.bosh_base.specs.declared.row.Doubt.{Doubt}
-use Rattle.bosh_base.specs.declared.row.Role.TheVariants.{Active, Old}
 use Rattle.bosh_base.specs.declared.row.Row.{Row}
 use Rattle.bosh_rows.specs.After.{after, attach, mount, unmount, let_go, attached_by, mounted_by, changing, migrated, new_role, with_disk, with_found}
+use Rattle.bosh_rows.specs.Disks.{is_active}
 use Rattle.bosh_rows.specs.Told.{active_number, disk_made, disk_told, first_number, is_migration, CanMigrate}
 
 -- a change of each disk that keeps its number and its role keeps the active one
@@ -90,3 +91,20 @@ active_after n (GetDisks x0) answer row other = grind (arith)
 active_after n (ListDisk x0) (answers.Disks numbers) row other =
     grind (arith, active_mapped (mounted_by numbers) (λ d. refl) (λ d. refl) row.disks)
 active_after n (ListDisk x0) answer row other = grind (arith)
+
+-- ---- a migration
+
+-- a disk of these is active, whichever it is, only where it is the one
+abbrev only_active : ℕ → List DiskRow → Bool
+only_active from disks = list_all (λ d. not (is_active d) || d.disk == from) disks
+
+active_of_migrated : (from to : ℕ) (disks : List DiskRow) → (from == to) ≡ false → only_active from disks ≡ true
+    → active_number (migrated from to disks) ≡ (if list_any (λ d. d.disk == to) disks then Some to else None)
+active_of_migrated from to [] other only = refl
+active_of_migrated from to (d ∷ disks) other only =
+    grind (arith, eqb_tells d.disk to, eqb_tells d.disk from, eqb_tells from to, active_of_migrated from to disks other)
+
+pub active_migrated : (from to : ℕ) (disks : List DiskRow) → CanMigrate from to disks
+    → active_number (migrated from to disks) ≡ Some to
+active_migrated from to disks can =
+    active_of_migrated from to disks can.other can.only ∙ ap (λ b. if b then Some to else None) can.is_there
