@@ -1,7 +1,6 @@
 -- What one answer says of a row.
 use Rattle.std.proofs.Common.{◌≡◌, ℕ, false, Option, None, arith}
 use Rattle.bosh_base.specs.declared.answer.Answer.{Answer}
-use Rattle.bosh_base.specs.declared.answer.Answer.TheVariants as answers
 use Rattle.bosh_base.specs.declared.call.Call.{Call}
 use Rattle.bosh_base.specs.declared.call.Call.TheVariants.{CreateVm, DeleteVm, HasVm, FindVm, CreateDisk, DeleteDisk, HasDisk, FindDisk, AttachDisk, DetachDisk, GetDisks, Ping, GetState, Apply, Start, Drain, Stop, MountDisk, UnmountDisk, ListDisk, MigrateDisk, CompilePackage}
 use Rattle.bosh_base.specs.declared.row.Doubt.{Doubt}
