@@ -20,8 +20,10 @@ pub mod Seen
 pub mod Canon
 pub mod Json
 pub mod Reading
+pub mod Repeats
 pub mod Limits
 pub mod Order
+pub mod Places
 pub mod SpelledWord
 pub mod SpelledFlow
 pub mod SpelledBlock

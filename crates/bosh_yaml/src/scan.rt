@@ -120,7 +120,7 @@ fn push_literal(
     ensures { Gives (λ u. events.new.items) result (add_event events.old.items (literal_event header indent (map (λ l. l.now) body.now))) }
 {
     let text = literal_text(alloc, header.chomping, indent, body)?;
-    let text = text_of(alloc, header.line, text.as_slice())?;
+    let text = text_of(header.line, text)?;
     events.push(Event::Scalar(Leaf::Text(text)))?;
     Ok(())
 }
