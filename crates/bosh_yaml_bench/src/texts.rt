@@ -27,6 +27,7 @@ pub(crate) enum Form {
 }
 
 // How a text begins, what stands before and behind the number in each part, and how it ends.
+#[derive(Clone, Copy)]
 struct Shape {
     begin: &'static [u8],
     before: &'static [u8],
@@ -37,7 +38,7 @@ struct Shape {
 // More bytes than one part of a text has, and its end.
 const PART: usize = 512;
 
-fn shape(
+fn made_of(
     begin: &'static [u8],
     before: &'static [u8],
     behind: &'static [u8],
@@ -53,36 +54,36 @@ fn shape(
 
 fn shape_of(form: Form) -> Shape {
     match form {
-        Form::Manifest => shape(
+        Form::Manifest => made_of(
             b"---\nname: dep\ninstance_groups:\n",
             b"- name: group-",
             b"\n  instances: 3\n  azs: [z1, z2]\n  vm_type: small   # a comment\n  jobs:\n  - name: web\n    release: r1\n    properties:\n      port: 8080\n      url: \"https://example.com/\"\n      enabled: true\n\n      motd: |\n        Welcome to the machine\n        of the group\n",
             b"",
         ),
-        Form::Mappings => shape(b"", b"instance-", b":\n  zone: 'z1'  # a comment\n", b""),
-        Form::Sequences => shape(b"[", b"[z1, \"z2\", ", b"], ", b"]\n"),
-        Form::Literals => shape(b"text: |\n", b"  line ", b" of the literal\n", b""),
-        Form::Quoted => shape(
+        Form::Mappings => made_of(b"", b"instance-", b":\n  zone: 'z1'  # a comment\n", b""),
+        Form::Sequences => made_of(b"[", b"[z1, \"z2\", ", b"], ", b"]\n"),
+        Form::Literals => made_of(b"text: |\n", b"  line ", b" of the literal\n", b""),
+        Form::Quoted => made_of(
             b"",
             b"- \"the quoted text of ",
             b"\"\n- 'it''s a text'\n",
             b"",
         ),
-        Form::Plain => shape(b"", b"- a plain scalar of ", b"\n", b""),
-        Form::Integers => shape(b"", b"- ", b"\n", b""),
-        Form::Comments => shape(
+        Form::Plain => made_of(b"", b"- a plain scalar of ", b"\n", b""),
+        Form::Integers => made_of(b"", b"- ", b"\n", b""),
+        Form::Comments => made_of(
             b"a: b\n",
             b"# a line of comment, the one of number ",
             b"\n",
             b"",
         ),
-        Form::Blanks => shape(
+        Form::Blanks => made_of(
             b"a: b\n",
             b"\n\n\n\n\n\n\n\n\n\n\n\n\n\n\n\n\n\n\n\n\n\n\n\n\n\n\n\n\n\n\n\n\n\n\n\n\n\n\n\n\n\n\n\n\n\n\n\n# ",
             b"\n",
             b"",
         ),
-        Form::Json => shape(
+        Form::Json => made_of(
             b"{\"groups\": [null",
             b", {\"name\": \"group-",
             b"\", \"instances\": 3, \"azs\": [\"z1\", \"z2\"], \"enabled\": true}",
