@@ -1,7 +1,7 @@
 //! Lines, and the spaces and comments on them.
 
 ghost use Rattle.std.specs.Prelude.{◌≡◌, ◌<◌, ◌≤◌, ◌∷◌, [], length, IfNone, IfSome};
-ghost use Rattle.bosh_yaml.specs.Lines.{begins as starts, is_blank as blank, is_clean as clean, is_end as end, is_gap as gap, lines_of, without_return as without_carriage, skip_spaces as skipped};
+ghost use Rattle.bosh_yaml.specs.Lines.{begins as starts, is_blank as blank, is_clean as clean, is_end as end, is_gap as gap, lines_of, without_return as without_carriage, skip_line_ends as without_ends, skip_spaces as skipped};
 
 use memchr::memchr;
 
@@ -50,6 +50,18 @@ pub(crate) fn skip_spaces(bytes: &[u8]) -> &[u8]
 {
     let mut rest = bytes;
     while let [b' ', after @ ..] = rest {
+        rest = after;
+    }
+    rest
+}
+
+// The bytes without the LFs at their front.
+pub(crate) fn skip_line_ends(bytes: &[u8]) -> &[u8]
+    ensures skipped { result.now ≡ without_ends bytes.now }
+    ensures no_longer { length result.now ≤ length bytes.now }
+{
+    let mut rest = bytes;
+    while let [b'\n', after @ ..] = rest {
         rest = after;
     }
     rest
