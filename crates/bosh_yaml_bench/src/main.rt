@@ -109,27 +109,51 @@ fn made(alloc: Global, form: &str, size: &str) -> Option<Vec<u8>> {
     text_of(alloc, form, 1024 * size).ok()
 }
 
-fn main(rt: HostRuntime) -> io::Result<ExitCode> {
-    let mut words = env::args(&rt)?;
-    let _program = words.next();
-    let (Some(form), Some(size), Some(work)) = (words.next(), words.next(), words.next()) else {
-        return Ok(ExitCode::SUCCESS);
-    };
-    let Some(text) = made(rt.alloc(), form.as_str(), size.as_str()) else {
-        return Ok(ExitCode::FAILURE);
-    };
-    if work.as_str() == "print" {
-        print!(rt; "{}", str::from_utf8(text.as_slice()).unwrap_or(""))?;
-        return Ok(ExitCode::SUCCESS);
-    }
-    let Some(work) = work_of(work.as_str()) else {
-        return Ok(ExitCode::FAILURE);
-    };
-    match time_of(&rt, rt.alloc(), work, text.as_slice()) {
+// Prints the time of a work.
+fn print_time(
+    rt: &(impl Clock + Print),
+    alloc: Global,
+    work: Work,
+    text: &[u8],
+) -> io::Result<ExitCode> {
+    match time_of(rt, alloc, work, text) {
         Some(took) => {
             println!(rt; "{}", took.as_micros())?;
             Ok(ExitCode::SUCCESS)
         }
         None => Ok(ExitCode::FAILURE),
     }
+}
+
+fn print_text(rt: &impl Print, text: &[u8]) -> io::Result<ExitCode> {
+    print!(rt; "{}", str::from_utf8(text).unwrap_or(""))?;
+    Ok(ExitCode::SUCCESS)
+}
+
+fn answer(
+    rt: &(impl Clock + Print),
+    alloc: Global,
+    form: &str,
+    size: &str,
+    work: &str,
+) -> io::Result<ExitCode> {
+    let Some(text) = made(alloc, form, size) else {
+        return Ok(ExitCode::FAILURE);
+    };
+    if work == "print" {
+        return print_text(rt, text.as_slice());
+    }
+    match work_of(work) {
+        Some(work) => print_time(rt, alloc, work, text.as_slice()),
+        None => Ok(ExitCode::FAILURE),
+    }
+}
+
+fn main(rt: HostRuntime) -> io::Result<ExitCode> {
+    let mut words = env::args(&rt)?;
+    let _program = words.next();
+    let (Some(form), Some(size), Some(work)) = (words.next(), words.next(), words.next()) else {
+        return Ok(ExitCode::SUCCESS);
+    };
+    answer(&rt, rt.alloc(), form.as_str(), size.as_str(), work.as_str())
 }
