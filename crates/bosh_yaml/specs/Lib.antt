@@ -9,6 +9,7 @@ pub mod Bare
 pub mod Quotes
 pub mod Result
 pub mod Word
+pub mod Fit
 pub mod Flow
 pub mod Block
 pub mod Content
