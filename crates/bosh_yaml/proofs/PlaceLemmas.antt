@@ -14,7 +14,6 @@ use Rattle.std.specs.Option.{option_map}
 use Rattle.std.proofs.Common.{Result, Ok, Err}
 use Rattle.std.proofs.lemmas.List.{length_push, map_push}
 use Rattle.std.proofs.lemmas.Option.{slice_get-get_or, slice_get-map, slice_get_past}
-use Rattle.std.specs.declared.alloc.AllocError.{AllocError}
 use Rattle.bosh_yaml.specs.declared.node.Node.{Node}
 use Rattle.bosh_yaml.specs.declared.places.Places.{Places}
 use Rattle.bosh_yaml.specs.View.{pair_of, tree_of}

@@ -1,5 +1,5 @@
 -- A refusal for a repeated key names the line on which the key stands the second time.
-use Rattle.std.proofs.Common.{◌≡◌, ◌≤◌, ℕ, suc, ◌+◌, ◌-◌, Bool, true, false, List, [], ◌∷◌, ◌++◌, length, take, nat_lt, Option, Some, None, Result, Ok, Err, inl, inr, ◌⊎◌, append-nil, refl, ap, sym, ◌∙◌, subst, arith, if◌then◌else◌}
+use Rattle.std.proofs.Common.{◌≡◌, ℕ, suc, ◌+◌, ◌-◌, Bool, true, false, List, [], ◌∷◌, ◌++◌, length, take, nat_lt, Option, Some, None, Result, Ok, Err, inl, inr, ◌⊎◌, refl, ap, sym, ◌∙◌, subst, arith, if◌then◌else◌}
 use Rattle.std.specs.Str.{is_utf8}
 use Rattle.std.proofs.lemmas.Str.{is_utf8-from_IsUtf8}
 use Rattle.bosh_yaml.specs.declared.block.Frame.{Frame}
@@ -14,7 +14,7 @@ use Rattle.bosh_yaml.specs.declared.scan.Mode.TheVariants.{Start, Outside, Liter
 use Rattle.bosh_yaml.specs.Block.{place_end}
 use Rattle.bosh_yaml.specs.Content.{items_at}
 use Rattle.bosh_yaml.specs.Events.{content_line, end_by_mode, events_from, events_of, first_line, fixed_indent, is_marker, is_readable, line_by_mode, literal_event, literal_line, more_body, next_mode, one_line, plain_line, Scan, Scanned, scan_of, start}
-use Rattle.bosh_yaml.specs.Limits.{depth, HasEachKeyOnce}
+use Rattle.bosh_yaml.specs.Limits.{HasEachKeyOnce}
 use Rattle.bosh_yaml.specs.Lines.{begins, is_blank, lines_of, skip_spaces}
 use Rattle.bosh_yaml.specs.Literal.{indentation, is_spaces, literal_text}
 use Rattle.bosh_yaml.specs.Nodes.{Keys, line_or, made, nesting, no_keys, repeated, with_new}
@@ -22,7 +22,7 @@ use Rattle.bosh_yaml.specs.Reading.{checked, json_reading, reading, yaml_reading
 use Rattle.bosh_yaml.specs.Repeats.{RepeatsKey, RepeatsNoKey}
 use Rattle.bosh_yaml.specs.Result.{◌>>=◌, with_front}
 use Rattle.bosh_yaml.specs.Seen.{line_or_else}
-use Rattle.bosh_yaml.specs.Spelling.{as_yaml, Spells, SpellsLines}
+use Rattle.bosh_yaml.specs.Spelling.{SpellsLines}
 use Rattle.bosh_yaml.specs.Tree.{Tree}
 use Rattle.bosh_yaml.specs.Word.{text_of}
 use Rattle.bosh_yaml.proofs.MakesLemmas.{Makes, makes_whole, RepeatsNone, RepeatsOne, repeats_in_whole, repeats_whole}

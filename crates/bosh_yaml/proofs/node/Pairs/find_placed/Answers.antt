@@ -1,7 +1,5 @@
-use Rattle.std.proofs.Common.{◌∙◌, ap, sym}
-use Rattle.std.specs.Option.{option_map}
+use Rattle.std.proofs.Common.{◌∙◌, ap}
 use Rattle.std.specs.Str.{bytes_eq}
-use Rattle.bosh_yaml.specs.View.{tree_of}
 use Rattle.bosh_yaml.proofs.PlaceLemmas.{finds_it, finds_no_place, finds_other, finds_past}
 use Rattle.bosh_yaml.proofs.node.Pairs.find_placed.Goals as goal
 

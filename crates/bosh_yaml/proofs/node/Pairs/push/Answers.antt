@@ -1,10 +1,6 @@
-use Rattle.std.proofs.Common.{◌∙◌, ap, arith, length, sym, map, subst, false, ◌≡◌, List, ℕ, ◌≤◌}
-use Rattle.std.specs.Prelude.{OnOk, Some}
+use Rattle.std.proofs.Common.{◌∙◌, ap, arith, length, sym, false, ◌≡◌}
 use Rattle.std.specs.Result.{is_ok}
-use Rattle.std.specs.Str.{bytes_eq}
 use Rattle.bosh_yaml.specs.Keys.{has_key}
-use Rattle.bosh_yaml.specs.Places.{place_in}
-use Rattle.bosh_yaml.specs.View.{pair_of}
 use Rattle.bosh_yaml.proofs.KeyLemmas.{HasDistinctKeys-pushed}
 use Rattle.bosh_yaml.proofs.PlaceLemmas.{noted_pushed, noted_still}
 use Rattle.bosh_yaml.proofs.node.Pairs.push.Goals as goal
