@@ -1,0 +1,4 @@
+pub mod FrameLemmas
+pub mod KnownLemmas
+pub mod LearnLemmas
+pub mod RunLemmas

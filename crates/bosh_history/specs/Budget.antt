@@ -1,0 +1,20 @@
+-- How many calls a task makes at most where nothing fails and nothing is lost (this project's profile).
+use Rattle.std.specs.Prelude.{ℕ, ◌+◌, ◌*◌, Bool, Some, length, filter}
+use Rattle.bosh_base.specs.declared.entry.TaskOpen.{TaskOpen}
+use Rattle.bosh_history.specs.Goals.{rows_of}
+use Rattle.bosh_history.specs.Known.{Known, SlotName}
+use Rattle.bosh_history.specs.Slots.{keys_of}
+use Rattle.bosh_history.specs.Words.{holds}
+use Rattle.std.specs.Option.{option_eq}
+use Rattle.std.specs.Str.{bytes_eq}
+
+-- a compile machine of the deployment that an earlier task left
+abbrev pub is_left : Known → TaskOpen → SlotName → Bool
+is_left k o name = holds (λ it. option_eq bytes_eq (Some it.dep) o.dep) (k.slot name.task name.slot)
+
+-- 36 for each row of the goal and each obsolete one, 8 for each key and for each compile machine that is left over
+abbrev pub budget : Known → TaskOpen → ℕ
+budget k o =
+    36 * (length (rows_of o.goal) + length o.obsolete)
+    + 8 * length (keys_of o.goal)
+    + 8 * length (filter (is_left k o) k.machines)

@@ -1,0 +1,190 @@
+-- A moment of a site: what is known, what was done to the cloud, and which calls are open.
+use Rattle.std.specs.Prelude.{ℕ, Bool, true, false, eqb, Option, Some, None, List, [], ◌∷◌, ◌++◌, fold}
+use Rattle.std.specs.List.{filter_map}
+use Rattle.bosh_base.specs.declared.answer.Answer.{Answer}
+use Rattle.bosh_base.specs.declared.answer.Answer.TheVariants as answers
+use Rattle.bosh_base.specs.declared.call.Call.{Call}
+use Rattle.bosh_base.specs.declared.call.Call.TheVariants.{CreateVm, FindVm, Ping}
+use Rattle.bosh_base.specs.declared.entry.Begin.{Begin}
+use Rattle.bosh_base.specs.declared.entry.Entry.{Entry}
+use Rattle.bosh_base.specs.declared.entry.Entry.TheVariants as entries
+use Rattle.bosh_base.specs.declared.entry.Loss.{Loss}
+use Rattle.bosh_base.specs.declared.inst.Inst.{Inst}
+use Rattle.bosh_base.specs.declared.moves.Did.{Did}
+use Rattle.bosh_base.specs.declared.moves.Move.{Move}
+use Rattle.bosh_base.specs.declared.moves.Move.TheVariants as moves
+use Rattle.bosh_base.specs.declared.moves.Stop as stop
+use Rattle.bosh_base.specs.declared.owner.Owner.{Owner}
+use Rattle.bosh_base.specs.declared.owner.Owner.TheVariants.{Instance, Compile, Disk}
+use Rattle.bosh_base.specs.declared.row.DiskRow.{DiskRow}
+use Rattle.bosh_base.specs.declared.snapshot.Orphan.{Orphan}
+use Rattle.bosh_history.specs.Known.{Known}
+use Rattle.bosh_history.specs.Learn.{learn, known_of}
+use Rattle.bosh_history.specs.Known.{dep_of_task}
+use Rattle.bosh_history.specs.Words.{at}
+use Rattle.bosh_rows.specs.Disks.{active}
+
+-- what a site begins on: the entries of the director's store, and the effects in the cloud's
+pub record Opening : Type 0 where
+  pub entries : List Entry
+  pub effects : List Entry
+
+-- a call that began and is not answered, and what the cloud did of it
+pub record OpenCall : Type 0 where
+  pub begin : Begin
+  pub did : Option Did
+
+-- a machine that was lost, and the tasks that had heard of it by then
+pub record Missed : Type 0 where
+  pub vm : ℕ
+  pub heard : List ℕ
+
+pub record Moment : Type 0 where
+  pub known : Known
+  pub effects : List Entry
+  pub calls : ℕ → Option OpenCall
+  -- the tasks up to this number were opened before the last stop
+  pub stopped : ℕ
+  pub halted : Bool
+  -- the tasks that heard of a machine: that it answered or not, that it was found, or made
+  pub heard : ℕ → List ℕ
+  pub missed : List Missed
+
+-- ---- the beginning
+
+abbrev pub lost_before : Entry → Option Missed
+lost_before (entries.Lost loss) = Some (record { vm = loss.vm; heard = [] })
+lost_before entry = None
+
+-- nothing is open, and each task that has no end was interrupted
+abbrev pub beginning : Opening → Moment
+beginning o = record {
+  known = known_of o.entries;
+  effects = o.effects;
+  calls = λ n. None;
+  stopped = (known_of o.entries).tasks;
+  halted = false;
+  heard = λ v. [];
+  missed = filter_map lost_before o.effects;
+}
+
+-- nothing was there
+abbrev pub nothing : Opening
+nothing = record { entries = []; effects = [] }
+
+-- ---- entries
+
+abbrev pub opens : Entry → (ℕ → Option OpenCall) → ℕ → Option OpenCall
+opens (entries.Begin b) calls = at eqb b.n (Some (record { begin = b; did = None })) calls
+opens (entries.End e) calls = at eqb e.n None calls
+opens entry calls = calls
+
+abbrev pub noting : Moment → Entry → Moment
+noting m e = record m { known = learn m.known e; calls = opens e m.calls }
+
+-- ---- what is done to the cloud
+
+-- the deployment that an owner belongs to
+abbrev pub dep_of : Known → Owner → List ℕ
+dep_of k (Instance i) = i.dep
+dep_of k (Compile t s) = dep_of_task k t
+dep_of k (Disk d) = dep (k.orphan d)
+  where
+    dep : Option Orphan → List ℕ
+    dep (Some it) = it.inst.dep
+    dep None = []
+
+abbrev pub effect_of : Known → Begin → Entry
+effect_of k b = entries.Effect (record { n = b.n; owner = b.owner; dep = dep_of k b.owner; call = b.call })
+
+abbrev pub taken : Moment → Bool → Option OpenCall → List Entry
+taken m true (Some call) = effect_of m.known call.begin ∷ []
+taken m has_effect call = []
+
+-- a task hears of a machine by the answer to a ping, by finding it, and by making it
+abbrev pub hears : ℕ → Call → Answer → (ℕ → List ℕ) → ℕ → List ℕ
+hears t (Ping vm) answers.Done heard = at eqb vm (t ∷ heard vm) heard
+hears t (Ping vm) answers.Gone heard = at eqb vm (t ∷ heard vm) heard
+hears t (FindVm agent) (answers.Found (Some v)) heard = at eqb v (t ∷ heard v) heard
+hears t (CreateVm make disks) (answers.Cid v) heard = at eqb v (t ∷ heard v) heard
+hears t call answer heard = heard
+
+abbrev pub heard_by : Did → Option OpenCall → (ℕ → List ℕ) → ℕ → List ℕ
+heard_by d (Some call) heard = hears call.begin.task call.begin.call d.answer heard
+heard_by d None heard = heard
+
+abbrev pub performed : Did → Option OpenCall → Option OpenCall
+performed d (Some call) = Some (record call { did = Some d })
+performed d None = None
+
+abbrev pub performing : Moment → Did → Moment
+performing m d = record m {
+  effects = m.effects ++ taken m d.effect (m.calls d.n);
+  calls = at eqb d.n (performed d (m.calls d.n)) m.calls;
+  heard = heard_by d (m.calls d.n) m.heard;
+}
+
+abbrev pub write_to : List ℕ → Option DiskRow → List Entry
+write_to text (Some d) = entries.Write (record { disk = d.disk; text = text }) ∷ []
+write_to text None = []
+
+-- a running job writes to the active disk of its instance
+abbrev pub writing : Moment → Inst → List ℕ → Moment
+writing m i text = record m { effects = m.effects ++ write_to text (active (m.known.row i).disks) }
+
+abbrev pub losing : Moment → Loss → Moment
+losing m loss = record m {
+  effects = m.effects ++ entries.Lost loss ∷ [];
+  missed = m.missed ++ record { vm = loss.vm; heard = m.heard loss.vm } ∷ [];
+}
+
+-- ---- a stop
+
+abbrev pub with_written : Moment → Option Entry → Moment
+with_written m (Some (entries.Lost loss)) = losing m loss
+with_written m (Some entry) = record m { effects = m.effects ++ entry ∷ [] }
+with_written m None = m
+
+-- a call that was open had its effect, and nobody was told
+abbrev pub taking : Moment → ℕ → Moment
+taking m n = performing m (record { n = n; effect = true; answer = answers.Failed })
+
+abbrev pub keeping : Moment → Option Entry → Moment
+keeping m (Some e) = noting m e
+keeping m None = m
+
+-- the open calls are forgotten, and each task so far is interrupted
+abbrev pub forgetting : Moment → Moment
+forgetting m = record m { calls = λ n. None; stopped = m.known.tasks; halted = false }
+
+abbrev pub stopping : Moment → stop.Stop → Moment
+stopping m s = forgetting (keeping (fold taking (with_written m s.wrote) s.took) s.kept)
+
+-- ---- all
+
+-- the moment after one more move
+abbrev pub later : Moment → Move → Moment
+later m (moves.Note e) = noting m e
+later m (moves.Did d) = performing m d
+later m (moves.Wrote w) = writing m w.inst w.text
+later m (moves.Halt cause) = record m { halted = true }
+later m (moves.Stop s) = stopping m s
+later m (moves.Lost loss) = losing m loss
+later m (moves.Said said) = m
+
+-- the moment after moves that go on from an opening pair
+abbrev pub moment : Opening → List Move → Moment
+moment o moves = fold later (beginning o) moves
+
+-- the entries that were made durable, in order
+abbrev pub noted : Move → Option Entry
+noted (moves.Note e) = Some e
+noted (moves.Stop s) = s.kept
+noted move = None
+
+abbrev pub durable : Opening → List Move → List Entry
+durable o moves = o.entries ++ filter_map noted moves
+
+-- what was done to the cloud, in order
+abbrev pub effects_of : Opening → List Move → List Entry
+effects_of o moves = (moment o moves).effects

@@ -1,0 +1,94 @@
+-- Which task may be opened (this project's profile).
+use Rattle.std.specs.Prelude.{◌≡◌, ℕ, ◌+◌, Bool, true, false, eqb, not, ◌&&◌, ◌||◌, Option, Some, None, is_some, List, [], ◌∷◌}
+use Rattle.std.specs.List.{list_all}
+use Rattle.std.specs.Option.{option_eq}
+use Rattle.std.specs.Str.{bytes_eq}
+use Rattle.bosh_base.specs.Cloud.{numbers_to}
+use Rattle.bosh_base.specs.declared.entry.TaskOpen.{TaskOpen}
+use Rattle.bosh_base.specs.declared.goal.Goal.{Goal}
+use Rattle.bosh_base.specs.declared.inst.Inst.{Inst}
+use Rattle.bosh_base.specs.declared.link.Tie.{Tie}
+use Rattle.bosh_base.specs.declared.task.TaskKind.{TaskKind}
+use Rattle.bosh_base.specs.declared.task.TaskKind.TheVariants.{Deploy, DeleteDisk, CleanUp, Fix}
+use Rattle.bosh_history.specs.Goals.{named, to_change, to_delete, is_in}
+use Rattle.bosh_history.specs.Held.{is_offered, is_open}
+use Rattle.bosh_history.specs.Known.{Known}
+use Rattle.bosh_history.specs.Words.{is_among}
+
+-- no open task has the lock: that of the deployment, or that of the clean-up tasks
+abbrev pub is_free : Known → Option (List ℕ) → Bool
+is_free k dep = list_all (λ t. not (is_open k t && option_eq bytes_eq (k.task t).dep dep)) (numbers_to k.tasks)
+
+abbrev pub deploys : TaskKind → Bool
+deploys Deploy = true
+deploys Fix = true
+deploys kind = false
+
+-- a tie of another deployment to this one is still offered by the goal
+abbrev pub is_offered_still : Goal → Tie → Bool
+is_offered_still goal tie = not (bytes_eq tie.provider.dep goal.dep) || is_offered tie.provider tie.kind goal.offers
+
+abbrev pub ties_of : Option Goal → List Tie
+ties_of (Some goal) = goal.ties
+ties_of None = []
+
+-- no other current goal has a tie to a link that the goal withdraws
+abbrev pub withdraws_nothing : Known → Goal → Bool
+withdraws_nothing k goal = list_all keeps k.deployments
+  where
+    keeps : List ℕ → Bool
+    keeps dep = bytes_eq dep goal.dep || list_all (is_offered_still goal) (ties_of (k.goal dep))
+
+abbrev pub is_recorded : Known → List ℕ → Bool
+is_recorded k dep = is_among bytes_eq dep k.deployments
+
+-- a deploy may be of a new deployment, any other task is of a recorded one, and one of an instance is of one that is
+-- wanted
+abbrev pub names_what_is_there : Known → TaskKind → Goal → Bool
+names_what_is_there k kind goal = deploys kind || (is_recorded k goal.dep && by_name (named kind))
+  where
+    by_name : Option Inst → Bool
+    by_name (Some i) = is_in (k.goal goal.dep) i
+    by_name None = true
+
+-- a task of a deployment opens: a deploy, or one of its instances, or its deletion
+pub record OpensWith (k : Known) (o : TaskOpen) (goal : Goal) : Type 0 where
+  pub number : o.task ≡ k.tasks + 1
+  pub of_the_deployment : option_eq bytes_eq o.dep (Some goal.dep) ≡ true
+  pub is_free : is_free k o.dep ≡ true
+  pub has_source : is_some o.source ≡ deploys o.kind
+  pub is_there : names_what_is_there k o.kind goal ≡ true
+  pub changes : o.changed ≡ to_change k o.kind o.goal
+  pub deletes : o.obsolete ≡ to_delete k o.kind goal.dep o.goal
+  pub no_disks : o.disks ≡ []
+  pub keeps_links : withdraws_nothing k goal ≡ true
+
+-- disks are to be deleted: each is recorded orphaned
+pub record OpensOn (k : Known) (o : TaskOpen) : Type 0 where
+  pub number : o.task ≡ k.tasks + 1
+  pub of_none : o.dep ≡ None
+  pub is_free : is_free k o.dep ≡ true
+  pub no_source : o.source ≡ None
+  pub changes_none : o.changed ≡ []
+  pub deletes_none : o.obsolete ≡ []
+  pub are_orphaned : list_all (λ d. is_among eqb d k.orphans) o.disks ≡ true
+
+abbrev pub OpensFor : Known → TaskOpen → Option Goal → Type 0
+OpensFor k o (Some goal) = OpensWith k o goal
+OpensFor k o None = ⊥
+
+abbrev pub OpensDisks : Known → TaskOpen → Option Goal → Type 0
+OpensDisks k o None = OpensOn k o
+OpensDisks k o (Some goal) = ⊥
+
+abbrev pub OpensOne : Known → TaskOpen → Option Goal → ℕ → Type 0
+OpensOne k o goal d = OpensDisks k o goal × (o.disks ≡ d ∷ [])
+
+abbrev pub OpensBy : Known → TaskOpen → TaskKind → Type 0
+OpensBy k o CleanUp = OpensDisks k o o.goal
+OpensBy k o (DeleteDisk d) = OpensOne k o o.goal d
+OpensBy k o kind = OpensFor k o o.goal
+
+-- a task opens
+abbrev pub Opens : Known → TaskOpen → Type 0
+Opens k o = OpensBy k o o.kind

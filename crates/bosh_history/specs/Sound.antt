@@ -1,0 +1,166 @@
+-- Which goals a task may open with, as facts on the goal and the records alone (this project's profile). The goal of
+-- a manifest, and a current goal with one row changed, are such.
+use Rattle.std.specs.Prelude.{◌≡◌, ℕ, Bool, true, false, eqb, nat_le, not, ◌&&◌, ◌||◌, ◌==◌, Option, Some, None, List, [], ◌∷◌, ◌++◌, map, filter, length}
+use Rattle.std.specs.List.{list_any, list_all, flat_map}
+use Rattle.std.specs.Str.{bytes_eq}
+use Rattle.bosh_base.specs.declared.entry.TaskOpen.{TaskOpen}
+use Rattle.bosh_base.specs.declared.goal.Goal.{Goal}
+use Rattle.bosh_base.specs.declared.goal.GoalRow.{GoalRow}
+use Rattle.bosh_base.specs.declared.goal.GroupPlan.{GroupPlan}
+use Rattle.bosh_base.specs.declared.inst.Inst.{Inst}
+use Rattle.bosh_base.specs.declared.key.Key.{Key}
+use Rattle.bosh_base.specs.declared.key.KeyWork.{KeyWork}
+use Rattle.bosh_base.specs.declared.link.Tie.{Tie}
+use Rattle.bosh_base.specs.declared.make.Make.{Make}
+use Rattle.bosh_base.specs.declared.task.TaskKind.{TaskKind}
+use Rattle.bosh_base.specs.declared.task.TaskKind.TheVariants.{DeleteDeployment}
+use Rattle.bosh_base.specs.declared.view.Held.{Held}
+use Rattle.bosh_compile.specs.Readiness.{same_key}
+use Rattle.bosh_history.specs.Goals.{named, inst_of, is_in}
+use Rattle.bosh_history.specs.Held.{held_by_machines, held_elsewhere, is_offered, offers_in}
+use Rattle.bosh_history.specs.Known.{Known}
+use Rattle.bosh_history.specs.Slots.{is_compiled}
+use Rattle.bosh_history.specs.Words.{is_among, are_distinct, holds}
+use Rattle.bosh_rows.specs.Disks.{is_detached}
+use Rattle.bosh_rows.specs.Same.{same_inst, same_make, same_spec}
+
+-- ---- instances
+
+-- the group of an instance has one plan, and room for one update at least
+abbrev pub has_plan : Goal → GoalRow → Bool
+has_plan goal want = is_one (filter (λ plan. bytes_eq plan.name want.inst.group) goal.groups)
+  where
+    is_one : List GroupPlan → Bool
+    is_one (plan ∷ []) = nat_le 1 plan.limit
+    is_one plans = false
+
+abbrev pub is_row_of : Known → Goal → GoalRow → Bool
+is_row_of k goal want = bytes_eq want.inst.dep goal.dep && (has_plan goal want && nat_le want.fresh_after k.last_call)
+
+-- no instance stands twice, each is of the deployment and of a group, and none is wanted of a later call than the
+-- last
+abbrev pub has_instances : Known → Goal → Bool
+has_instances k goal = are_distinct same_inst (map inst_of goal.rows) && list_all (is_row_of k goal) goal.rows
+
+-- ---- addresses
+
+abbrev pub addrs : Make → List ℕ
+addrs make = map (λ it. it.addr.0) make.nets
+
+abbrev pub row_addrs : Goal → List ℕ
+row_addrs goal = flat_map (λ want. addrs want.make) goal.rows
+
+abbrev pub slot_addrs : Goal → List ℕ
+slot_addrs goal = flat_map addrs goal.slots
+
+abbrev pub is_held : List Held → ℕ → Bool
+is_held held a = list_any (λ it. it.addr.0 == a) held
+
+abbrev pub has_addr : ℕ → Option Make → Bool
+has_addr a make = holds (λ it. list_any (λ b. b == a) (addrs it)) make
+
+-- another recorded row has the address, whose instance stays in the goal
+abbrev pub another_keeps : Known → Goal → Inst → ℕ → Bool
+another_keeps k goal i a = list_any keeps k.instances
+  where
+    keeps : Inst → Bool
+    keeps j = not (same_inst i j) && (is_in (Some goal) j && has_addr a (k.row j).make)
+
+abbrev pub are_rows_free : Known → Goal → Bool
+are_rows_free k goal =
+    list_all (λ want. list_all (λ a. not (another_keeps k goal want.inst a)) (addrs want.make)) goal.rows
+
+-- a recorded row or a compile machine has the address
+abbrev pub is_used : Known → ℕ → Bool
+is_used k a = list_any (λ i. has_addr a (k.row i).make) k.instances || is_held (held_by_machines k) a
+
+-- Its rows and slots have different addresses; nobody else holds one; no row has that of another row that stays; and
+-- no slot has that of a machine that is recorded.
+abbrev pub has_addresses : Known → Goal → Bool
+has_addresses k goal =
+    are_distinct eqb (row_addrs goal ++ slot_addrs goal)
+    && (list_all (λ a. not (is_held (held_elsewhere k goal.dep) a)) (row_addrs goal ++ slot_addrs goal)
+    && (are_rows_free k goal && list_all (λ a. not (is_used k a)) (slot_addrs goal)))
+
+-- ---- keys
+
+-- each key comes after those that it needs, or these are compiled; none is compiled, and none stands twice
+abbrev pub are_keys_in_order : Known → List Key → List KeyWork → Bool
+are_keys_in_order k before [] = true
+are_keys_in_order k before (work ∷ works) =
+    not (is_compiled k work.key)
+    && (not (is_among same_key work.key before)
+    && (list_all (λ key. is_compiled k key || is_among same_key key before) work.deps
+    && are_keys_in_order k (work.key ∷ before) works))
+
+-- where there are keys there is a slot
+abbrev pub has_keys : Known → Goal → Bool
+has_keys k goal = are_keys_in_order k [] goal.keys && (nat_le (length goal.keys) 0 || nat_le 1 (length goal.slots))
+
+-- ---- links
+
+-- a link of another deployment is offered by its last done deploy and by its current goal
+abbrev pub is_tie_kept : Known → Goal → Tie → Bool
+is_tie_kept k goal tie =
+    bytes_eq tie.provider.dep goal.dep
+    || (is_offered tie.provider tie.kind (k.shared tie.provider.dep)
+    && is_offered tie.provider tie.kind (offers_in (k.goal tie.provider.dep)))
+
+-- ---- one instance
+
+-- a row as it was, but for its state and for how old its machine may be
+abbrev pub is_alike : GoalRow → GoalRow → Bool
+is_alike a b = same_inst a.inst b.inst && (same_make a.make b.make && same_spec a.spec b.spec)
+
+abbrev pub are_rows_alike : List GoalRow → List GoalRow → Bool
+are_rows_alike [] [] = true
+are_rows_alike (a ∷ more) (b ∷ others) = is_alike a b && are_rows_alike more others
+are_rows_alike rows others = false
+
+-- The goal of a task of one instance has the rows of the current one; unless the named one is to be detached, no
+-- address of it is that of a recorded row which is not in the goal, since such a task deletes none.
+abbrev pub has_no_address : Known → Goal → GoalRow → Bool
+has_no_address k goal want = list_all (λ i. is_in (Some goal) i || not (takes i)) k.instances
+  where
+    takes : Inst → Bool
+    takes i = list_any (λ a. has_addr a (k.row i).make) (addrs want.make)
+
+abbrev pub is_renewed : Known → Goal → Inst → Option Goal → Bool
+is_renewed k goal i (Some current) =
+    is_in (Some current) i
+    && (are_rows_alike goal.rows current.rows
+    && list_all (λ want. not (same_inst want.inst i) || (is_detached want.state || has_no_address k goal want))
+    goal.rows)
+is_renewed k goal i None = false
+
+abbrev pub is_empty_goal : Goal → Bool
+is_empty_goal goal =
+    nat_le (length goal.rows) 0
+    && (nat_le (length goal.keys) 0 && (nat_le (length goal.slots) 0 && nat_le (length goal.offers) 0))
+
+abbrev pub is_of_kind : Known → TaskKind → Goal → Bool
+is_of_kind k DeleteDeployment goal = is_empty_goal goal
+is_of_kind k kind goal = by_name (named kind)
+  where
+    by_name : Option Inst → Bool
+    by_name (Some i) = is_renewed k goal i (k.goal goal.dep)
+    by_name None = true
+
+-- ---- all
+
+abbrev pub is_sound_goal : Known → TaskKind → Goal → Bool
+is_sound_goal k kind goal =
+    has_instances k goal
+    && (has_addresses k goal
+    && (has_keys k goal && (list_all (is_tie_kept k goal) goal.ties && is_of_kind k kind goal)))
+
+abbrev pub is_sound : Known → TaskOpen → Bool
+is_sound k o = by_goal o.goal
+  where
+    by_goal : Option Goal → Bool
+    by_goal (Some goal) = is_sound_goal k o.kind goal
+    by_goal None = true
+
+-- the goal that a task opens with, where it has one, may be worked on
+abbrev pub IsSound : Known → TaskOpen → Type 0
+IsSound k o = is_sound k o ≡ true

@@ -1,0 +1,54 @@
+//! Small histories of a director, right and wrong, and what the definitions of histories say of each.
+#![tactic(auto)]
+
+mod canaries;
+mod drained;
+mod failed;
+mod flight;
+mod hard;
+mod kept_begin;
+mod kept_done;
+mod kept_error;
+mod late;
+mod leftover;
+mod links;
+mod loaded;
+mod lost;
+mod migrated;
+mod orphan;
+mod recreate;
+mod replaced;
+mod resolve;
+mod silent;
+mod stopped;
+mod swept;
+mod together;
+mod two;
+mod unmigrated;
+mod wrote;
+
+pub use canaries::canaries_examples;
+pub use drained::drained_examples;
+pub use failed::failed_examples;
+pub use flight::flight_examples;
+pub use hard::hard_examples;
+pub use kept_begin::kept_begin_examples;
+pub use kept_done::kept_done_examples;
+pub use kept_error::kept_error_examples;
+pub use late::late_examples;
+pub use leftover::leftover_examples;
+pub use links::links_examples;
+pub use loaded::loaded_examples;
+pub use lost::lost_examples;
+pub use migrated::migrated_examples;
+pub use orphan::orphan_examples;
+pub use recreate::recreate_examples;
+pub use replaced::replaced_examples;
+pub use resolve::resolve_examples;
+pub use silent::silent_examples;
+pub use stopped::stopped_examples;
+pub use swept::swept_examples;
+pub use together::together_examples;
+pub use two::two_examples;
+pub use unmigrated::unmigrated_examples;
+pub use wrote::wrote_examples;

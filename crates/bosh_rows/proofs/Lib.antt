@@ -1,0 +1,3 @@
+pub mod ActiveLemmas
+pub mod SameLemmas
+pub mod ToldLemmas
