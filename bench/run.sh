@@ -2,8 +2,9 @@
 # Prints how long sessions take, and how the times grow: deploys of 16, 64 and 256 machines, and 1, 4 and 8 MiB of
 # comment lines. And how long it takes to put 64, 128 and 256 works in order of compilation, where each needs the one
 # before it and where each needs all before it. And how long it takes to read texts of 64 KiB, 256 KiB and 1 MiB of one
-# form. Then how fast the body of a large entry is written and read, beside a plain copy of its bytes. Each time is the
-# least of five runs; only the ratios within one run say something.
+# form, and to look up each key of a mapping; and to read a MiB of each form, beside other readers. Then how fast the
+# body of a large entry is written and read, beside a plain copy of its bytes. Each time is the least of five runs; only
+# the ratios within one run say something.
 set -u
 here=$(cd "$(dirname "$0")" && pwd)
 top=$(dirname "$here")
@@ -75,12 +76,29 @@ table_of() {
     shift 4
     for size in "$@"; do
         local time
-        time=$(least_told "$program" "$form" "$size")
+        time=$(least_told "$program" "$form" "$size" ${work:-})
         line "$size" "$unit" "$time" "${other:-$time}" "$against"
         if [ -z "$other" ] || [ "$against" = "the one before" ]; then
             other=$time
         fi
     done
+}
+
+# How long the reader takes for a MiB of each form, beside the loader of libyaml, where that is installed with its header;
+# and for a MiB of JSON beside the JSON reader that it stands on.
+readers() {
+    local loader=$folder/load form
+    if cc -O2 -o "$loader" "$here/load.c" -lyaml 2> /dev/null; then
+        for form in manifest mappings sequences literals quoted plain integers comments blanks; do
+            "$reader" "$form" 1024 print > "$folder/text"
+            line 1024 "KiB of YAML, $form" "$(least_told "$reader" "$form" 1024 read)" \
+                "$(least_told "$loader" "$folder/text")" "libyaml's"
+        done
+    else
+        echo "no times beside libyaml, since cc or the library with its header is not here"
+    fi
+    line 1024 "KiB of JSON" "$(least_told "$reader" json 1024 read)" \
+        "$(least_told "$reader" json 1024 parse)" "serde_json's"
 }
 
 # How many MiB a second a work on the opening of a task of 512 instances gets through, and how many times as long as a
@@ -102,7 +120,9 @@ table machines machines 16 64 256
 table "MiB of comment lines" comments 1 4 8
 table_of "$levels" chain "works, each on the one before" "the first" 64 128 256
 table_of "$levels" all "works, each on all before" "the first" 64 128 256
-table_of "$reader" mappings "KiB of block mappings" "the one before" 64 256 1024
-table_of "$reader" sequences "KiB of flow sequences" "the one before" 64 256 1024
-table_of "$reader" literals "KiB of a literal" "the one before" 64 256 1024
+work=read table_of "$reader" mappings "KiB of block mappings" "the one before" 64 256 1024
+work=read table_of "$reader" sequences "KiB of flow sequences" "the one before" 64 256 1024
+work=read table_of "$reader" literals "KiB of a literal" "the one before" 64 256 1024
+work=find table_of "$reader" mappings "KiB of a mapping, each key found" "the one before" 64 256 1024
+readers
 speeds copy 20000 write 500 read 200

@@ -5,6 +5,7 @@ use Rattle.bosh_history.specs.Goals.{rows_of}
 use Rattle.bosh_history.specs.Known.{Known, SlotName}
 use Rattle.bosh_history.specs.Slots.{keys_of}
 use Rattle.bosh_history.specs.Words.{holds}
+use Rattle.bosh_history.specs.declared.limits.TheConstants.{MOST_CALLS_OF_A_ROW, MOST_CALLS_OF_A_MACHINE}
 use Rattle.std.specs.Option.{option_eq}
 use Rattle.std.specs.Str.{bytes_eq}
 
@@ -12,9 +13,9 @@ use Rattle.std.specs.Str.{bytes_eq}
 abbrev pub is_left : Known → TaskOpen → SlotName → Bool
 is_left k o name = holds (λ it. option_eq bytes_eq (Some it.dep) o.dep) (k.slot name.task name.slot)
 
--- 36 for each row of the goal and each obsolete one, 8 for each key and for each compile machine that is left over
+-- so many for each row of the goal and each obsolete one, and for each key and each compile machine that is left over
 abbrev pub budget : Known → TaskOpen → ℕ
 budget k o =
-    36 * (length (rows_of o.goal) + length o.obsolete)
-    + 8 * length (keys_of o.goal)
-    + 8 * length (filter (is_left k o) k.machines)
+    MOST_CALLS_OF_A_ROW * (length (rows_of o.goal) + length o.obsolete)
+    + MOST_CALLS_OF_A_MACHINE * length (keys_of o.goal)
+    + MOST_CALLS_OF_A_MACHINE * length (filter (is_left k o) k.machines)

@@ -3,5 +3,7 @@
 #![tactic(auto)]
 
 mod laws;
+mod limits;
 
 pub use laws::{an_entry_leaves_the_others, one_more, runs_go_on, the_durable_entries_tell};
+pub use limits::{MOST_CALLS_OF_A_MACHINE, MOST_CALLS_OF_A_ROW};

@@ -13,10 +13,10 @@ own : IsNumeralModel (λ ds. all_ascii_digits ds ≡ true) (digits_value 10)
 own = numerals_by_value _ tells_all_ascii_digits
 
 -- a counted number is below its bound, and is there only then
-counted_at : (bound : ℕ) (ds : List ℕ) → is_counting ds ≡ true → digits_value 10 ds < bound → counted bound ds ≡ Some (digits_value 10 ds)
+pub counted_at : (bound : ℕ) (ds : List ℕ) → is_counting ds ≡ true → digits_value 10 ds < bound → counted bound ds ≡ Some (digits_value 10 ds)
 counted_at bound ds c h = rw c (grind (arith, nat_tests))
 
-counted_over : (bound : ℕ) (ds : List ℕ) → bound ≤ digits_value 10 ds → counted bound ds ≡ None
+pub counted_over : (bound : ℕ) (ds : List ℕ) → bound ≤ digits_value 10 ds → counted bound ds ≡ None
 counted_over bound ds h = grind (arith, nat_tests)
 
 counted_none : (bound : ℕ) (ds : List ℕ) → is_counting ds ≡ false → counted bound ds ≡ None
@@ -26,7 +26,7 @@ all_digits : (ds : List ℕ) → is_counting ds ≡ true → (all_ascii_digits d
 all_digits [] h = cc
 all_digits (b ∷ ds) h = (grind (arith, nat_tests), omega arith)
 
-ok_if : {E : Type 0} (r : Result ℤ E) (Q : Type 0) (x : ℤ) (y : Option ℤ) → OkIff r Q x → (Q → Some x ≡ y) → ((Q → ⊥) → None ≡ y) → result_ok r ≡ y
+pub ok_if : {E : Type 0} (r : Result ℤ E) (Q : Type 0) (x : ℤ) (y : Option ℤ) → OkIff r Q x → (Q → Some x ≡ y) → ((Q → ⊥) → None ≡ y) → result_ok r ≡ y
 ok_if (Ok z) Q x y h have lack = ap (λ n. Some n) h.1 ∙ have h.0
 ok_if (Err e) Q x y h have lack = lack h
 

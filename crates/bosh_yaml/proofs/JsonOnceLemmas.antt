@@ -8,7 +8,7 @@ use Rattle.serde_json.specs.Data as json
 use Rattle.serde_json.specs.Find.{as_i64}
 use Rattle.serde_json.specs.Read.{max_depth, number_of, of_items, of_json, of_members, read}
 use Rattle.bosh_yaml.specs.declared.fault.ReadFault.TheVariants.{Syntax}
-use Rattle.bosh_yaml.specs.Json.{data_or_refused}
+use Rattle.bosh_yaml.specs.Json.{data_or_refused, json_data}
 use Rattle.bosh_yaml.specs.Limits.{HasEachKeyOnce}
 use Rattle.bosh_yaml.specs.Order.{AreInKeyOrder, HaveKeyOrder, IsInKeyOrder}
 use Rattle.bosh_yaml.specs.Spelling.{json_items, json_tree, number_tree, SpellsJson}
@@ -88,5 +88,9 @@ from_data : (b : Bool) (bytes : List ℕ) (d : json.Data) → (if b then data_or
 from_data true bytes d e = from_read (read bytes) d (read_in_order bytes) e
 from_data false bytes d e = absurd (refused_has_none 0 d e)
 
+-- so is the data of a text, whatever its numbers
+pub json_data_once : (bytes : List ℕ) (d : json.Data) → json_data bytes ≡ Ok d → HasEachKeyOnce (json_tree d)
+json_data_once bytes d h = in_order_once (json_tree d) (from_data (is_utf8 bytes) bytes d h)
+
 pub json_has_each_once : (bytes : List ℕ) (t : Tree) → SpellsJson bytes t → HasEachKeyOnce t
-json_has_each_once bytes t h = in_order_once t (subst (λ u. IsInKeyOrder u) h.3 (from_data (is_utf8 bytes) bytes h.0 h.1))
+json_has_each_once bytes t h = subst HasEachKeyOnce h.3 (json_data_once bytes h.0 h.1)

@@ -1,4 +1,5 @@
 pub mod KeyLemmas
+pub mod PlaceLemmas
 pub mod IntegerLemmas
 pub mod LineLemmas
 pub mod QuoteLemmas
@@ -36,3 +37,5 @@ pub mod ReadSpellingLemmas
 pub mod NumberedLemmas
 pub mod NumberedLineLemmas
 pub mod NamedLineLemmas
+pub mod RepeatedLineLemmas
+pub mod DeepLemmas

@@ -2,6 +2,8 @@
 use Rattle.std.proofs.Common.{◌≡◌, ◌≢◌, ℕ, zero, suc, ◌+◌, ◌-◌, ◌<◌, ◌≤◌, Bool, true, false, ◌&&◌, List, [], ◌∷◌, length, take, drop, get_or, arith, refl, sym, ◌∙◌, ap, cond, eqb}
 use Rattle.std.proofs.lemmas.Bool.Decides.{nat_tests}
 use Rattle.std.proofs.lemmas.Grind.{common_steps}
+use Rattle.std.proofs.lemmas.Bool.{eqb-true, eq-eqb}
+use Rattle.memchr.specs.Find.{is_byte, NoneBefore, Nowhere, Passes}
 use Rattle.bosh_yaml.specs.Lines.{begins, with_first, lines_of, without_return}
 use Rattle.bosh_yaml.specs.Bare.{unless_blank, trim_end}
 
@@ -98,3 +100,10 @@ lines_whole (b ∷ bs) h none = lines_last b bs none
 pub trim_end-none : (n : ℕ) (s : List ℕ) → n ≤ 0 → take n s ≡ trim_end (take n s)
 trim_end-none zero s h = grind (arith, common_steps)
 trim_end-none (suc n) s h = absurd (omega arith)
+
+-- the same, as a search for the LF answers
+pub lines_found : (bs : List ℕ) (k : ℕ) → NoneBefore (Passes (is_byte 10) bs) 0 (length bs) k → Passes (is_byte 10) bs k → lines_of bs ≡ without_return (take k bs) ∷ lines_of (drop (k + 1) bs)
+lines_found bs k h e = lines_cut k bs (λ j p q. h.before j (omega arith) p (eq-eqb (get_or bs j 0) 10 q)) h.high (eqb-true (get_or bs k 0) 10 e)
+
+pub lines_not_found : (bs : List ℕ) → 0 < length bs → Nowhere (Passes (is_byte 10) bs) 0 (length bs) → lines_of bs ≡ bs ∷ []
+lines_not_found bs h none = lines_whole bs h (λ k p q. none k (omega arith) p (eq-eqb (get_or bs k 0) 10 q))

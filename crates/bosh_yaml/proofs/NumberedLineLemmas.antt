@@ -28,12 +28,12 @@ HeaderOn P (Some header) = P header.line
 abbrev OutcomeOn : (ℕ → Type 0) → Outcome → Type 0
 OutcomeOn P o = AreOn P o.0 × HeaderOn P o.1.1
 
-abbrev ModeOn : (ℕ → Type 0) → Mode → Type 0
+abbrev pub ModeOn : (ℕ → Type 0) → Mode → Type 0
 ModeOn P Start = Unit {0}
 ModeOn P Outside = Unit {0}
 ModeOn P (Literal header indent) = P header.line
 
-abbrev ScannedOn : (ℕ → Type 0) → Scanned → Type 0
+abbrev pub ScannedOn : (ℕ → Type 0) → Scanned → Type 0
 ScannedOn P s = AreOn P s.0 × ModeOn P s.1.mode
 
 module _ (P : ℕ → Type 0) where
@@ -60,7 +60,7 @@ module _ (P : ℕ → Type 0) where
   on_end [] = tt
   on_end (frame ∷ frames) = on_append P (closing frame) (place_end frames) (on_closing frame) (on_end frames)
 
-  on_end_by_mode : (mode : Mode) (frames : List Frame) (body : List (List ℕ)) → ModeOn P mode → Gave P (AreOn P) (end_by_mode mode frames body)
+  pub on_end_by_mode : (mode : Mode) (frames : List Frame) (body : List (List ℕ)) → ModeOn P mode → Gave P (AreOn P) (end_by_mode mode frames body)
   on_end_by_mode Start frames body m = on_end frames
   on_end_by_mode Outside frames body m = on_end frames
   on_end_by_mode (Literal header indent) frames body m = gave_bind P (IsOn P) (AreOn P) (literal_event header indent body) _ (on_literal_event header indent body m) (λ e h. (h, on_end frames))
@@ -127,10 +127,10 @@ module _ (P : ℕ → Type 0) where
         gave_if P (ScannedOn P) (begins 9 (skip_spaces bytes)) _ _ p
         (gave_bind P (OutcomeOn P) (ScannedOn P) (items_at line None 0 frames bytes) _ (on_items None 0 frames bytes) (λ o h. (h.0, mode_on o.1.1 h.1)))
 
-    on_plain_line : (mode : Mode) (frames : List Frame) (bytes : List ℕ) → ModeOn P mode → Gave P (ScannedOn P) (plain_line mode line frames bytes)
+    pub on_plain_line : (mode : Mode) (frames : List Frame) (bytes : List ℕ) → ModeOn P mode → Gave P (ScannedOn P) (plain_line mode line frames bytes)
     on_plain_line mode frames bytes m = gave_if P (ScannedOn P) (is_blank bytes) _ _ (tt, m) (on_content_line frames bytes)
 
-    on_first_line : (frames : List Frame) (bytes : List ℕ) → Gave P (ScannedOn P) (first_line line frames bytes)
+    pub on_first_line : (frames : List Frame) (bytes : List ℕ) → Gave P (ScannedOn P) (first_line line frames bytes)
     on_first_line frames bytes = gave_if P (ScannedOn P) (is_marker bytes) _ _ (tt, tt) (on_plain_line Start frames bytes tt)
 
     on_fixed : (indent : Option ℕ) (found : ℕ) → Gave P Any (fixed_indent line indent found)

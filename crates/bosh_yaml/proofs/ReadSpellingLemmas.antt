@@ -169,7 +169,7 @@ blank_lines : (bytes : List ℕ) (lines : Lines) (t : Tree) → is_blank bytes �
 blank_lines bytes lines t b (marked blanks marker ls u h m c) = marked (bytes ∷ blanks) marker ls u (b, h) m c
 blank_lines bytes lines t b (unmarked ls u m c) = unmarked (bytes ∷ ls) u (rw b m) (blank_content bytes ls u b c)
 
-start_fits : (lines : Lines) (line : ℕ) (es : List Event) → moves line start lines ≡ Ok es → (t : Tree) × SpellsLines lines t
+pub start_fits : (lines : Lines) (line : ℕ) (es : List Event) → moves line start lines ≡ Ok es → (t : Tree) × SpellsLines lines t
 start_fits [] line es h = (null, unmarked [] null refl (nothing [] tt))
 start_fits (bytes ∷ lines) line es h =
     let n = bind_ok (line_by_mode Start line (Whole ∷ []) [] bytes) (λ next. with_front next.0 (moves (line + 1) next.1 lines)) es h in
@@ -195,7 +195,7 @@ start_fits (bytes ∷ lines) line es h =
     by next fs false false p q h k more =
         plain (whole_fits (bytes ∷ lines) (content_fits line (Whole ∷ []) bytes lines next q h (lines_fit lines (line + 1) next.1 fs k))) p q
 
-all_readable : (lines : Lines) (line : ℕ) (scan : Scan) (es : List Event) → events_from line scan lines ≡ Ok es → Each IsReadable lines × (moves line scan lines ≡ Ok es)
+pub all_readable : (lines : Lines) (line : ℕ) (scan : Scan) (es : List Event) → events_from line scan lines ≡ Ok es → Each IsReadable lines × (moves line scan lines ≡ Ok es)
 all_readable [] line scan es h = (tt, h)
 all_readable (bytes ∷ lines) line scan es h =
     let n = bind_ok (one_line line scan bytes) (λ next. with_front next.0 (events_from (line + 1) next.1 lines)) es h in

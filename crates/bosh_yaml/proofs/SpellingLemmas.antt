@@ -75,7 +75,7 @@ start_unmarked line (bytes ∷ lines) h = by (is_blank bytes) refl h (λ k. star
     by true p h k = start_blank line bytes lines p ∙ k h ∙ sym (blank_moves line (Whole ∷ []) (bytes ∷ []) lines (p, tt))
     by false p h k = rw (h, p) refl
 
-lines_are_read : (line : ℕ) (lines : Lines) (t : Tree) → SpellsLines lines t → Read (moves line start lines) t
+pub lines_are_read : (line : ℕ) (lines : Lines) (t : Tree) → SpellsLines lines t → Read (moves line start lines) t
 lines_are_read line lines t (marked blanks marker ls u h m c) =
     let r = content_is_read (after_lines line blanks + 1) ls u c in
     (r.0, start_blanks line blanks (marker ∷ ls) h ∙ start_marker (after_lines line blanks) marker ls m ∙ r.1, r.2)

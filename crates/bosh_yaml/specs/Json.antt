@@ -1,5 +1,5 @@
 -- What a JSON text reads as (RFC 8259, as `serde_json` reads it). A key that stands twice is settled by that crate, and maps come in the order of their keys.
-use Rattle.std.specs.Prelude.{ℕ, ℤ, Bool, true, ◌&&◌, List, [], ◌∷◌, ◌++◌, Option, Some, None, Result, Ok, Err, if◌then◌else◌}
+use Rattle.std.specs.Prelude.{ℕ, ℤ, Bool, true, false, ◌&&◌, List, [], ◌∷◌, ◌++◌, Option, Some, None, Result, Ok, Err, if◌then◌else◌}
 use Rattle.std.specs.Option.{is_some}
 use Rattle.std.specs.Str.{is_utf8}
 use Rattle.serde_json.specs.Data as json
@@ -52,6 +52,11 @@ abbrev mutual
   pub members_have_integers : json.Members → Bool
   members_have_integers json.no_members = true
   members_have_integers (json.member k d ms) = has_integers d && members_have_integers ms
+
+-- a value where each number is an integer within 64 bits, and else a refusal
+abbrev pub integers_or : {A : Type 0} → Bool → A → Result A ReadFault
+integers_or true x = Ok x
+integers_or false x = Err faults.Number
 
 -- the data of a JSON text
 abbrev pub data_or_refused : Option json.Data → Result json.Data ReadFault

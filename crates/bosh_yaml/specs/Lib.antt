@@ -9,6 +9,7 @@ pub mod Bare
 pub mod Quotes
 pub mod Result
 pub mod Word
+pub mod Fit
 pub mod Flow
 pub mod Block
 pub mod Content
@@ -20,8 +21,10 @@ pub mod Seen
 pub mod Canon
 pub mod Json
 pub mod Reading
+pub mod Repeats
 pub mod Limits
 pub mod Order
+pub mod Places
 pub mod SpelledWord
 pub mod SpelledFlow
 pub mod SpelledBlock

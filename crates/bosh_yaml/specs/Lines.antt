@@ -27,6 +27,11 @@ abbrev pub skip_spaces : List ℕ → List ℕ
 skip_spaces [] = []
 skip_spaces (b ∷ bs) = if b == 32 then skip_spaces bs else b ∷ bs
 
+-- the bytes without the LFs at their front
+abbrev pub skip_line_ends : List ℕ → List ℕ
+skip_line_ends [] = []
+skip_line_ends (b ∷ bs) = if b == 10 then skip_line_ends bs else b ∷ bs
+
 -- nothing, or a comment
 abbrev pub is_comment : List ℕ → Bool
 is_comment [] = true

@@ -1,9 +1,11 @@
 //! Block mappings and sequences, by their columns.
 
-ghost use Rattle.std.specs.Prelude.{◌≡◌, ◌++◌, ◌∷◌, [], OnOk};
+ghost use Rattle.std.specs.Prelude.{◌≡◌, ◌++◌, ◌∷◌, [], ℕ, List, OnOk};
+ghost use Rattle.bosh_yaml.specs.declared.block.Frame.{Frame};
 ghost use Rattle.bosh_yaml.specs.declared.block.Frame.TheVariants.{Entry, Item};
 ghost use Rattle.bosh_yaml.specs.declared.event.Event.TheVariants.{Key, OpenList, OpenMap};
 ghost use Rattle.bosh_yaml.specs.Block.{after_events, closing, nothing, place_dash as dash_placed, place_end as end_placed, place_key as key_placed, place_value as value_placed};
+ghost use Rattle.bosh_yaml.specs.Fit.{placed_dash, placed_key, with_key};
 ghost use Rattle.bosh_yaml.specs.Result.{Gives};
 
 use crate::event::Event;
@@ -63,10 +65,10 @@ fn open_map(
     ensures events { OnOk result (events.new.items ≡ events.old.items ++ OpenMap ∷ Key line key ∷ []) }
     ensures frames { OnOk result (frames.new.items ≡ Entry column ∷ parent ∷ frames.old.items) }
 {
-    frames.push_front(parent)?;
-    frames.push_front(Frame::Entry(column))?;
     events.push(Event::OpenMap)?;
     events.push(Event::Key { line, key })?;
+    frames.push_front(parent)?;
+    frames.push_front(Frame::Entry(column))?;
     Ok(())
 }
 
@@ -89,6 +91,51 @@ fn close(frame: Frame, events: &mut Vec<Event>) -> Result<(), AllocError>
     }
 }
 
+/// What a dash or a key does at the innermost frame.
+#[derive(Clone, Copy)]
+pub(crate) enum Fit {
+    /// A collection begins, and this is then the frame around it.
+    Begins(Frame),
+    /// The collection that is open here goes on.
+    Continues,
+    /// It goes on after null, since its last item or value has not come.
+    Fills,
+    /// The frame is closed.
+    Closes,
+    /// The text has no form here.
+    Refused,
+}
+
+// What a dash at a column does.
+fn dash_fit(column: usize, frame: Frame) -> Fit
+    ensures { (line : ℕ) (frames : List Frame) → dash_placed line column (frame ∷ frames) ≡ placed_dash line column frame frames result }
+{
+    match frame {
+        Frame::Whole => Fit::Begins(Frame::Done),
+        Frame::Done => Fit::Refused,
+        Frame::Item(at) if at < column => Fit::Begins(Frame::List(at)),
+        Frame::Entry(at) if at <= column => Fit::Begins(Frame::Map(at)),
+        Frame::Item(at) if at == column => Fit::Fills,
+        Frame::List(at) if at == column => Fit::Continues,
+        _ => Fit::Closes,
+    }
+}
+
+// What a key at a column does.
+fn key_fit(column: usize, frame: Frame) -> Fit
+    ensures { (line : ℕ) (key : List ℕ) (frames : List Frame) → key_placed line column key (frame ∷ frames) ≡ placed_key line column key frame frames result }
+{
+    match frame {
+        Frame::Whole => Fit::Begins(Frame::Done),
+        Frame::Done => Fit::Refused,
+        Frame::Item(at) if at < column => Fit::Begins(Frame::List(at)),
+        Frame::Entry(at) if at < column => Fit::Begins(Frame::Map(at)),
+        Frame::Entry(at) if at == column => Fit::Fills,
+        Frame::Map(at) if at == column => Fit::Continues,
+        _ => Fit::Closes,
+    }
+}
+
 // Places a dash at a column.
 pub(crate) fn place_dash(
     line: u32,
@@ -99,31 +146,15 @@ pub(crate) fn place_dash(
     ensures { Gives (λ u. (events.new.items, frames.new.items)) result (after_events events.old.items (dash_placed line column frames.old.items)) }
 {
     while let Some(frame) = frames.pop_front() {
-        match frame {
-            Frame::Whole => return Ok(open_list(column, Frame::Done, frames, events)?),
-            Frame::Done => return Err(ReadFault::Syntax { line }),
-            Frame::Item(at) if at < column => return Ok(open_list(
-                column,
-                Frame::List(at),
-                frames,
-                events,
-            )?),
-            Frame::Entry(at) if at <= column => return Ok(open_list(
-                column,
-                Frame::Map(at),
-                frames,
-                events,
-            )?),
-            Frame::Item(at) if at == column => {
+        match dash_fit(column, frame) {
+            Fit::Begins(parent) => return Ok(open_list(column, parent, frames, events)?),
+            Fit::Continues => return Ok(frames.push_front(Frame::Item(column))?),
+            Fit::Fills => {
                 push_null(events)?;
-                frames.push_front(frame)?;
-                return Ok(());
+                return Ok(frames.push_front(Frame::Item(column))?);
             }
-            Frame::List(at) if at == column => {
-                frames.push_front(Frame::Item(at))?;
-                return Ok(());
-            }
-            _ => close(frame, events)?,
+            Fit::Closes => close(frame, events)?,
+            Fit::Refused => return Err(ReadFault::Syntax { line }),
         }
     }
     Err(ReadFault::Syntax { line })
@@ -139,32 +170,31 @@ pub(crate) fn place_key(
 ) -> Result<(), ReadFault>
     ensures { Gives (λ u. (events.new.items, frames.new.items)) result (after_events events.old.items (key_placed line column key frames.old.items)) }
 {
+    match parent_of_key(line, column, frames, events)? {
+        Some(parent) => Ok(open_map(line, column, key, parent, frames, events)?),
+        None => Ok(next_key(line, key, column, frames, events)?),
+    }
+}
+
+// Closes what a key at a column does not belong to; the frame around the mapping that begins with the key, if one does.
+fn parent_of_key(
+    line: u32,
+    column: usize,
+    frames: &mut VecDeque<Frame>,
+    events: &mut Vec<Event>,
+) -> Result<Option<Frame>, ReadFault>
+    ensures { (key : List ℕ) → Gives (λ parent. with_key line column key events.new.items frames.new.items parent) result (after_events events.old.items (key_placed line column key frames.old.items)) }
+{
     while let Some(frame) = frames.pop_front() {
-        match frame {
-            Frame::Whole => return Ok(open_map(line, column, key, Frame::Done, frames, events)?),
-            Frame::Done => return Err(ReadFault::Syntax { line }),
-            Frame::Item(at) if at < column => return Ok(open_map(
-                line,
-                column,
-                key,
-                Frame::List(at),
-                frames,
-                events,
-            )?),
-            Frame::Entry(at) if at < column => return Ok(open_map(
-                line,
-                column,
-                key,
-                Frame::Map(at),
-                frames,
-                events,
-            )?),
-            Frame::Entry(at) if at == column => {
+        match key_fit(column, frame) {
+            Fit::Begins(parent) => return Ok(Some(parent)),
+            Fit::Continues => return Ok(None),
+            Fit::Fills => {
                 push_null(events)?;
-                return Ok(next_key(line, key, at, frames, events)?);
+                return Ok(None);
             }
-            Frame::Map(at) if at == column => return Ok(next_key(line, key, at, frames, events)?),
-            _ => close(frame, events)?,
+            Fit::Closes => close(frame, events)?,
+            Fit::Refused => return Err(ReadFault::Syntax { line }),
         }
     }
     Err(ReadFault::Syntax { line })
@@ -180,8 +210,8 @@ fn next_key(
     ensures events { OnOk result (events.new.items ≡ events.old.items ++ Key line key ∷ []) }
     ensures frames { OnOk result (frames.new.items ≡ Entry at ∷ frames.old.items) }
 {
-    frames.push_front(Frame::Entry(at))?;
     events.push(Event::Key { line, key })?;
+    frames.push_front(Frame::Entry(at))?;
     Ok(())
 }
 

@@ -1,7 +1,9 @@
 //! The node that events make.
 
-ghost use Rattle.std.specs.Prelude.{◌≡◌, [], None, map, OnOk};
+ghost use Rattle.std.specs.Prelude.{◌≡◌, ◌∷◌, [], None, false, map, OnOk};
 ghost use Rattle.std.specs.Option.{option_map};
+ghost use Rattle.bosh_yaml.specs.declared.build.Open.TheVariants.{Entry as EntryOf, List as ListOf};
+ghost use Rattle.bosh_yaml.specs.Keys.{has_key};
 ghost use Rattle.bosh_yaml.specs.Nodes.{AreNew, IsNewIn, made, repeated, with_close as with_closed, with_event, with_key as keyed, with_value as valued};
 ghost use Rattle.bosh_yaml.specs.Result.{Gives};
 ghost use Rattle.bosh_yaml.specs.View.{tree_of};
@@ -30,22 +32,46 @@ fn with_value(value: Node, outer: &mut VecDeque<Open>) -> Result<Option<Node>, R
 {
     match outer.pop_front() {
         None => Ok(Some(value)),
-        Some(Open::List(mut items)) => {
-            if items.push(value).is_err() {
-                return Err(ReadFault::Memory);
-            }
-            outer.push_front(Open::List(items))?;
-            Ok(None)
-        }
-        Some(Open::Entry(mut pairs, key)) => {
-            if pairs.push(key, value).is_err() {
-                return Err(ReadFault::Memory);
-            }
-            outer.push_front(Open::Map(pairs))?;
-            Ok(None)
-        }
+        Some(Open::List(items)) => with_item(items, value, outer),
+        Some(Open::Entry(pairs, key)) => with_entry(pairs, key, value, outer),
         Some(Open::Map(_)) => Err(ReadFault::Syntax { line: 0 }),
     }
+}
+
+// Opens a list again, with one more item.
+fn with_item(
+    mut items: Items,
+    value: Node,
+    outer: &mut VecDeque<Open>,
+) -> Result<Option<Node>, ReadFault>
+    requires { AreNew outer.old.items }
+    ensures gives { Gives (λ o. (option_map tree_of o, outer.new.items)) result (valued (tree_of value) (ListOf items ∷ outer.old.items)) }
+    ensures new { OnOk result (AreNew outer.new.items) }
+{
+    if items.push(value).is_err() {
+        return Err(ReadFault::Memory);
+    }
+    outer.push_front(Open::List(items))?;
+    Ok(None)
+}
+
+// Opens a map again, with one more key and its value.
+fn with_entry(
+    mut pairs: Pairs,
+    key: Str,
+    value: Node,
+    outer: &mut VecDeque<Open>,
+) -> Result<Option<Node>, ReadFault>
+    requires all_new { AreNew outer.old.items }
+    requires new { has_key key pairs ≡ false }
+    ensures gives { Gives (λ o. (option_map tree_of o, outer.new.items)) result (valued (tree_of value) (EntryOf pairs key ∷ outer.old.items)) }
+    ensures new { OnOk result (AreNew outer.new.items) }
+{
+    if pairs.push(key, value).is_err() {
+        return Err(ReadFault::Memory);
+    }
+    outer.push_front(Open::Map(pairs))?;
+    Ok(None)
 }
 
 fn with_key(key: Str, outer: &mut VecDeque<Open>) -> Result<Option<Node>, ReadFault>

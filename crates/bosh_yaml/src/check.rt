@@ -2,10 +2,12 @@
 
 ghost use Rattle.std.specs.Prelude.{◌≡◌, ◌+◌, ◌<◌, ◌≤◌, ◌^◌, [], ◌∷◌, List, length, map, max, IfOk};
 ghost use Rattle.bosh_yaml.specs.declared.event.Event.{Event};
+ghost use Rattle.bosh_yaml.specs.declared.event.Event.TheVariants.{Key};
 ghost use Rattle.bosh_yaml.specs.Seen.{keys_of_set, line_or_else};
 ghost use Rattle.bosh_yaml.specs.Nodes.{nesting as nests, open_after as opened, repeated};
 
 use crate::event::Event;
+use crate::text::Str;
 use std::alloc::{AllocError, Global};
 use std::collections::{BTreeSet, VecDeque};
 
@@ -56,15 +58,25 @@ fn take_event<'a>(
             let _ = seen.pop_front();
             Ok(None)
         }
-        Event::Key { line, key } => match seen.pop_front() {
-            None => Ok(None),
-            Some(mut keys) => {
-                let added = keys.insert(key.as_bytes())?;
-                seen.push_front(keys)?;
-                Ok(if added { None } else { Some(*line) })
-            }
-        },
+        Event::Key { line, key } => take_key(*line, key, seen),
     }
+}
+
+// Takes a key, and answers its line where it stands a second time.
+#[tactic(auto, using(crate::proofs::SeenLemmas::seen))]
+fn take_key<'a>(
+    line: u32,
+    key: &'a Str,
+    seen: &mut VecDeque<BTreeSet<&'a [u8]>>,
+) -> Result<Option<u32>, AllocError>
+    ensures { IfOk result (λ found. (rest : List Event) → repeated (map keys_of_set seen.old.items) (Key line key.now ∷ rest) ≡ line_or_else found (repeated (map keys_of_set seen.new.items) rest)) }
+{
+    let Some(mut keys) = seen.pop_front() else {
+        return Ok(None);
+    };
+    let added = keys.insert(key.as_bytes())?;
+    seen.push_front(keys)?;
+    Ok(if added { None } else { Some(line) })
 }
 
 // The line of the first key that stands a second time in its mapping.

@@ -94,7 +94,7 @@ fn value_at(
         Some((b'[' | b'{', _)) => flow_at(alloc, line, column, bytes, frames, events),
         _ => {
             let (word, rest) = word_at(alloc, Place::Block, line, bytes)?;
-            scalar_at(alloc, line, column, word, rest, frames, events)
+            scalar_at(line, column, word, rest, frames, events)
         }
     }
 }
@@ -118,7 +118,7 @@ fn key_or_scalar(
             place_key(line, column, key, frames, events)?;
             entry_at(alloc, line, column, after, frames, events)
         }
-        _ => scalar_at(alloc, line, column, word, rest, frames, events),
+        _ => scalar_at(line, column, word, rest, frames, events),
     }
 }
 
@@ -149,7 +149,6 @@ fn entry_at(
 }
 
 fn scalar_at(
-    alloc: Global,
     line: u32,
     column: usize,
     word: Word,
@@ -163,7 +162,7 @@ fn scalar_at(
         return Err(ReadFault::Syntax { line });
     }
     place_value(line, column, frames)?;
-    events.push(Event::Scalar(word.leaf(alloc)?))?;
+    events.push(Event::Scalar(word.leaf()))?;
     Ok(None)
 }
 

@@ -3,6 +3,7 @@
 ghost use Rattle.std.specs.Prelude.{◌≡◌, ◌<◌, ◌++◌, ◌≤◌, ◌∷◌, [], List, length, IfOk};
 ghost use Rattle.bosh_yaml.specs.declared.flow.Nest.TheVariants.{BeforeForm};
 ghost use Rattle.bosh_yaml.specs.declared.flow.Nest.{Nest};
+ghost use Rattle.bosh_yaml.specs.declared.flow.Sign.TheVariants.{Key, OpenList, OpenMap, Scalar};
 ghost use Rattle.bosh_yaml.specs.Flow.{after_key, after_turn, after_value, close_list, close_map, comma as commas, ends_key as ends, form, form_of, is_whole as whole, sign_at as sign_from, sign_of, signs_of, turn as turns, word_sign};
 ghost use Rattle.bosh_yaml.specs.Result.{Gives, with_front};
 
@@ -72,11 +73,11 @@ fn sign_at(alloc: Global, line: u32, bytes: &[u8]) -> Result<(Sign, &[u8]), Read
         return Ok((sign, rest));
     }
     let (word, rest) = word_at(alloc, Place::Flow, line, bytes)?;
-    word_sign(alloc, line, word, rest)
+    word_sign(line, word, rest)
 }
 
 // A scalar is a key where `:` follows it, and else a value.
-fn word_sign(alloc: Global, line: u32, word: Word, rest: &[u8]) -> Result<(Sign, &[u8]), ReadFault>
+fn word_sign(line: u32, word: Word, rest: &[u8]) -> Result<(Sign, &[u8]), ReadFault>
     ensures gives { Gives (λ p. (p.0, p.1.now)) result (word_sign line (word, rest.now)) }
     ensures no_longer { IfOk result (λ p. length p.1.now ≤ length rest.now) }
 {
@@ -86,7 +87,7 @@ fn word_sign(alloc: Global, line: u32, word: Word, rest: &[u8]) -> Result<(Sign,
         }
         return Ok((Sign::Key(word.key(line)?), after));
     }
-    Ok((Sign::Scalar(word.leaf(alloc)?), rest))
+    Ok((Sign::Scalar(word.leaf()), rest))
 }
 
 // The signs up to the line's end.
@@ -172,6 +173,62 @@ fn close_map(line: u32, nest: Nest, events: &mut Vec<Event>) -> Result<(), ReadF
     }
 }
 
+fn open_list(
+    line: u32,
+    nest: Nest,
+    nests: &mut VecDeque<Nest>,
+    events: &mut Vec<Event>,
+) -> Result<(), ReadFault>
+    ensures { Gives (λ u. (events.new.items, nests.new.items)) result (after_turn events.old.items nests.old.items (turns line nest OpenList)) }
+{
+    nests.push_front(after_value(line, nest)?)?;
+    nests.push_front(Nest::BeforeItem)?;
+    events.push(Event::OpenList)?;
+    Ok(())
+}
+
+fn open_map(
+    line: u32,
+    nest: Nest,
+    nests: &mut VecDeque<Nest>,
+    events: &mut Vec<Event>,
+) -> Result<(), ReadFault>
+    ensures { Gives (λ u. (events.new.items, nests.new.items)) result (after_turn events.old.items nests.old.items (turns line nest OpenMap)) }
+{
+    nests.push_front(after_value(line, nest)?)?;
+    nests.push_front(Nest::BeforeKey)?;
+    events.push(Event::OpenMap)?;
+    Ok(())
+}
+
+fn take_scalar(
+    line: u32,
+    nest: Nest,
+    leaf: Leaf,
+    nests: &mut VecDeque<Nest>,
+    events: &mut Vec<Event>,
+) -> Result<(), ReadFault>
+    ensures { Gives (λ u. (events.new.items, nests.new.items)) result (after_turn events.old.items nests.old.items (turns line nest (Scalar leaf))) }
+{
+    events.push(Event::Scalar(leaf))?;
+    nests.push_front(after_value(line, nest)?)?;
+    Ok(())
+}
+
+fn take_key(
+    line: u32,
+    nest: Nest,
+    key: Str,
+    nests: &mut VecDeque<Nest>,
+    events: &mut Vec<Event>,
+) -> Result<(), ReadFault>
+    ensures { Gives (λ u. (events.new.items, nests.new.items)) result (after_turn events.old.items nests.old.items (turns line nest (Key key))) }
+{
+    events.push(Event::Key { line, key })?;
+    nests.push_front(after_key(line, nest)?)?;
+    Ok(())
+}
+
 // Takes one sign where one stands.
 fn turn(
     line: u32,
@@ -183,28 +240,10 @@ fn turn(
     ensures { Gives (λ u. (events.new.items, nests.new.items)) result (after_turn events.old.items nests.old.items (turns line nest sign)) }
 {
     match sign {
-        Sign::OpenList => {
-            nests.push_front(after_value(line, nest)?)?;
-            nests.push_front(Nest::BeforeItem)?;
-            events.push(Event::OpenList)?;
-            Ok(())
-        }
-        Sign::OpenMap => {
-            nests.push_front(after_value(line, nest)?)?;
-            nests.push_front(Nest::BeforeKey)?;
-            events.push(Event::OpenMap)?;
-            Ok(())
-        }
-        Sign::Scalar(leaf) => {
-            nests.push_front(after_value(line, nest)?)?;
-            events.push(Event::Scalar(leaf))?;
-            Ok(())
-        }
-        Sign::Key(key) => {
-            nests.push_front(after_key(line, nest)?)?;
-            events.push(Event::Key { line, key })?;
-            Ok(())
-        }
+        Sign::OpenList => open_list(line, nest, nests, events),
+        Sign::OpenMap => open_map(line, nest, nests, events),
+        Sign::Scalar(leaf) => take_scalar(line, nest, leaf, nests, events),
+        Sign::Key(key) => take_key(line, nest, key, nests, events),
         Sign::Comma => comma(line, nest, nests, events),
         Sign::CloseList => close_list(line, nest, events),
         Sign::CloseMap => close_map(line, nest, events),

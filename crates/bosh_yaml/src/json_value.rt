@@ -1,14 +1,18 @@
 //! JSON texts.
 
-ghost use Rattle.std.specs.Prelude.{◌≡◌, false, true, ◌++◌, IfNone, IfOk, IfSome, OnOk, string_bytes};
+ghost use Rattle.std.specs.Prelude.{◌≡◌, false, true, [], ◌∷◌, ◌++◌, nat_lt, IfNone, IfOk, IfSome, OnOk, string_bytes};
 ghost use Rattle.std.specs.Str.{is_utf8};
 ghost use Rattle.serde_json.specs.View.{items_view, members_view, view};
-ghost use Rattle.bosh_yaml.specs.Json.{has_integers, item_events, items_have_integers, json_data, json_events, member_events, members_have_integers};
+ghost use Rattle.bosh_yaml.specs.Json.{has_integers, integers_or, items_have_integers, json_data, members_have_integers};
+ghost use Rattle.bosh_yaml.specs.Keys.{has_key};
+ghost use Rattle.bosh_yaml.specs.Limits.{depth, depth_all, depth_keyed};
 ghost use Rattle.bosh_yaml.specs.Result.{Gives};
+ghost use Rattle.bosh_yaml.specs.Spelling.{json_items, json_members, json_tree};
+ghost use Rattle.bosh_yaml.specs.Tree.{fields_of, trees_of};
+ghost use Rattle.bosh_yaml.specs.View.{tree_of};
 
-use crate::event::Event;
 use crate::fault::ReadFault;
-use crate::plain::Leaf;
+use crate::node::{Items, Node, Pairs};
 use crate::text::Str;
 use serde_json::error::Category;
 use serde_json::{Map, Value};
@@ -48,86 +52,101 @@ fn text_of(alloc: Global, text: &String) -> Result<Str, AllocError>
     Str::from_utf8(alloc, text.as_str().as_bytes())
 }
 
-// Adds the events of a value, with null in place of a number that is no integer within 64 bits, and answers whether there is none.
-#[cycle(json)]
-pub(crate) fn push_value(
-    alloc: Global,
-    value: &Value,
-    events: &mut Vec<Event>,
-) -> Result<bool, AllocError>
-    ensures events { OnOk result (events.new.items ≡ events.old.items ++ json_events (view value.now)) }
-    ensures integers { IfOk result (λ all. all ≡ has_integers (view value.now)) }
+// Whether lists and maps nest deeper than this.
+#[cycle(depth)]
+pub(crate) fn is_deeper(most: usize, value: &Value) -> bool
+    ensures { result ≡ nat_lt most (depth (json_tree (view value.now))) }
 {
     match value {
-        Value::Null => {
-            events.push(Event::Scalar(Leaf::Null))?;
-            Ok(true)
-        }
-        Value::Bool(b) => {
-            events.push(Event::Scalar(Leaf::Bool(*b)))?;
-            Ok(true)
-        }
-        Value::Number(n) => match n.as_i64() {
-            Some(n) => {
-                events.push(Event::Scalar(Leaf::Int(n)))?;
-                Ok(true)
-            }
-            None => {
-                events.push(Event::Scalar(Leaf::Null))?;
-                Ok(false)
-            }
-        },
-        Value::String(text) => {
-            events.push(Event::Scalar(Leaf::Text(text_of(alloc, text)?)))?;
-            Ok(true)
-        }
-        Value::Array(items) => {
-            events.push(Event::OpenList)?;
-            let all = push_items(alloc, items, events)?;
-            events.push(Event::Close)?;
-            Ok(all)
-        }
-        Value::Object(members) => {
-            events.push(Event::OpenMap)?;
-            let all = push_members(alloc, members, events)?;
-            events.push(Event::Close)?;
-            Ok(all)
-        }
+        Value::Null | Value::Bool(_) | Value::Number(_) | Value::String(_) => false,
+        Value::Array(items) => most == 0 || has_deeper_item(most - 1, items),
+        Value::Object(members) => most == 0 || has_deeper_member(most - 1, members),
     }
 }
 
-#[cycle(json)]
-fn push_items(
-    alloc: Global,
-    items: &Vec<Value>,
-    events: &mut Vec<Event>,
-) -> Result<bool, AllocError>
-    ensures events { OnOk result (events.new.items ≡ events.old.items ++ item_events (items_view items.now.items)) }
-    ensures integers { IfOk result (λ all. all ≡ items_have_integers (items_view items.now.items)) }
+#[cycle(depth)]
+fn has_deeper_item(most: usize, items: &Vec<Value>) -> bool
+    ensures { result ≡ nat_lt most (depth_all (trees_of (json_items (items_view items.now.items)))) }
 {
-    let mut all = true;
     for item in items {
-        let one = push_value(alloc, item, events)?;
-        all = all && one;
+        if is_deeper(most, item) {
+            return true;
+        }
     }
-    Ok(all)
+    false
+}
+
+#[cycle(depth)]
+fn has_deeper_member(most: usize, members: &Map<String, Value>) -> bool
+    ensures { result ≡ nat_lt most (depth_keyed (fields_of (json_members (members_view members.now.entries)))) }
+{
+    for (_, member) in members.iter() {
+        if is_deeper(most, member) {
+            return true;
+        }
+    }
+    false
+}
+
+/// The node of a value whose numbers are integers within 64 bits.
+#[cycle(json)]
+pub(crate) fn node_of(alloc: Global, value: &Value) -> Result<Node, ReadFault>
+    ensures { Gives tree_of result (integers_or (has_integers (view value.now)) (json_tree (view value.now))) }
+{
+    match value {
+        Value::Null => Ok(Node::Null),
+        Value::Bool(b) => Ok(Node::Bool(*b)),
+        Value::Number(n) => match n.as_i64() {
+            Some(n) => Ok(Node::Int(n)),
+            None => Err(ReadFault::Number),
+        },
+        Value::String(text) => Ok(Node::Text(text_of(alloc, text)?)),
+        Value::Array(items) => Ok(Node::List(items_of(alloc, items)?)),
+        Value::Object(members) => Ok(Node::Map(pairs_of(alloc, members)?)),
+    }
 }
 
 #[cycle(json)]
-fn push_members(
-    alloc: Global,
-    members: &Map<String, Value>,
-    events: &mut Vec<Event>,
-) -> Result<bool, AllocError>
-    ensures events { OnOk result (events.new.items ≡ events.old.items ++ member_events (members_view members.now.entries)) }
-    ensures integers { IfOk result (λ all. all ≡ members_have_integers (members_view members.now.entries)) }
+fn items_of(alloc: Global, items: &Vec<Value>) -> Result<Items, ReadFault>
+    ensures { let ds = items_view items.now.items in
+        Gives (λ ts. ts) result (integers_or (items_have_integers ds) (json_items ds)) }
 {
-    let mut all = true;
-    for (key, member) in members.iter() {
-        let key = text_of(alloc, key)?;
-        events.push(Event::Key { line: 0, key })?;
-        let one = push_value(alloc, member, events)?;
-        all = all && one;
+    let mut nodes = Items::new(alloc);
+    for item in items {
+        let node = node_of(alloc, item)?;
+        if nodes.push(node).is_err() {
+            return Err(ReadFault::Memory);
+        }
     }
-    Ok(all)
+    Ok(nodes)
+}
+
+#[cycle(json)]
+fn pairs_of(alloc: Global, members: &Map<String, Value>) -> Result<Pairs, ReadFault>
+    ensures { let ms = members_view members.now.entries in
+        Gives (λ ps. ps) result (integers_or (members_have_integers ms) (json_members ms)) }
+{
+    let mut pairs = Pairs::new(alloc);
+    for (key, member) in members.iter() {
+        let node = node_of(alloc, member)?;
+        push_member(alloc, key, node, &mut pairs)?;
+    }
+    Ok(pairs)
+}
+
+// Adds a key and its value.
+fn push_member(
+    alloc: Global,
+    key: &String,
+    value: Node,
+    pairs: &mut Pairs,
+) -> Result<(), AllocError>
+    requires { has_key (string_bytes key.now) pairs.old ≡ false }
+    ensures { OnOk result (pairs.new ≡ pairs.old ++ (string_bytes key.now, tree_of value) ∷ []) }
+{
+    let key = text_of(alloc, key)?;
+    match pairs.push(key, value) {
+        Ok(()) => Ok(()),
+        Err(_) => Err(AllocError),
+    }
 }

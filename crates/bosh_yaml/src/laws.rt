@@ -1,5 +1,5 @@
 //! Laws of the texts. Each is the contract of a function that does nothing.
-ghost use Rattle.std.specs.Prelude.{◌≡◌, ◌<◌, ◌≤◌, ℕ, false, true, List, Result, Ok, Err, length, option_map};
+ghost use Rattle.std.specs.Prelude.{◌≡◌, ◌<◌, ◌≤◌, ◌-◌, ℕ, false, true, List, take, Result, Ok, Err, length, option_map};
 ghost use Rattle.bosh_yaml.specs.Canon.{canon_text};
 ghost use Rattle.bosh_yaml.specs.declared.fault.ReadFault.TheVariants.{Number, RepeatedKey, Syntax, TooDeep};
 ghost use Rattle.bosh_yaml.specs.Keys.{found};
@@ -7,6 +7,7 @@ ghost use Rattle.bosh_yaml.specs.Limits.{depth, HasEachKeyOnce};
 ghost use Rattle.bosh_yaml.specs.Lines.{begins, lines_of};
 ghost use Rattle.bosh_yaml.specs.Order.{in_key_order, IsInKeyOrder, IsWritable};
 ghost use Rattle.bosh_yaml.specs.Reading.{reading};
+ghost use Rattle.bosh_yaml.specs.Repeats.{RepeatsKey, RepeatsNoKey};
 ghost use Rattle.bosh_yaml.specs.Spelling.{Spells, SpellsJson};
 ghost use Rattle.bosh_yaml.specs.Tree.{Tree, Fields, map};
 
@@ -57,6 +58,21 @@ pub fn refusals_name_a_line()
         → reading text ≡ Err (Syntax line) → line ≡ 0 }
     ensures json_keys { (text : List ℕ) (line : ℕ) → begins 123 text ≡ true
         → ¬ (reading text ≡ Err (RepeatedKey line)) }
+{}
+
+/// Of the lines up to the one that a refusal for a repeated key names some map repeats a key, and of the lines before it
+/// none does.
+pub fn repeated_key_is_on_its_line()
+    ensures up_to { (text : List ℕ) (line : ℕ) → reading text ≡ Err (RepeatedKey line)
+        → RepeatsKey (take line (lines_of text)) }
+    ensures before { (text : List ℕ) (line : ℕ) → reading text ≡ Err (RepeatedKey line)
+        → RepeatsNoKey (take (line - 1) (lines_of text)) }
+{}
+
+/// A YAML text that is refused for its depth spells a tree that nests deeper than 64 lists and maps.
+pub fn what_is_too_deep_is_spelled()
+    ensures { (text : List ℕ) → begins 123 text ≡ false → reading text ≡ Err TooDeep
+        → (t : Tree) × Spells text t × (64 < depth t) }
 {}
 
 /// The canonical text of a map is read as the map in the order of its keys, where it has at most 1,048,576 bytes and

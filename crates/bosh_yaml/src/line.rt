@@ -1,7 +1,9 @@
 //! Lines, and the spaces and comments on them.
 
 ghost use Rattle.std.specs.Prelude.{◌≡◌, ◌<◌, ◌≤◌, ◌∷◌, [], length, IfNone, IfSome};
-ghost use Rattle.bosh_yaml.specs.Lines.{begins as starts, is_blank as blank, is_clean as clean, is_end as end, is_gap as gap, lines_of, without_return as without_carriage, skip_spaces as skipped};
+ghost use Rattle.bosh_yaml.specs.Lines.{begins as starts, is_blank as blank, is_clean as clean, is_end as end, is_gap as gap, lines_of, without_return as without_carriage, skip_line_ends as without_ends, skip_spaces as skipped};
+
+use memchr::memchr;
 
 // The first line of the bytes, and what follows it.
 pub(crate) fn next_line(bytes: &[u8]) -> Option<(&[u8], &[u8])>
@@ -13,12 +15,10 @@ pub(crate) fn next_line(bytes: &[u8]) -> Option<(&[u8], &[u8])>
     if bytes.is_empty() {
         return None;
     }
-    for i in 0..bytes.len() {
-        if bytes[i] == b'\n' {
-            return Some((without_return(&bytes[..i]), &bytes[i + 1..]));
-        }
+    match memchr(b'\n', bytes) {
+        Some(end) => Some((without_return(&bytes[..end]), &bytes[end + 1..])),
+        None => Some((bytes, &[])),
     }
-    Some((bytes, &[]))
 }
 
 fn without_return(line: &[u8]) -> &[u8]
@@ -32,16 +32,15 @@ fn without_return(line: &[u8]) -> &[u8]
     line
 }
 
-// Whether no control byte but tab stands in a line.
+// Whether no control byte but tab stands in a line. It looks at each byte, since that goes by several at a time.
 pub(crate) fn is_clean(line: &[u8]) -> bool
     ensures { result ≡ clean line.now }
 {
+    let mut is_clean = true;
     for b in line {
-        if !(*b >= b' ' || *b == b'\t') {
-            return false;
-        }
+        is_clean &= (*b >= b' ') | (*b == b'\t');
     }
-    true
+    is_clean
 }
 
 // The bytes without the spaces at their front.
@@ -51,6 +50,18 @@ pub(crate) fn skip_spaces(bytes: &[u8]) -> &[u8]
 {
     let mut rest = bytes;
     while let [b' ', after @ ..] = rest {
+        rest = after;
+    }
+    rest
+}
+
+// The bytes without the LFs at their front.
+pub(crate) fn skip_line_ends(bytes: &[u8]) -> &[u8]
+    ensures skipped { result.now ≡ without_ends bytes.now }
+    ensures no_longer { length result.now ≤ length bytes.now }
+{
+    let mut rest = bytes;
+    while let [b'\n', after @ ..] = rest {
         rest = after;
     }
     rest

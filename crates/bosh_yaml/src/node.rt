@@ -1,11 +1,12 @@
 //! Nodes, lists of nodes, and maps from keys to nodes.
 
-ghost use Rattle.std.specs.Prelude.{◌≡◌, ◌==◌, false, [], ◌∷◌, ◌++◌, length, map, slice_get, IfOk, IfErr, OnOk, OnErr};
+ghost use Rattle.std.specs.Prelude.{◌≡◌, ◌==◌, false, [], ◌∷◌, ◌++◌, length, map, slice_get, take, None, IfOk, IfErr, OnOk, OnErr};
 ghost use Rattle.std.specs.Option.{option_map};
 ghost use Rattle.bosh_yaml.specs.Keys.{HasDistinctKeys, found, has_key, value_at};
 ghost use Rattle.bosh_yaml.specs.View.{tree_of, pair_of};
 
 use crate::copied::{Copied, CopyFault};
+use crate::places::{FEW, Places};
 use crate::text::Str;
 use std::alloc::Global;
 use std::marker::Model;
@@ -104,6 +105,7 @@ impl Items {
 #[derive(Drop)]
 pub struct Pairs {
     pub(crate) entries: Vec<(Str, Node)>,
+    places: Places,
 }
 
 impl Model for Pairs {
@@ -118,10 +120,12 @@ impl Model for Pairs {
 
     ghost use Rattle.bosh_yaml.specs.View.{pair_of};
     ghost use Rattle.bosh_yaml.specs.Keys.{HasDistinctKeys};
+    ghost use Rattle.bosh_yaml.specs.Places.{IsNoted};
 
     ghost view = { λ s. map pair_of s.entries.items };
 
-    ghost invariant = { λ s. HasDistinctKeys (map pair_of s.entries.items) };
+    ghost invariant = { λ s. HasDistinctKeys (map pair_of s.entries.items)
+        × IsNoted s.places 8 (map pair_of s.entries.items) };
 
     ghost size = { grove };
 
@@ -136,6 +140,7 @@ impl Pairs {
     {
         Pairs {
             entries: Vec::new(alloc),
+            places: Places::new(alloc),
         }
     }
 
@@ -174,12 +179,24 @@ impl Pairs {
     pub fn find(&self, key: &[u8]) -> Option<&Node>
         ensures { option_map (λ n. tree_of n.now) result ≡ value_at key.now self.now }
     {
-        for (written, value) in &self.entries {
-            if written.as_bytes() == key {
-                return Some(value);
-            }
+        let few = self.entries.len().min(FEW);
+        match value_of(key, &self.entries.as_slice()[..few]) {
+            Some(value) => Some(value),
+            None => self.find_placed(key),
         }
-        None
+    }
+
+    // The value at a key that is none of the first few.
+    fn find_placed(&self, key: &[u8]) -> Option<&Node>
+        requires { value_at key.now (take 8 self.now) ≡ None }
+        ensures { option_map (λ n. tree_of n.now) result ≡ value_at key.now self.now }
+    {
+        let (written, value) = self.entries.get(self.places.of(key)?)?;
+        if written.as_bytes() == key {
+            Some(value)
+        } else {
+            None
+        }
     }
 
     /// Whether a key is there.
@@ -196,11 +213,28 @@ impl Pairs {
         ensures unchanged { OnErr result (self.new ≡ self.old) }
         ensures returned { IfErr result (λ p. p ≡ (key, value)) }
     {
+        let alloc = *self.entries.allocator();
+        let place = self.entries.len();
+        if self.places.note(alloc, key.as_bytes(), place).is_err() {
+            return Err((key, value));
+        }
         match self.entries.push((key, value)) {
             Ok(()) => Ok(()),
             Err(full) => Err(full.value),
         }
     }
+}
+
+// The value at a key of some entries.
+fn value_of<'a>(key: &[u8], entries: &'a [(Str, Node)]) -> Option<&'a Node>
+    ensures { option_map (λ n. tree_of n.now) result ≡ value_at key.now (map pair_of entries.now) }
+{
+    for (written, value) in entries {
+        if written.as_bytes() == key {
+            return Some(value);
+        }
+    }
+    None
 }
 
 impl Node {
@@ -244,12 +278,24 @@ fn copy_items(items: &Items, alloc: Global) -> Result<Items, CopyFault>
 fn copy_pairs(pairs: &Pairs, alloc: Global) -> Result<Pairs, CopyFault>
     ensures { IfOk result (λ c. c ≡ pairs.now) }
 {
-    let mut entries = Vec::with_capacity(alloc, pairs.entries.len())?;
+    let mut copied = Pairs::new(alloc);
     for (key, value) in &pairs.entries {
-        let key = key.copy(alloc)?;
-        entries.push((key, copy_node(value, alloc)?))?;
+        let value = copy_node(value, alloc)?;
+        push_copy(alloc, key, value, &mut copied)?;
     }
-    Ok(Pairs { entries })
+    Ok(copied)
+}
+
+// Adds a copy of a key, and its value.
+fn push_copy(alloc: Global, key: &Str, value: Node, pairs: &mut Pairs) -> Result<(), CopyFault>
+    requires { has_key key.now pairs.old ≡ false }
+    ensures { OnOk result (pairs.new ≡ pairs.old ++ (key.now, tree_of value) ∷ []) }
+{
+    let key = key.copy(alloc)?;
+    match pairs.push(key, value) {
+        Ok(()) => Ok(()),
+        Err(_) => Err(CopyFault::Memory),
+    }
 }
 
 impl Copied for Node {

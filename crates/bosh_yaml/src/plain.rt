@@ -1,7 +1,8 @@
 //! Plain scalars: null, truth values, integers and text.
 
-ghost use Rattle.std.specs.Prelude.{◌≡◌, ◌&&◌, ◌||◌, Bool, IfOk, IfErr};
+ghost use Rattle.std.specs.Prelude.{◌≡◌, ◌&&◌, ◌||◌, Bool, IfErr, IfNone, IfOk, IfSome};
 ghost use Rattle.std.specs.Str.{IsUtf8, all_ascii_digits, bytes_eq};
+ghost use Rattle.bosh_yaml.specs.declared.plain.Leaf.TheVariants.{Text};
 ghost use Rattle.bosh_yaml.specs.Scalar.{digits_of, integer_of, is_counting as counts, scalar_of, leaf_tree};
 ghost use Rattle.bosh_yaml.specs.View.{tree_of};
 
@@ -39,28 +40,38 @@ pub fn scalar(alloc: Global, text: &[u8]) -> Result<Node, ReadFault>
     ensures value { IfOk result (λ n. tree_of n ≡ leaf_tree (scalar_of text.now)) }
     ensures memory { IfErr result (λ e. e ≡ ReadFault.Memory) }
 {
-    let leaf = plain(alloc, text)?;
-    Ok(Node::from(leaf))
+    let text = Str::from_utf8(alloc, text)?;
+    Ok(Node::from(plain(text)))
 }
 
 /// What a plain scalar is.
-pub(crate) fn plain(alloc: Global, text: &[u8]) -> Result<Leaf, ReadFault>
+pub(crate) fn plain(text: Str) -> Leaf
+    ensures { result ≡ scalar_of text }
+{
+    match other_than_text(text.as_bytes()) {
+        Some(leaf) => leaf,
+        None => Leaf::Text(text),
+    }
+}
+
+// What a plain scalar is, where it is not text.
+fn other_than_text(text: &[u8]) -> Option<Leaf>
     requires { IsUtf8 text.now }
-    ensures value { IfOk result (λ s. s ≡ scalar_of text.now) }
-    ensures memory { IfErr result (λ e. e ≡ ReadFault.Memory) }
+    ensures some { IfSome result (λ leaf. leaf ≡ scalar_of text.now) }
+    ensures none { IfNone result (Text text.now ≡ scalar_of text.now) }
 {
     if is_word(text, b"") || is_word(text, b"~") || is_word(text, b"null") {
-        return Ok(Leaf::Null);
+        return Some(Leaf::Null);
     }
     if is_word(text, b"true") {
-        return Ok(Leaf::Bool(true));
+        return Some(Leaf::Bool(true));
     }
     if is_word(text, b"false") {
-        return Ok(Leaf::Bool(false));
+        return Some(Leaf::Bool(false));
     }
     match integer(text) {
-        Some(n) => Ok(Leaf::Int(n)),
-        None => Ok(Leaf::Text(Str::from_utf8(alloc, text)?)),
+        Some(n) => Some(Leaf::Int(n)),
+        None => None,
     }
 }
 

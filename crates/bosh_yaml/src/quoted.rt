@@ -1,10 +1,11 @@
 //! Quoted scalars.
 
-ghost use Rattle.std.specs.Prelude.{◌≡◌, ◌<◌, ◌≤◌, ◌++◌, None, length, IfNone, IfOk, IfSome, OnOk};
+ghost use Rattle.std.specs.Prelude.{◌≡◌, ◌≢◌, ◌<◌, ◌≤◌, ◌++◌, ◌∷◌, None, length, IfNone, IfOk, IfSome, OnOk};
 ghost use Rattle.std.specs.Char.{encode_utf8};
 ghost use Rattle.std.specs.Option.{option_map};
 ghost use Rattle.bosh_yaml.specs.Quotes.{after_text, character as character_of, double_escaped, double_quoted as double, double_unicode, escaped as unescaped, four_hex, hex as hexadecimal, single_quoted as single};
 
+use memchr::{memchr, memchr2};
 use std::alloc::{AllocError, Global};
 
 // The text up to the closing single quote, and what follows it.
@@ -17,19 +18,28 @@ pub(crate) fn single_quoted(
 {
     let mut text = Vec::new(alloc);
     let mut rest = bytes;
-    loop {
-        match rest {
-            [b'\'', b'\'', after @ ..] => {
+    while let Some((run, after)) = until_quote(rest) {
+        text.extend_from_slice(run)?;
+        match after {
+            [b'\'', after @ ..] => {
                 text.push(b'\'')?;
                 rest = after;
             }
-            [b'\'', after @ ..] => return Ok(Some((text, after))),
-            [b, after @ ..] => {
-                text.push(*b)?;
-                rest = after;
-            }
-            [] => return Ok(None),
+            _ => return Ok(Some((text, after))),
         }
+    }
+    Ok(None)
+}
+
+// The bytes before the first single quote, and those behind it.
+fn until_quote(bytes: &[u8]) -> Option<(&[u8], &[u8])>
+    ensures found { IfSome result (λ p. single bytes.now ≡ after_text p.0.now (single (39 ∷ p.1.now))) }
+    ensures shorter { IfSome result (λ p. length p.1.now < length bytes.now) }
+    ensures none { IfNone result (single bytes.now ≡ None) }
+{
+    match memchr(b'\'', bytes) {
+        Some(end) => Some((&bytes[..end], &bytes[end + 1..])),
+        None => None,
     }
 }
 
@@ -44,22 +54,31 @@ pub(crate) fn double_quoted(
 {
     let mut text = Vec::new(alloc);
     let mut rest = bytes;
-    while let Some((b, after)) = rest.split_first() {
-        if *b == b'"' {
+    while let Some((run, sign, after)) = until_sign(rest) {
+        text.extend_from_slice(run)?;
+        if sign == b'"' {
             return Ok(Some((text, after)));
         }
-        if *b == b'\\' {
-            let Some((c, after)) = escape_of(after) else {
-                return Ok(None);
-            };
-            push_char(&mut text, c)?;
-            rest = after;
-        } else {
-            text.push(*b)?;
-            rest = after;
-        }
+        let Some((c, after)) = escape_of(after) else {
+            return Ok(None);
+        };
+        push_char(&mut text, c)?;
+        rest = after;
     }
     Ok(None)
+}
+
+// The bytes before the first double quote or backslash, which of the two it is, and the bytes behind it.
+fn until_sign(bytes: &[u8]) -> Option<(&[u8], u8, &[u8])>
+    ensures found { IfSome result (λ p. double bytes.now ≡ after_text p.0.now (double (p.1 ∷ p.2.now))) }
+    ensures sign { IfSome result (λ p. p.1 ≢ 34 → p.1 ≡ 92) }
+    ensures shorter { IfSome result (λ p. length p.2.now < length bytes.now) }
+    ensures none { IfNone result (double bytes.now ≡ None) }
+{
+    match memchr2(b'"', b'\\', bytes) {
+        Some(end) => Some((&bytes[..end], bytes[end], &bytes[end + 1..])),
+        None => None,
+    }
 }
 
 // The character that an escape stands for, from behind its backslash, and what follows it.

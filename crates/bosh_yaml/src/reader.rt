@@ -11,7 +11,7 @@ use crate::build::node_of;
 use crate::check::{first_repeated, nesting};
 use crate::event::Event;
 use crate::fault::ReadFault;
-use crate::json_value::{push_value, value_of};
+use crate::json_value::{self, is_deeper, value_of};
 use crate::line::begins;
 use crate::node::Node;
 use crate::scan::events_of;
@@ -49,15 +49,10 @@ fn read_json(alloc: Global, text: &[u8]) -> Result<Node, ReadFault>
     ensures { Gives tree_of result (json_reading text.now) }
 {
     let value = value_of(alloc, text)?;
-    let mut events = Vec::new(alloc);
-    let all_integers = push_value(alloc, &value, &mut events)?;
-    if nesting(events.as_slice()) > MAX_DEPTH {
+    if is_deeper(MAX_DEPTH, &value) {
         return Err(ReadFault::TooDeep);
     }
-    if !all_integers {
-        return Err(ReadFault::Number);
-    }
-    checked(alloc, events)
+    json_value::node_of(alloc, &value)
 }
 
 // The node of events, unless a key stands twice in its mapping, or lists and maps nest too deep.

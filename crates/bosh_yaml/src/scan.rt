@@ -1,16 +1,18 @@
 //! The events of a text, line by line.
 
-ghost use Rattle.std.specs.Prelude.{◌≡◌, ◌+◌, ◌<◌, ◌≤◌, ◌^◌, [], ◌++◌, length, ◌∷◌, map, Some, Ok};
+ghost use Rattle.std.specs.Prelude.{◌≡◌, ℕ, ◌+◌, ◌-◌, ◌<◌, ◌≤◌, ◌^◌, List, [], ◌++◌, length, ◌∷◌, map, Some, Ok};
 ghost use Rattle.std.specs.Str.{is_utf8};
-ghost use Rattle.bosh_yaml.specs.Events.{content_line as content, end_by_mode, events_of as events_spelled, first_line as first, fixed_indent as fixed, is_marker as marker, is_readable as readable, literal_event, literal_line as literal, one_line, plain_line as plain};
-ghost use Rattle.bosh_yaml.specs.Scanning.{add_event, add_scanned};
+ghost use Rattle.bosh_yaml.specs.declared.block.Frame.{Frame};
+ghost use Rattle.bosh_yaml.specs.Events.{content_line as content, end_by_mode, events_from, events_of as events_spelled, first_line as first, fixed_indent as fixed, is_marker as marker, is_readable as readable, literal_event, literal_line as literal, one_line, plain_line as plain};
+ghost use Rattle.bosh_yaml.specs.Lines.{lines_of};
+ghost use Rattle.bosh_yaml.specs.Scanning.{add_event, add_scanned, scan_in};
 ghost use Rattle.bosh_yaml.specs.Result.{Gives, with_front};
 
 use crate::block::{Frame, place_end};
 use crate::content::take_line;
 use crate::event::Event;
 use crate::fault::ReadFault;
-use crate::line::{begins, is_blank, is_clean, is_end, next_line, skip_spaces};
+use crate::line::{begins, is_blank, is_clean, is_end, next_line, skip_line_ends, skip_spaces};
 use crate::literal::{Header, indentation, is_spaces, literal_text};
 use crate::plain::Leaf;
 use crate::word::text_of;
@@ -120,7 +122,7 @@ fn push_literal(
     ensures { Gives (λ u. events.new.items) result (add_event events.old.items (literal_event header indent (map (λ l. l.now) body.now))) }
 {
     let text = literal_text(alloc, header.chomping, indent, body)?;
-    let text = text_of(alloc, header.line, text.as_slice())?;
+    let text = text_of(header.line, text)?;
     events.push(Event::Scalar(Leaf::Text(text)))?;
     Ok(())
 }
@@ -213,6 +215,20 @@ fn finish(
     Ok(())
 }
 
+// What is left of a text behind the empty lines at its front, unless they are lines of a literal.
+fn skip_empty(mode: Mode, text: &[u8]) -> &[u8]
+    ensures skipped { (line : ℕ) (frames : List Frame) (body : List (List ℕ)) → let scan = scan_in mode frames body in
+        events_from line scan (lines_of text.now)
+        ≡ events_from (line + (length text.now - length result.now)) scan (lines_of result.now) }
+    ensures no_longer { length result.now ≤ length text.now }
+{
+    match mode {
+        Mode::Literal(_, _) => text,
+        Mode::Start => skip_line_ends(text),
+        Mode::Outside => skip_line_ends(text),
+    }
+}
+
 /// The events of a text of at most 1,048,576 bytes.
 pub(crate) fn events_of(alloc: Global, text: &[u8]) -> Result<Vec<Event>, ReadFault>
     requires { length text.now ≤ 1048576 }
@@ -235,8 +251,8 @@ pub(crate) fn events_of(alloc: Global, text: &[u8]) -> Result<Vec<Event>, ReadFa
             &mut events,
             &mut body,
         )?;
-        line += 1;
-        rest = after;
+        rest = skip_empty(mode, after);
+        line += 1 + (after.len() - rest.len()) as u32;
     }
     finish(alloc, mode, frames, &mut events, body.as_slice())?;
     Ok(events)

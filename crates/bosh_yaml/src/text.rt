@@ -1,6 +1,6 @@
 //! Text: bytes that are UTF-8.
 
-ghost use Rattle.std.specs.Prelude.{◌≡◌, ◌==◌, ◌↔◌, IfOk, OnOk, length};
+ghost use Rattle.std.specs.Prelude.{◌≡◌, ◌==◌, ◌↔◌, IfOk, IfSome, IsSome, OnOk, length};
 ghost use Rattle.std.specs.Str.{IsUtf8};
 ghost use Rattle.bosh_yaml.specs.declared.text.OfFault.TheVariants.{Memory};
 
@@ -56,6 +56,17 @@ impl Str {
                 Ok(Str { bytes })
             }
             Err(_) => Err(OfFault::NotOne),
+        }
+    }
+
+    /// The text that the bytes are, which is not copied; none where they are not UTF-8.
+    pub fn from_vec(bytes: Vec<u8>) -> Option<Str>
+        ensures value { IfSome result (λ s. s ≡ bytes.items) }
+        ensures utf8 { IsSome result ↔ IsUtf8 bytes.items }
+    {
+        match str::from_utf8(bytes.as_slice()) {
+            Ok(_) => Some(Str { bytes }),
+            Err(_) => None,
         }
     }
 

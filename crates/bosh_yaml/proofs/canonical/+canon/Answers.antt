@@ -24,7 +24,7 @@ members_of-returns-clause-of_node t c =
     let l = c.loop-key in
     let items = c.deref-key-items.result.now in
     let same : map pair_of items ≡ c.args.pairs.now = ap (λ (es : List (List ℕ × Node)). map pair_of es) c.deref-key-items.ensures.value ∙ c.pairs.view_is in
-    let distinct = subst (λ (es : List (List ℕ × Node)). HasDistinctKeys (map pair_of es)) (sym c.deref-key-items.ensures.value) c.pairs.invariant in
+    let distinct = subst (λ (es : List (List ℕ × Node)). HasDistinctKeys (map pair_of es)) (sym c.deref-key-items.ensures.value) c.pairs.invariant.0 in
     subst (λ ps. IsOfNode (map_tree (fields_of ps))) same (map_of_node (map pair_of items) distinct (each_done IsPairOfNode pair_of items l.key-index c.loop-key-test.false l.invariant.1))
 
 pub values_of-loop-node-preserved : goal.values_of-loop-node-preserved

@@ -1,13 +1,15 @@
-use Rattle.std.proofs.Common.{◌≡◌, ◌++◌, ◌&&◌, List, drop}
+use Rattle.std.proofs.Common.{◌≡◌, ◌++◌, List, drop}
 use Rattle.serde_json.specs.View.{items_view, members_view}
 use Rattle.serde_json.proofs.Views.{Entry}
-use Rattle.bosh_yaml.specs.Json.{item_events, items_have_integers, member_events, members_have_integers}
+use Rattle.bosh_yaml.specs.Json.{items_have_integers, members_have_integers}
+use Rattle.bosh_yaml.specs.Spelling.{json_items, json_members}
 use Rattle.bosh_yaml.proofs.json_value.+json.Given as goal
 
-abbrev pub invariant-push_items-loop-item : goal.invariant-push_items-loop-item
-invariant-push_items-loop-item l =
-    (l.events.items ++ item_events (items_view (drop l.item-index l.item-items)) ≡ l.initial.events.items ++ item_events (items_view l.item-items)) × ((l.all && items_have_integers (items_view (drop l.item-index l.item-items))) ≡ items_have_integers (items_view l.item-items))
+-- the items so far, before those that are left; a number of these is one of all
+abbrev pub invariant-items_of-loop-item : goal.invariant-items_of-loop-item
+invariant-items_of-loop-item l =
+    (l.nodes ++ json_items (items_view (drop l.item-index l.item-items)) ≡ json_items (items_view l.item-items)) × (items_have_integers (items_view (drop l.item-index l.item-items)) ≡ items_have_integers (items_view l.item-items))
 
-abbrev pub invariant-push_members-loop-key : goal.invariant-push_members-loop-key
-invariant-push_members-loop-key l =
-    (done : List Entry) × (l.members.entries ≡ done ++ l.key-iterator) × (l.events.items ++ member_events (members_view l.key-iterator) ≡ l.initial.events.items ++ member_events (members_view l.members.entries)) × ((l.all && members_have_integers (members_view l.key-iterator)) ≡ members_have_integers (members_view l.members.entries))
+abbrev pub invariant-pairs_of-loop-key : goal.invariant-pairs_of-loop-key
+invariant-pairs_of-loop-key l =
+    (done : List Entry) × (l.members.entries ≡ done ++ l.key-iterator) × (l.pairs ≡ json_members (members_view done)) × (members_have_integers (members_view l.key-iterator) ≡ members_have_integers (members_view l.members.entries))

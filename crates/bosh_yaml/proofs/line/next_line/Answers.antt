@@ -1,13 +1,11 @@
-use Rattle.std.proofs.Common.{arith, ◌+◌}
+use Rattle.std.proofs.Common.{◌+◌, arith}
 use Rattle.std.proofs.lemmas.Bool.Decides.{nat_tests}
-use Rattle.bosh_yaml.proofs.LineLemmas.{lines_cut, lines_whole, take_rest}
+use Rattle.bosh_yaml.proofs.LineLemmas.{take_rest, lines_found, lines_not_found}
 use Rattle.bosh_yaml.proofs.line.next_line.Goals as goal
 
-pub returns-then-bytes-i-eq10-clause-some : goal.returns-then-bytes-i-eq10-clause-some
-returns-then-bytes-i-eq10-clause-some c =
-    let i = c.loop-i.i in
-    rw (take_rest (i + 1) c.args.bytes.now, c.without_return.ensures.cut) (lines_cut i c.args.bytes.now c.loop-i.invariant c.loop-i-test.true c.if-bytes-i-eq10.true)
+pub returns-in-Some-clause-some : goal.returns-in-Some-clause-some
+returns-in-Some-clause-some c =
+    rw (take_rest (c.in-Some.end + 1) c.args.bytes.now, c.without_return.ensures.cut) (lines_found c.args.bytes.now c.in-Some.end c.in-Some.ensures.0 c.in-Some.ensures.1)
 
-pub returns-clause-some : goal.returns-clause-some
-returns-clause-some c =
-    lines_whole c.args.bytes.now (grind (arith, nat_tests)) (λ k h. c.loop-i.invariant k (omega arith))
+pub returns-in-None-clause-some : goal.returns-in-None-clause-some
+returns-in-None-clause-some c = lines_not_found c.args.bytes.now (grind (arith, nat_tests)) c.in-None.ensures
