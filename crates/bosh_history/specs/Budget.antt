@@ -1,5 +1,5 @@
 -- How many calls a task makes at most where nothing fails and nothing is lost (this project's profile).
-use Rattle.std.specs.Prelude.{ℕ, ◌+◌, ◌*◌, Bool, Some, length, filter}
+use Rattle.std.specs.Prelude.{ℕ, ◌+◌, ◌*◌, Bool, nat_le, Some, length, filter}
 use Rattle.bosh_base.specs.declared.entry.TaskOpen.{TaskOpen}
 use Rattle.bosh_history.specs.Goals.{rows_of}
 use Rattle.bosh_history.specs.Known.{Known, SlotName}
@@ -19,3 +19,7 @@ budget k o =
     MOST_CALLS_OF_A_ROW * (length (rows_of o.goal) + length o.obsolete)
     + MOST_CALLS_OF_A_MACHINE * length (keys_of o.goal)
     + MOST_CALLS_OF_A_MACHINE * length (filter (is_left k o) k.machines)
+
+-- the calls of the task, where they are counted, are within the budget that it had when it opened
+abbrev pub is_within_budget : (opened ended : Known) → TaskOpen → Bool
+is_within_budget opened ended o = holds (λ n. nat_le n (budget opened o)) (ended.task o.task).calls

@@ -1,29 +1,23 @@
 -- What a worker of a task is to do next: the first of the rules that gives an answer decides (this project's
 -- profile).
-use Rattle.std.specs.Prelude.{ℕ, ◌+◌, Bool, true, false, not, ◌&&◌, ◌||◌, if◌then◌else◌, Option, Some, None, is_some, List, [], ◌∷◌}
+use Rattle.std.specs.Prelude.{ℕ, ◌+◌, Bool, false, not, ◌&&◌, ◌||◌, if◌then◌else◌, Option, Some, None, is_some, List, [], ◌∷◌}
 use Rattle.bosh_base.specs.declared.call.Call.{Call}
 use Rattle.bosh_base.specs.declared.entry.Entry.{Entry}
 use Rattle.bosh_base.specs.declared.entry.Entry.TheVariants.{Begin, UpdBegin, UpdDone, Gone}
 use Rattle.bosh_base.specs.declared.inst.Inst.{Inst}
 use Rattle.bosh_base.specs.declared.owner.Owner.{Owner}
 use Rattle.bosh_base.specs.declared.owner.Owner.TheVariants.{Instance}
-use Rattle.bosh_history.specs.Goals.{may_begin}
+use Rattle.bosh_history.specs.Goals.{is_waiting, may_begin}
 use Rattle.bosh_history.specs.Items.{is_to_ping, is_to_go, items}
 use Rattle.bosh_history.specs.Known.{Task}
 use Rattle.bosh_history.specs.Moments.{Moment}
 use Rattle.bosh_history.specs.Steps.{is_idle, has_no_call, call_now}
-use Rattle.bosh_roll.specs.declared.upd.Upd.{Upd}
-use Rattle.bosh_roll.specs.declared.upd.Upd.TheVariants.{Todo}
 
 -- what comes next: an entry is noted, or the worker waits, or the task is over
 pub data Claimed : Type 0 where
   Noted : Entry → Claimed
   Waits : Claimed
   Over : Claimed
-
-abbrev pub is_waiting : Upd → Bool
-is_waiting Todo = true
-is_waiting upd = false
 
 -- the update of a changed instance has to begin before its first call, but not before a ping
 abbrev pub has_to_begin : Task → Owner → Bool
@@ -36,8 +30,8 @@ is_passed m t (Instance i) =
     not (is_idle m (Instance i)) || (has_to_begin (m.known.task t) (Instance i) && not (may_begin (m.known.task t) i))
 is_passed m t owner = not (is_idle m owner)
 
-abbrev pub beginning : Moment → ℕ → ℕ → Owner → Call → Entry
-beginning m t worker owner call =
+abbrev pub new_call : Moment → ℕ → ℕ → Owner → Call → Entry
+new_call m t worker owner call =
     Begin (record { n = m.known.last_call + 1; task = t; worker = worker; owner = owner; call = call })
 
 -- where no call is left the item is done, and else its update begins and then the call
@@ -49,12 +43,12 @@ instance_item m t worker i None =
 instance_item m t worker i (Some call) =
     if has_to_begin (m.known.task t) (Instance i)
     then UpdBegin (record { task = t; inst = i })
-    else beginning m t worker (Instance i) call
+    else new_call m t worker (Instance i) call
 
 -- a compile machine that another call compiles for is passed over
 abbrev pub item : Moment → ℕ → ℕ → Owner → Option Call → Option Entry
 item m t worker (Instance i) call = Some (instance_item m t worker i call)
-item m t worker owner (Some call) = Some (beginning m t worker owner call)
+item m t worker owner (Some call) = Some (new_call m t worker owner call)
 item m t worker owner None = None
 
 abbrev pub or_next : Claimed → Option Entry → Claimed

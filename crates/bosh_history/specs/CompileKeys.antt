@@ -25,7 +25,7 @@ records_new k (Some b) (answers.Built digest) = new b.call
     new call = true
 records_new k begin answer = true
 
--- the first update of a task stands where its keys are compiled
+-- an update of a task begins, and is done, only where all keys of its goal are compiled
 abbrev pub has_keys : Known → ℕ → Bool
 has_keys k t = list_all (λ work. is_compiled k work.key) (keys_of (k.task t).goal)
 

@@ -27,7 +27,7 @@ active_of k i = option_map (λ d. d.disk) (active (k.row i).disks)
 abbrev pub same_contents : List Entry → ℕ → ℕ → Bool
 same_contents effects a b = pointwise nat_eq (contents_of effects a) (contents_of effects b)
 
--- the active disk stays, or a migration from it to the other was answered, and the contents are those
+-- no other disk becomes the active one but by an answered migration from it to that one, which then has its contents
 abbrev pub moves_contents : List Entry → Call → Option ℕ → Option ℕ → Bool
 moves_contents effects call None after = true
 moves_contents effects call (Some old) None = true

@@ -1,5 +1,4 @@
--- What a task that is reported done left: exactly its goal, as far as the task could find out (this project's
--- profile).
+-- What a task that is done left: exactly its goal, as far as the task could find out (this project's profile).
 use Rattle.std.specs.Prelude.{◌≡◌, ℕ, Bool, true, false, nat_eq, nat_lt, not, ◌&&◌, ◌||◌, ◌==◌, Option, Some, None, is_some, List, [], ◌∷◌, filter}
 use Rattle.std.specs.Cmp.Lexicographic.{pointwise}
 use Rattle.std.specs.List.{list_any, list_all}
@@ -12,6 +11,7 @@ use Rattle.bosh_base.specs.declared.entry.Entry.{Entry}
 use Rattle.bosh_base.specs.declared.goal.Goal.{Goal}
 use Rattle.bosh_base.specs.declared.goal.GoalRow.{GoalRow}
 use Rattle.bosh_base.specs.declared.inst.Inst.{Inst}
+use Rattle.bosh_base.specs.declared.link.Tie.{Tie}
 use Rattle.bosh_base.specs.declared.moves.Move.{Move}
 use Rattle.bosh_base.specs.declared.owner.Owner.{Owner}
 use Rattle.bosh_base.specs.declared.owner.Owner.TheVariants.{Instance}
@@ -20,12 +20,11 @@ use Rattle.bosh_base.specs.declared.row.Row.{Row}
 use Rattle.bosh_base.specs.declared.task.TaskKind.{TaskKind}
 use Rattle.bosh_base.specs.declared.task.TaskKind.TheVariants.{Deploy, Recreate, Start, Stop, DeleteDeployment, Fix, Resolve}
 use Rattle.bosh_history.specs.Goals.{named, rows_of}
-use Rattle.bosh_history.specs.Known.{Known, want_in}
-use Rattle.bosh_history.specs.Known.{dep_of_task}
+use Rattle.bosh_history.specs.Known.{Known, dep_of_task, want_in}
 use Rattle.bosh_history.specs.Moments.{Opening, Moment, Missed, moment}
 use Rattle.bosh_history.specs.Words.{holds}
 use Rattle.bosh_rows.specs.Disks.{is_active, is_running as runs, is_detached, is_right}
-use Rattle.bosh_rows.specs.Same.{same_inst, same_owner, same_make, same_spec}
+use Rattle.bosh_rows.specs.Same.{same_inst, same_owner, same_make, same_spec, same_tie}
 use Rattle.bosh_rows.specs.Standing.{same_truth}
 use Rattle.bosh_rows.specs.Tied.{vms_of, number_of, is_spoiled}
 
@@ -155,13 +154,24 @@ leaves_no_disk m dep goal = list_all is_accounted (numbers_to (disks_created m.e
         not (is_disk_there m.effects d && is_of_dep dep (disk_creation m.effects d))
         || (is_active_disk m.known goal d || is_some (m.known.orphan d))
 
+-- ---- links
+
+abbrev pub ties_of : Option Goal → List Tie
+ties_of (Some goal) = goal.ties
+ties_of None = []
+
+-- what is recorded of the links of the deployment is what the goal says
+abbrev pub has_its_ties : Known → List ℕ → Option Goal → Bool
+has_its_ties k dep goal = pointwise same_tie (ties_of (k.goal dep)) (ties_of goal)
+
 -- ---- all
 
 abbrev pub is_exact_deploy : Moment → ℕ → Bool
 is_exact_deploy m t =
     has_no_other_machine m.effects (dep_of_task m.known t) (m.known.task t).goal
     && (list_all (is_exact_row m t) (rows_of (m.known.task t).goal)
-    && leaves_no_disk m (dep_of_task m.known t) (m.known.task t).goal)
+    && (leaves_no_disk m (dep_of_task m.known t) (m.known.task t).goal
+    && has_its_ties m.known (dep_of_task m.known t) (m.known.task t).goal))
 
 abbrev pub is_exact_instance : Moment → ℕ → Inst → Bool
 is_exact_instance m t i = holds (is_exact_row m t) (want_in (m.known.task t).goal i)

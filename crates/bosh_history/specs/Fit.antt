@@ -21,7 +21,7 @@ plain_row it = record it { source = None; calls = None }
 abbrev pub plain : Snapshot → Snapshot
 plain s = record s { tasks = map plain_row s.tasks }
 
--- entries stand for what is known, where every question is answered alike, but for what the older format has not
+-- entries stand for what is known, where a snapshot of both is the same, but for what the older format has not
 abbrev pub StandFor : List Entry → Known → Type 0
 StandFor entries k = plain (snapshot_of (known_of entries)) ≡ plain (snapshot_of k)
 

@@ -1,6 +1,6 @@
 -- What a task changes and deletes, which of its instances are canaries, and when an update may begin
 -- (bosh.io, "Deployment manifest", "update").
-use Rattle.std.specs.Prelude.{ℕ, Bool, not, nat_lt, ◌&&◌, ◌||◌, Option, Some, None, is_some, List, [], ◌∷◌, map, filter, take, count_by}
+use Rattle.std.specs.Prelude.{ℕ, Bool, true, false, not, nat_lt, ◌&&◌, ◌||◌, Option, Some, None, is_some, List, [], ◌∷◌, map, filter, take, count_by}
 use Rattle.std.specs.List.{list_all}
 use Rattle.std.specs.Str.{bytes_eq}
 use Rattle.bosh_base.specs.declared.goal.Goal.{Goal}
@@ -13,6 +13,8 @@ use Rattle.bosh_history.specs.Items.{is_finished}
 use Rattle.bosh_history.specs.Known.{Known, Task, want_in, plan_in}
 use Rattle.bosh_history.specs.Words.{is_among}
 use Rattle.bosh_roll.specs.Upd.{is_busy}
+use Rattle.bosh_roll.specs.declared.upd.Upd.{Upd}
+use Rattle.bosh_roll.specs.declared.upd.Upd.TheVariants.{Todo}
 use Rattle.bosh_rows.specs.Same.{same_inst}
 use Rattle.bosh_rows.specs.Standing.{stands}
 
@@ -43,7 +45,7 @@ abbrev pub rows_of : Option Goal → List GoalRow
 rows_of (Some goal) = goal.rows
 rows_of None = []
 
--- by group and index: those that do not stand; all, where the machines are asked first; the named one alone
+-- in the order of the goal: those that do not stand; all, where the machines are asked first; the named one alone
 abbrev pub to_change : Known → TaskKind → Option Goal → List Inst
 to_change k (Recreate i) goal = i ∷ []
 to_change k (Start i) goal = i ∷ []
@@ -63,6 +65,11 @@ to_delete k DeleteDeployment dep goal = out_of_goal k dep goal
 to_delete k kind dep goal = []
 
 -- ---- updates
+
+-- the update of an instance has not begun
+abbrev pub is_waiting : Upd → Bool
+is_waiting Todo = true
+is_waiting upd = false
 
 -- the changed instances of a group, in order
 abbrev pub changed_in : Task → List ℕ → List Inst

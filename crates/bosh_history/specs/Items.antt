@@ -97,7 +97,3 @@ is_item k t owner = holds (is_present k t) (phase_of k t owner)
 -- the items of the present phase, in order
 abbrev pub items : Known → ℕ → List Owner
 items k t = filter (is_item k t) (candidates k t)
-
--- nothing is left of the task
-abbrev pub is_over : Known → ℕ → Bool
-is_over k t = list_all (λ owner. not (is_some (phase_of k t owner))) (candidates k t)

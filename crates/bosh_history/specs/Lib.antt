@@ -6,6 +6,7 @@ pub mod Claim
 pub mod CompileKeys
 pub mod Deletions
 pub mod DiskContents
+pub mod Done
 pub mod Each
 pub mod Exact
 pub mod Fit

@@ -25,7 +25,7 @@ use Rattle.bosh_base.specs.declared.owner.Owner.{Owner}
 use Rattle.bosh_base.specs.declared.owner.Owner.TheVariants.{Instance}
 use Rattle.bosh_base.specs.declared.release.Release.{Release}
 use Rattle.bosh_base.specs.declared.stemcell.Stemcell.{Stemcell}
-use Rattle.bosh_history.specs.Goals.{canaries_first, may_begin}
+use Rattle.bosh_history.specs.Goals.{canaries_first, is_waiting, may_begin}
 use Rattle.bosh_history.specs.Held.{is_open}
 use Rattle.bosh_history.specs.Items.{is_to_ping, is_to_go, is_to_change, is_item, is_finished}
 use Rattle.bosh_history.specs.Known.{Known, Task, SlotName}
@@ -35,8 +35,6 @@ use Rattle.bosh_history.specs.Slots.{is_compiled, keys_of}
 use Rattle.bosh_history.specs.Steps.{is_idle, has_no_call, call_now}
 use Rattle.bosh_history.specs.Words.{is_among, holds}
 use Rattle.bosh_roll.specs.Upd.{is_busy}
-use Rattle.bosh_roll.specs.declared.upd.Upd.{Upd}
-use Rattle.bosh_roll.specs.declared.upd.Upd.TheVariants.{Todo}
 use Rattle.bosh_rows.specs.Same.{same_inst}
 
 -- What is settled outside of histories: what a compilation gives, whether a file is a cloud config, whether a release
@@ -93,10 +91,6 @@ answers answer None = ⊥
 abbrev pub EndsCall : End → Option OpenCall → Type 0
 EndsCall e (Some call) = answers e.answer call.did
 EndsCall e None = ⊥
-
-abbrev pub is_waiting : Upd → Bool
-is_waiting Todo = true
-is_waiting upd = false
 
 -- the update of an instance begins, where canaries and limit allow it
 pub record BeginsUpdate (m : Moment) (u : Update) : Type 0 where

@@ -23,7 +23,7 @@ is_interruption (TaskError e) = is_interrupted e.cause
     is_interrupted failure = false
 is_interruption entry = false
 
--- the entry may be made durable now: it ends such a task, or there is none
+-- the entry may be made durable now: it ends a task as interrupted, or no task that a stop interrupted is left
 abbrev pub may_follow : Moment → Entry → Bool
 may_follow m entry = not (is_recovering m) || is_interruption entry
 

@@ -146,7 +146,7 @@ is_sound_compile_row it = is_some it.vm || is_creation it.doubt
 abbrev pub share_a_lock : TaskRow → TaskRow → Bool
 share_a_lock a b = not (is_some a.end) && (not (is_some b.end) && option_eq bytes_eq a.dep b.dep)
 
--- Its rows, compile machines and tasks are such as entries leave them.
+-- A store may begin with it: its rows, compile machines and tasks are such as entries leave them.
 abbrev pub is_sound_snapshot : Snapshot → Bool
 is_sound_snapshot s =
     list_all is_sound_row s.rows

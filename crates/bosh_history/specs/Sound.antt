@@ -2,6 +2,8 @@
 -- a manifest, and a current goal with one row changed, are such.
 use Rattle.std.specs.Prelude.{◌≡◌, ℕ, Bool, true, false, eqb, nat_le, not, ◌&&◌, ◌||◌, ◌==◌, Option, Some, None, List, [], ◌∷◌, ◌++◌, map, filter, length}
 use Rattle.std.specs.List.{list_any, list_all, flat_map}
+use Rattle.std.specs.Option.{option_eq}
+use Rattle.std.specs.Cmp.Lexicographic.{pointwise}
 use Rattle.std.specs.Str.{bytes_eq}
 use Rattle.bosh_base.specs.declared.entry.TaskOpen.{TaskOpen}
 use Rattle.bosh_base.specs.declared.goal.Goal.{Goal}
@@ -22,7 +24,7 @@ use Rattle.bosh_history.specs.Known.{Known}
 use Rattle.bosh_history.specs.Slots.{is_compiled}
 use Rattle.bosh_history.specs.Words.{is_among, are_distinct, holds}
 use Rattle.bosh_rows.specs.Disks.{is_detached}
-use Rattle.bosh_rows.specs.Same.{same_inst, same_make, same_spec}
+use Rattle.bosh_rows.specs.Same.{same_inst, same_make, same_spec, same_state, same_tie, same_want}
 
 -- ---- instances
 
@@ -74,13 +76,17 @@ are_rows_free k goal =
 abbrev pub is_used : Known → ℕ → Bool
 is_used k a = list_any (λ i. has_addr a (k.row i).make) k.instances || is_held (held_by_machines k) a
 
+-- the current goal of the deployment wants it for a row
+abbrev pub is_wanted : Known → Goal → ℕ → Bool
+is_wanted k goal a = holds (λ current. is_among eqb a (row_addrs current)) (k.goal goal.dep)
+
 -- Its rows and slots have different addresses; nobody else holds one; no row has that of another row that stays; and
--- no slot has that of a machine that is recorded.
+-- no slot has that of a machine that is recorded, or of a row of the current goal.
 abbrev pub has_addresses : Known → Goal → Bool
 has_addresses k goal =
     are_distinct eqb (row_addrs goal ++ slot_addrs goal)
     && (list_all (λ a. not (is_held (held_elsewhere k goal.dep) a)) (row_addrs goal ++ slot_addrs goal)
-    && (are_rows_free k goal && list_all (λ a. not (is_used k a)) (slot_addrs goal)))
+    && (are_rows_free k goal && list_all (λ a. not (is_used k a || is_wanted k goal a)) (slot_addrs goal)))
 
 -- ---- keys
 
@@ -110,14 +116,25 @@ is_tie_kept k goal tie =
 
 -- a row as it was, but for its state and for how old its machine may be
 abbrev pub is_alike : GoalRow → GoalRow → Bool
-is_alike a b = same_inst a.inst b.inst && (same_make a.make b.make && same_spec a.spec b.spec)
+is_alike a b =
+    same_inst a.inst b.inst
+    && (same_make a.make b.make && (same_spec a.spec b.spec && option_eq same_want a.disk b.disk))
 
-abbrev pub are_rows_alike : List GoalRow → List GoalRow → Bool
-are_rows_alike [] [] = true
-are_rows_alike (a ∷ more) (b ∷ others) = is_alike a b && are_rows_alike more others
-are_rows_alike rows others = false
+-- .. and for nothing, where it is not the named one
+abbrev pub is_kept_row : Inst → GoalRow → GoalRow → Bool
+is_kept_row i a b =
+    is_alike a b && (same_inst a.inst i || (same_state a.state b.state && a.fresh_after == b.fresh_after))
 
--- The goal of a task of one instance has the rows of the current one; unless the named one is to be detached, no
+abbrev pub are_rows_kept : Inst → List GoalRow → List GoalRow → Bool
+are_rows_kept i [] [] = true
+are_rows_kept i (a ∷ more) (b ∷ others) = is_kept_row i a b && are_rows_kept i more others
+are_rows_kept i rows others = false
+
+abbrev pub same_plan : GroupPlan → GroupPlan → Bool
+same_plan a b =
+    bytes_eq a.name b.name && (a.canaries == b.canaries && (a.limit == b.limit && a.stage == b.stage))
+
+-- The goal of a task of one instance has the rows, plans and ties of the current one; unless the named one is to be detached, no
 -- address of it is that of a recorded row which is not in the goal, since such a task deletes none.
 abbrev pub has_no_address : Known → Goal → GoalRow → Bool
 has_no_address k goal want = list_all (λ i. is_in (Some goal) i || not (takes i)) k.instances
@@ -128,15 +145,18 @@ has_no_address k goal want = list_all (λ i. is_in (Some goal) i || not (takes i
 abbrev pub is_renewed : Known → Goal → Inst → Option Goal → Bool
 is_renewed k goal i (Some current) =
     is_in (Some current) i
-    && (are_rows_alike goal.rows current.rows
+    && (are_rows_kept i goal.rows current.rows
+    && (pointwise same_plan goal.groups current.groups
+    && (pointwise same_tie goal.ties current.ties
     && list_all (λ want. not (same_inst want.inst i) || (is_detached want.state || has_no_address k goal want))
-    goal.rows)
+    goal.rows)))
 is_renewed k goal i None = false
 
 abbrev pub is_empty_goal : Goal → Bool
 is_empty_goal goal =
     nat_le (length goal.rows) 0
-    && (nat_le (length goal.keys) 0 && (nat_le (length goal.slots) 0 && nat_le (length goal.offers) 0))
+    && (nat_le (length goal.keys) 0
+    && (nat_le (length goal.slots) 0 && (nat_le (length goal.ties) 0 && nat_le (length goal.offers) 0)))
 
 abbrev pub is_of_kind : Known → TaskKind → Goal → Bool
 is_of_kind k DeleteDeployment goal = is_empty_goal goal

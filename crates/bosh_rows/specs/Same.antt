@@ -3,13 +3,17 @@ use Rattle.std.specs.Prelude.{Bool, false, ◌&&◌, ◌==◌, Option, Some, Non
 use Rattle.std.specs.Str.{bytes_eq}
 use Rattle.bosh_base.specs.contracts.disk_want.DiskWantPartialEq.TheImpl as disk_want
 use Rattle.bosh_base.specs.contracts.make.MakePartialEq.TheImpl as make
+use Rattle.bosh_base.specs.contracts.link.TiePartialEq.TheImpl as tie
 use Rattle.bosh_base.specs.contracts.spec.SpecPartialEq.TheImpl as spec
+use Rattle.bosh_base.specs.contracts.state.StatePartialEq.TheImpl as state
 use Rattle.bosh_base.specs.declared.disk_want.DiskWant.{DiskWant}
 use Rattle.bosh_base.specs.declared.inst.Inst.{Inst}
+use Rattle.bosh_base.specs.declared.link.Tie.{Tie}
 use Rattle.bosh_base.specs.declared.make.Make.{Make}
 use Rattle.bosh_base.specs.declared.owner.Owner.{Owner}
 use Rattle.bosh_base.specs.declared.owner.Owner.TheVariants.{Instance, Compile, Disk}
 use Rattle.bosh_base.specs.declared.spec.Spec.{Spec}
+use Rattle.bosh_base.specs.declared.state.State.{State}
 
 -- the same member of the same group of the same deployment
 abbrev pub same_inst : Inst → Inst → Bool
@@ -35,3 +39,9 @@ same_spec = spec.ghosts.eq
 
 abbrev pub same_want : DiskWant → DiskWant → Bool
 same_want = disk_want.ghosts.eq
+
+abbrev pub same_state : State → State → Bool
+same_state = state.ghosts.eq
+
+abbrev pub same_tie : Tie → Tie → Bool
+same_tie = tie.ghosts.eq

@@ -3,7 +3,7 @@ use Rattle.std.specs.Prelude.{◌≡◌, ℕ, Bool, true, false, not, nat_eq, �
 use Rattle.std.specs.List.{list_any, list_all}
 use Rattle.std.specs.Cmp.Lexicographic.{pointwise}
 use Rattle.std.specs.Option.{option_eq}
-use Rattle.bosh_base.specs.Cloud.{numbers_to, vms_created, vm_creation, is_vm_there, spec_of, is_running, is_drained, disk_creation, is_disk_there, is_holder, is_disk_mounted, attached_to, make_of, want_of}
+use Rattle.bosh_base.specs.Cloud.{numbers_to, vms_created, vm_creation, is_vm_there, spec_of, is_running, is_drained, disk_creation, is_disk_there, holder_of, is_holder, is_disk_mounted, attached_to, make_of, want_of}
 use Rattle.bosh_base.specs.CallStep.{found_vm, found_disk}
 use Rattle.bosh_base.specs.declared.answer.Answer.TheVariants as answers
 use Rattle.bosh_base.specs.declared.call.Call.{Call}
@@ -94,10 +94,11 @@ abbrev pub is_disk_kept : List Entry → Row → DiskRow → Bool
 is_disk_kept effects row d =
     is_disk_there effects d.disk && was_provided (Instance row.inst) d.tag d.want (disk_creation effects d.disk)
 
--- it is attached to the machine, or to none, as recorded, and mounted there as recorded
+-- it is attached to the machine, or to none at all, as recorded, and mounted there as recorded
 abbrev pub is_disk_placed : List Entry → List ℕ → DiskRow → Bool
 is_disk_placed effects vms d =
-    same_truth (list_any (λ v. is_holder effects v d.disk) vms) d.attached
+    same_truth (is_some (holder_of effects d.disk)) d.attached
+    && same_truth (list_any (λ v. is_holder effects v d.disk) vms) d.attached
     && same_truth (d.attached && is_disk_mounted effects d.disk) d.mounted
 
 -- the machine has no disk but those that are recorded
