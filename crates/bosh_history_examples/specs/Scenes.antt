@@ -20,12 +20,10 @@ use Rattle.bosh_base.specs.declared.moves.Move.{Move}
 use Rattle.bosh_base.specs.declared.moves.Move.TheVariants as moves
 use Rattle.bosh_base.specs.declared.offer.Offer.{Offer}
 use Rattle.bosh_base.specs.declared.owner.Owner.{Owner}
-use Rattle.bosh_base.specs.declared.release.Release.{Release}
 use Rattle.bosh_base.specs.declared.reply.Reply.TheVariants as replies
 use Rattle.bosh_base.specs.declared.spec.Mark.{Mark}
 use Rattle.bosh_base.specs.declared.spec.Spec.{Spec}
 use Rattle.bosh_base.specs.declared.state.State.{State}
-use Rattle.bosh_base.specs.declared.stemcell.Stemcell.{Stemcell}
 use Rattle.bosh_base.specs.declared.task.TaskKind.{TaskKind}
 use Rattle.bosh_history.specs.Moments.{Moment, beginning, nothing, later}
 

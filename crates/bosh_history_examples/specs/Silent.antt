@@ -10,7 +10,7 @@ use Rattle.bosh_base.specs.declared.moves.Move.TheVariants.{Note, Halt}
 use Rattle.bosh_base.specs.declared.owner.Owner.TheVariants.{Instance}
 use Rattle.bosh_base.specs.declared.state.State.TheVariants.{Running}
 use Rattle.bosh_base.specs.declared.task.TaskKind.TheVariants as kinds
-use Rattle.bosh_history_examples.specs.Scenes.{History, web, z1, z2, plain, no_jobs, row, group, goal, sourced, opening, beginning_of, upd_begin, upd_done, gone, task_error, did, loss, stop, said, called, part}
+use Rattle.bosh_history_examples.specs.Scenes.{History, web, z1, z2, plain, no_jobs, row, group, goal, sourced, opening, beginning_of, upd_begin, upd_done, task_error, did, loss, stop, said, called, part}
 use Rattle.bosh_history_examples.specs.Two.{two}
 
 abbrev pub silent_g1 : Goal
