@@ -1,0 +1,7 @@
+pub mod Claims
+pub mod Effects
+pub mod Orders
+pub mod Permitted
+pub mod Rows
+pub mod Says
+pub mod Walks
