@@ -4,4 +4,5 @@ pub mod Orders
 pub mod Permitted
 pub mod Rows
 pub mod Says
+pub mod TwoSlots
 pub mod Walks

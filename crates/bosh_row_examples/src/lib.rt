@@ -9,6 +9,7 @@ mod doubts;
 mod entries;
 mod machines;
 mod running;
+mod slots;
 mod standing;
 mod ties;
 mod walks;
@@ -23,6 +24,7 @@ pub use doubts::{doubts_come_first, lost_rows_go};
 pub use entries::{agents_answer, calls_begin, disks_answer, machines_answer, updates_are_done};
 pub use machines::{machines_are_created, machines_are_removed};
 pub use running::{jobs_are_paused, specs_are_applied_and_jobs_started};
+pub use slots::two_slots_examples;
 pub use standing::{disks_do_not_stand, machines_do_not_stand, rows_stand};
 pub use ties::{
     lost_rows_are_not_tied, lost_rows_are_tied, rows_are_not_tied, rows_are_tied,
