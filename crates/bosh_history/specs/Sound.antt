@@ -134,8 +134,8 @@ abbrev pub same_plan : GroupPlan → GroupPlan → Bool
 same_plan a b =
     bytes_eq a.name b.name && (a.canaries == b.canaries && (a.limit == b.limit && a.stage == b.stage))
 
--- The goal of a task of one instance has the rows, plans and ties of the current one; unless the named one is to be detached, no
--- address of it is that of a recorded row which is not in the goal, since such a task deletes none.
+-- The goal of a task of one instance has the rows, plans and ties of the current one; unless the named one is to be
+-- detached, no address of it is that of a recorded row which is not in the goal, since such a task deletes none.
 abbrev pub has_no_address : Known → Goal → GoalRow → Bool
 has_no_address k goal want = list_all (λ i. is_in (Some goal) i || not (takes i)) k.instances
   where

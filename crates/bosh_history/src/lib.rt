@@ -1,5 +1,6 @@
-//! The histories of a site: what its moves made durable, what they did to the cloud, which move is permitted after which, and
-//! what it means that a history is safe, tied and recovered, and that a task left exactly what it was asked for.
+//! The histories of a site: what its moves made durable, what they did to the cloud, which move is permitted after
+//! which, and what it means that a history is safe, tied and recovered, and that a task left exactly what it was asked
+//! for.
 #![tactic(auto)]
 
 mod laws;

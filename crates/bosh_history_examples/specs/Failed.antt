@@ -9,15 +9,21 @@ use Rattle.bosh_base.specs.declared.moves.Move.TheVariants.{Note}
 use Rattle.bosh_base.specs.declared.owner.Owner.TheVariants.{Instance}
 use Rattle.bosh_base.specs.declared.state.State.TheVariants.{Running}
 use Rattle.bosh_base.specs.declared.task.TaskKind.TheVariants as kinds
-use Rattle.bosh_history_examples.specs.Scenes.{History, web, z1, z2, plain, no_jobs, row, group, goal, sourced, opening, beginning_of, ending, upd_begin, upd_done, task_error, said, called, part}
+use Rattle.bosh_history_examples.specs.Scenes.{History, sourced, opening, beginning_of, ending, upd_begin, upd_done, task_error, said, called, part}
+use Rattle.bosh_history_examples.specs.Values.{web, z1, z2, plain, no_jobs, row, group, goal}
 
 abbrev pub failed_g1 : Goal
 failed_g1 =
-    goal (codes "dep") (row (web 0) (plain z1 10) no_jobs None Running 0 ∷ row (web 1) (plain z2 11) no_jobs None Running 0 ∷ []) (group (codes "web") 1 1 ∷ []) [] [] [] []
+    goal (codes "dep")
+    (row (web 0) (plain z1 10) no_jobs None Running 0 ∷ row (web 1) (plain z2 11) no_jobs None Running 0 ∷ [])
+    (group (codes "web") 1 1 ∷ []) [] [] [] []
 
 abbrev pub failed : History
 failed built =
-    (said 3 ∷ Note (opening 1 kinds.Deploy (Some (codes "dep")) (Some failed_g1) ((web 0) ∷ (web 1) ∷ []) [] [] sourced) ∷ Note (upd_begin 1 (web 0)) ∷ [])
+    (said 3
+    ∷ Note (opening 1 kinds.Deploy (Some (codes "dep")) (Some failed_g1) ((web 0) ∷ (web 1) ∷ []) [] [] sourced)
+    ∷ Note (upd_begin 1 (web 0))
+    ∷ [])
     ++ called 1 1 0 (Instance (web 0)) (calls.CreateVm (plain z1 10) []) true (answers.Cid 1)
     ++ called 2 1 0 (Instance (web 0)) (calls.Apply 1 no_jobs) true answers.Done
     ++ called 3 1 0 (Instance (web 0)) (calls.Start 1) true answers.Done
@@ -25,7 +31,12 @@ failed built =
     ++ called 4 1 0 (Instance (web 1)) (calls.CreateVm (plain z2 11) []) true (answers.Cid 2)
     ++ called 5 1 0 (Instance (web 1)) (calls.Apply 2 no_jobs) true answers.Done
     ++ called 6 1 0 (Instance (web 1)) (calls.Start 2) false answers.Failed
-    ++ (Note (task_error 1 (failures.Call 6)) ∷ said 4 ∷ Note (opening 2 kinds.Deploy (Some (codes "dep")) (Some failed_g1) ((web 1) ∷ []) [] [] sourced) ∷ Note (upd_begin 2 (web 1)) ∷ [])
+    ++
+    (Note (task_error 1 (failures.Call 6))
+    ∷ said 4
+    ∷ Note (opening 2 kinds.Deploy (Some (codes "dep")) (Some failed_g1) ((web 1) ∷ []) [] [] sourced)
+    ∷ Note (upd_begin 2 (web 1))
+    ∷ [])
     ++ called 7 2 0 (Instance (web 1)) (calls.GetState 2) false (answers.Facts (Some no_jobs) false false)
     ++ called 8 2 0 (Instance (web 1)) (calls.Start 2) true answers.Done
     ++ (Note (upd_done 2 (web 1)) ∷ Note (entries.TaskDone 2) ∷ said 5 ∷ [])

@@ -10,15 +10,34 @@ use Rattle.bosh_base.specs.declared.moves.Move.TheVariants.{Note, Halt}
 use Rattle.bosh_base.specs.declared.owner.Owner.TheVariants.{Instance}
 use Rattle.bosh_base.specs.declared.state.State.TheVariants.{Running}
 use Rattle.bosh_base.specs.declared.task.TaskKind.TheVariants as kinds
-use Rattle.bosh_history_examples.specs.Scenes.{History, web, z1, z2, plain, no_jobs, row, group, goal, sourced, opening, beginning_of, ending, upd_begin, upd_done, task_error, did, stop, called, part}
+use Rattle.bosh_history_examples.specs.Scenes.{History, sourced, opening, beginning_of, ending, upd_begin, upd_done, task_error, did, stop, called, part}
+use Rattle.bosh_history_examples.specs.Values.{web, z1, z2, plain, no_jobs, row, group, goal}
 
 abbrev pub flight_g1 : Goal
 flight_g1 =
-    goal (codes "dep") (row (web 0) (plain z1 10) no_jobs None Running 0 ∷ row (web 1) (plain z2 11) no_jobs None Running 0 ∷ row (web 2) (plain z1 12) no_jobs None Running 0 ∷ []) (group (codes "web") 0 2 ∷ []) [] [] [] []
+    goal (codes "dep")
+    (row (web 0) (plain z1 10) no_jobs None Running 0
+    ∷ row (web 1) (plain z2 11) no_jobs None Running 0
+    ∷ row (web 2) (plain z1 12) no_jobs None Running 0
+    ∷ [])
+    (group (codes "web") 0 2 ∷ []) [] [] [] []
 
 abbrev pub flight : History
 flight built =
-    (Note (opening 1 kinds.Deploy (Some (codes "dep")) (Some flight_g1) ((web 0) ∷ (web 1) ∷ (web 2) ∷ []) [] [] sourced) ∷ Note (upd_begin 1 (web 0)) ∷ Note (beginning_of 1 1 0 (Instance (web 0)) (calls.CreateVm (plain z1 10) [])) ∷ Note (upd_begin 1 (web 1)) ∷ Note (beginning_of 2 1 1 (Instance (web 1)) (calls.CreateVm (plain z2 11) [])) ∷ did 2 true (answers.Cid 1) ∷ Halt causes.Stop ∷ stop None (1 ∷ []) None ∷ Note (task_error 1 failures.Interrupted) ∷ Note (opening 2 kinds.Deploy (Some (codes "dep")) (Some flight_g1) ((web 0) ∷ (web 1) ∷ (web 2) ∷ []) [] [] sourced) ∷ Note (upd_begin 2 (web 0)) ∷ [])
+    (Note
+    (opening 1 kinds.Deploy (Some (codes "dep")) (Some flight_g1) ((web 0) ∷ (web 1) ∷ (web 2) ∷ []) [] [] sourced)
+    ∷ Note (upd_begin 1 (web 0))
+    ∷ Note (beginning_of 1 1 0 (Instance (web 0)) (calls.CreateVm (plain z1 10) []))
+    ∷ Note (upd_begin 1 (web 1))
+    ∷ Note (beginning_of 2 1 1 (Instance (web 1)) (calls.CreateVm (plain z2 11) []))
+    ∷ did 2 true (answers.Cid 1)
+    ∷ Halt causes.Stop
+    ∷ stop None (1 ∷ []) None
+    ∷ Note (task_error 1 failures.Interrupted)
+    ∷ Note
+    (opening 2 kinds.Deploy (Some (codes "dep")) (Some flight_g1) ((web 0) ∷ (web 1) ∷ (web 2) ∷ []) [] [] sourced)
+    ∷ Note (upd_begin 2 (web 0))
+    ∷ [])
     ++ called 3 2 0 (Instance (web 0)) (calls.FindVm 1) false (answers.Found (Some 2))
     ++ called 4 2 0 (Instance (web 0)) (calls.Apply 2 no_jobs) true answers.Done
     ++ called 5 2 0 (Instance (web 0)) (calls.Start 2) true answers.Done

@@ -8,27 +8,42 @@ use Rattle.bosh_base.specs.declared.moves.Move.TheVariants.{Note}
 use Rattle.bosh_base.specs.declared.owner.Owner.TheVariants.{Instance, Disk}
 use Rattle.bosh_base.specs.declared.state.State.TheVariants.{Running, Detached}
 use Rattle.bosh_base.specs.declared.task.TaskKind.TheVariants as kinds
-use Rattle.bosh_history_examples.specs.Scenes.{History, web, z1, plain, no_jobs, disk, row, group, goal, sourced, opening, beginning_of, upd_begin, upd_done, did, said, called, part}
+use Rattle.bosh_history_examples.specs.Scenes.{History, sourced, opening, beginning_of, upd_begin, upd_done, did, said, called, part}
+use Rattle.bosh_history_examples.specs.Values.{web, z1, plain, no_jobs, disk, row, group, goal}
 use Rattle.bosh_history_examples.specs.Migrated.{migrated}
 
 abbrev pub hard_g1 : Goal
 hard_g1 =
-    goal (codes "dep") (row (web 0) (plain z1 10) no_jobs (Some (disk 10)) Running 0 ∷ []) (group (codes "web") 1 1 ∷ []) [] [] [] []
+    goal (codes "dep") (row (web 0) (plain z1 10) no_jobs (Some (disk 10)) Running 0 ∷ [])
+    (group (codes "web") 1 1 ∷ []) [] [] [] []
 
 abbrev pub hard_g2 : Goal
 hard_g2 =
-    goal (codes "dep") (row (web 0) (plain z1 10) no_jobs (Some (disk 10)) Detached 0 ∷ []) (group (codes "web") 1 1 ∷ []) [] [] [] []
+    goal (codes "dep") (row (web 0) (plain z1 10) no_jobs (Some (disk 10)) Detached 0 ∷ [])
+    (group (codes "web") 1 1 ∷ []) [] [] [] []
 
 abbrev pub hard : History
 hard built =
     part 1 23 (migrated built)
-    ++ (Note (opening 2 (kinds.Stop (web 0)) (Some (codes "dep")) (Some hard_g2) ((web 0) ∷ []) [] [] None) ∷ Note (upd_begin 2 (web 0)) ∷ [])
+    ++
+    (Note (opening 2 (kinds.Stop (web 0)) (Some (codes "dep")) (Some hard_g2) ((web 0) ∷ []) [] [] None)
+    ∷ Note (upd_begin 2 (web 0))
+    ∷ [])
     ++ called 7 2 0 (Instance (web 0)) (calls.Drain 1) true answers.Done
     ++ called 8 2 0 (Instance (web 0)) (calls.Stop 1) true answers.Done
     ++ called 9 2 0 (Instance (web 0)) (calls.UnmountDisk 1 1) true answers.Done
     ++ called 10 2 0 (Instance (web 0)) (calls.DetachDisk 1 1) true answers.Done
     ++ called 11 2 0 (Instance (web 0)) (calls.DeleteVm 1) true answers.Done
-    ++ (Note (upd_done 2 (web 0)) ∷ Note (entries.TaskDone 2) ∷ said 4 ∷ Note (opening 3 kinds.Deploy (Some (codes "dep")) (Some hard_g2) [] [] [] sourced) ∷ Note (entries.TaskDone 3) ∷ said 5 ∷ Note (opening 4 (kinds.Start (web 0)) (Some (codes "dep")) (Some hard_g1) ((web 0) ∷ []) [] [] None) ∷ Note (upd_begin 4 (web 0)) ∷ [])
+    ++
+    (Note (upd_done 2 (web 0))
+    ∷ Note (entries.TaskDone 2)
+    ∷ said 4
+    ∷ Note (opening 3 kinds.Deploy (Some (codes "dep")) (Some hard_g2) [] [] [] sourced)
+    ∷ Note (entries.TaskDone 3)
+    ∷ said 5
+    ∷ Note (opening 4 (kinds.Start (web 0)) (Some (codes "dep")) (Some hard_g1) ((web 0) ∷ []) [] [] None)
+    ∷ Note (upd_begin 4 (web 0))
+    ∷ [])
     ++ (called 12 4 0 (Instance (web 0)) (calls.CreateVm (plain z1 10) (1 ∷ [])) true (answers.Cid 2))
     ++ called 13 4 0 (Instance (web 0)) (calls.AttachDisk 2 1) true answers.Done
     ++ called 14 4 0 (Instance (web 0)) (calls.MountDisk 2 1) true answers.Done

@@ -10,19 +10,31 @@ use Rattle.bosh_base.specs.declared.moves.Move.TheVariants.{Note, Halt}
 use Rattle.bosh_base.specs.declared.owner.Owner.TheVariants.{Instance}
 use Rattle.bosh_base.specs.declared.state.State.TheVariants.{Running}
 use Rattle.bosh_base.specs.declared.task.TaskKind.TheVariants as kinds
-use Rattle.bosh_history_examples.specs.Scenes.{History, web, z1, plain, no_jobs, row, group, goal, sourced, opening, upd_begin, upd_done, task_error, stop, said, called, part}
+use Rattle.bosh_history_examples.specs.Scenes.{History, sourced, opening, upd_begin, upd_done, task_error, stop, said, called, part}
+use Rattle.bosh_history_examples.specs.Values.{web, z1, plain, no_jobs, row, group, goal}
 
 abbrev pub kept_done_g1 : Goal
 kept_done_g1 =
-    goal (codes "dep") (row (web 0) (plain z1 10) no_jobs None Running 0 ∷ []) (group (codes "web") 1 1 ∷ []) [] [] [] []
+    goal (codes "dep") (row (web 0) (plain z1 10) no_jobs None Running 0 ∷ []) (group (codes "web") 1 1 ∷ []) [] [] []
+    []
 
 abbrev pub kept_done : History
 kept_done built =
-    (said 3 ∷ Note (opening 1 kinds.Deploy (Some (codes "dep")) (Some kept_done_g1) ((web 0) ∷ []) [] [] sourced) ∷ Note (upd_begin 1 (web 0)) ∷ [])
+    (said 3
+    ∷ Note (opening 1 kinds.Deploy (Some (codes "dep")) (Some kept_done_g1) ((web 0) ∷ []) [] [] sourced)
+    ∷ Note (upd_begin 1 (web 0))
+    ∷ [])
     ++ called 1 1 0 (Instance (web 0)) (calls.CreateVm (plain z1 10) []) true (answers.Cid 1)
     ++ called 2 1 0 (Instance (web 0)) (calls.Apply 1 no_jobs) true answers.Done
     ++ called 3 1 0 (Instance (web 0)) (calls.Start 1) true answers.Done
-    ++ (Note (upd_done 1 (web 0)) ∷ Halt causes.Stop ∷ said 4 ∷ stop (Some (entries.TaskDone 1)) [] None ∷ said 5 ∷ said 6 ∷ [])
+    ++
+    (Note (upd_done 1 (web 0))
+    ∷ Halt causes.Stop
+    ∷ said 4
+    ∷ stop (Some (entries.TaskDone 1)) [] None
+    ∷ said 5
+    ∷ said 6
+    ∷ [])
 
 -- A task ended by its kept TaskDone and then as interrupted.
 abbrev pub ended_twice : History

@@ -8,12 +8,26 @@ use Rattle.bosh_base.specs.declared.moves.Move.TheVariants.{Note, Halt}
 use Rattle.bosh_base.specs.declared.owner.Owner.TheVariants.{Instance}
 use Rattle.bosh_base.specs.declared.state.State.TheVariants.{Running}
 use Rattle.bosh_base.specs.declared.task.TaskKind.TheVariants as kinds
-use Rattle.bosh_history_examples.specs.Scenes.{History, web, z1, plain, no_jobs, row, group, goal, sourced, opening, beginning_of, upd_begin, task_error, stop, said}
+use Rattle.bosh_history_examples.specs.Scenes.{History, sourced, opening, beginning_of, upd_begin, task_error, stop, said}
+use Rattle.bosh_history_examples.specs.Values.{web, z1, plain, no_jobs, row, group, goal}
 
 abbrev pub kept_error_g1 : Goal
 kept_error_g1 =
-    goal (codes "dep") (row (web 0) (plain z1 10) no_jobs None Running 0 ∷ []) (group (codes "web") 1 1 ∷ []) [] [] [] []
+    goal (codes "dep") (row (web 0) (plain z1 10) no_jobs None Running 0 ∷ []) (group (codes "web") 1 1 ∷ []) [] [] []
+    []
 
 abbrev pub kept_error : History
 kept_error built =
-    (said 3 ∷ Note (opening 1 kinds.Deploy (Some (codes "dep")) (Some kept_error_g1) ((web 0) ∷ []) [] [] sourced) ∷ Note (upd_begin 1 (web 0)) ∷ Note (beginning_of 1 1 0 (Instance (web 0)) (calls.CreateVm (plain z1 10) [])) ∷ Halt causes.Stop ∷ said 4 ∷ said 5 ∷ stop None (1 ∷ []) None ∷ Halt causes.Stop ∷ said 6 ∷ stop (Some (task_error 1 failures.Interrupted)) [] None ∷ said 7 ∷ [])
+    (said 3
+    ∷ Note (opening 1 kinds.Deploy (Some (codes "dep")) (Some kept_error_g1) ((web 0) ∷ []) [] [] sourced)
+    ∷ Note (upd_begin 1 (web 0))
+    ∷ Note (beginning_of 1 1 0 (Instance (web 0)) (calls.CreateVm (plain z1 10) []))
+    ∷ Halt causes.Stop
+    ∷ said 4
+    ∷ said 5
+    ∷ stop None (1 ∷ []) None
+    ∷ Halt causes.Stop
+    ∷ said 6
+    ∷ stop (Some (task_error 1 failures.Interrupted)) [] None
+    ∷ said 7
+    ∷ [])

@@ -8,7 +8,8 @@ use Rattle.bosh_base.specs.declared.goal.Goal.{Goal}
 use Rattle.bosh_base.specs.declared.moves.Move.TheVariants.{Note}
 use Rattle.bosh_base.specs.declared.owner.Owner.TheVariants.{Compile}
 use Rattle.bosh_base.specs.declared.task.TaskKind.TheVariants as kinds
-use Rattle.bosh_history_examples.specs.Scenes.{History, z1, plain, slot, work_p, group, goal, sourced, opening, task_error, loss, said, called, part}
+use Rattle.bosh_history_examples.specs.Scenes.{History, sourced, opening, task_error, loss, said, called, part}
+use Rattle.bosh_history_examples.specs.Values.{z1, plain, slot, work_p, group, goal}
 
 abbrev pub leftover_g1 : Goal
 leftover_g1 =
@@ -24,7 +25,11 @@ leftover built =
     ++ called 1 1 0 (Compile 1 0) (calls.CreateVm (plain z1 10) []) true (answers.Cid 1)
     ++ called 2 1 0 (Compile 1 0) (calls.CompilePackage 1 work_p []) false (answers.Built (built work_p []))
     ++ called 3 1 0 (Compile 1 0) (calls.DeleteVm 1) false answers.Failed
-    ++ (Note (task_error 1 (failures.Call 3)) ∷ said 5 ∷ Note (opening 2 kinds.Deploy (Some (codes "dep")) (Some leftover_g2) [] [] [] sourced) ∷ [])
+    ++
+    (Note (task_error 1 (failures.Call 3))
+    ∷ said 5
+    ∷ Note (opening 2 kinds.Deploy (Some (codes "dep")) (Some leftover_g2) [] [] [] sourced)
+    ∷ [])
     ++ called 4 2 0 (Compile 1 0) (calls.HasVm 1) false answers.Yes
     ++ called 5 2 0 (Compile 1 0) (calls.DeleteVm 1) true answers.Done
     ++ (Note (entries.TaskDone 2) ∷ said 6 ∷ [])

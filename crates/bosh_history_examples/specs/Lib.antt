@@ -23,5 +23,6 @@ pub mod Swept
 pub mod Together
 pub mod Two
 pub mod Unmigrated
+pub mod Values
 pub mod Verdicts
 pub mod Wrote

@@ -9,17 +9,27 @@ use Rattle.bosh_base.specs.declared.moves.Move.TheVariants.{Note}
 use Rattle.bosh_base.specs.declared.owner.Owner.TheVariants.{Instance}
 use Rattle.bosh_base.specs.declared.state.State.TheVariants.{Running}
 use Rattle.bosh_base.specs.declared.task.TaskKind.TheVariants as kinds
-use Rattle.bosh_history_examples.specs.Scenes.{History, web, z1, z2, plain, no_jobs, row, group, goal, sourced, opening, upd_begin, upd_done, task_error, loss, said, called, part}
+use Rattle.bosh_history_examples.specs.Scenes.{History, sourced, opening, upd_begin, upd_done, task_error, loss, said, called, part}
+use Rattle.bosh_history_examples.specs.Values.{web, z1, z2, plain, no_jobs, row, group, goal}
 use Rattle.bosh_history_examples.specs.Two.{two}
 
 abbrev pub lost_g1 : Goal
 lost_g1 =
-    goal (codes "dep") (row (web 0) (plain z1 10) no_jobs None Running 0 ∷ row (web 1) (plain z2 11) no_jobs None Running 0 ∷ []) (group (codes "web") 1 1 ∷ []) [] [] [] []
+    goal (codes "dep")
+    (row (web 0) (plain z1 10) no_jobs None Running 0 ∷ row (web 1) (plain z2 11) no_jobs None Running 0 ∷ [])
+    (group (codes "web") 1 1 ∷ []) [] [] [] []
 
 abbrev pub lost : History
 lost built =
     part 1 25 (two built)
-    ++ (loss 1 true ∷ said 4 ∷ Note (opening 2 kinds.Deploy (Some (codes "dep")) (Some lost_g1) [] [] [] sourced) ∷ Note (entries.TaskDone 2) ∷ said 5 ∷ Note (opening 3 kinds.Fix (Some (codes "dep")) (Some lost_g1) ((web 0) ∷ (web 1) ∷ []) [] [] sourced) ∷ [])
+    ++
+    (loss 1 true
+    ∷ said 4
+    ∷ Note (opening 2 kinds.Deploy (Some (codes "dep")) (Some lost_g1) [] [] [] sourced)
+    ∷ Note (entries.TaskDone 2)
+    ∷ said 5
+    ∷ Note (opening 3 kinds.Fix (Some (codes "dep")) (Some lost_g1) ((web 0) ∷ (web 1) ∷ []) [] [] sourced)
+    ∷ [])
     ++ called 7 3 0 (Instance (web 0)) (calls.Ping 1) false answers.Gone
     ++ called 8 3 0 (Instance (web 1)) (calls.Ping 2) false answers.Done
     ++ (Note (upd_begin 3 (web 0)) ∷ [])

@@ -10,36 +10,60 @@ use Rattle.bosh_base.specs.declared.moves.Move.TheVariants.{Note, Halt}
 use Rattle.bosh_base.specs.declared.owner.Owner.TheVariants.{Instance, Disk}
 use Rattle.bosh_base.specs.declared.state.State.TheVariants.{Running}
 use Rattle.bosh_base.specs.declared.task.TaskKind.TheVariants as kinds
-use Rattle.bosh_history_examples.specs.Scenes.{History, web, z1, plain, no_jobs, disk, row, group, goal, sourced, opening, beginning_of, upd_begin, upd_done, task_error, did, written, stop, said, called, part}
+use Rattle.bosh_history_examples.specs.Scenes.{History, sourced, opening, beginning_of, upd_begin, upd_done, task_error, did, written, stop, said, called, part}
+use Rattle.bosh_history_examples.specs.Values.{web, z1, plain, no_jobs, disk, row, group, goal}
 
 abbrev pub migrated_g1 : Goal
 migrated_g1 =
-    goal (codes "dep") (row (web 0) (plain z1 10) no_jobs (Some (disk 10)) Running 0 ∷ []) (group (codes "web") 1 1 ∷ []) [] [] [] []
+    goal (codes "dep") (row (web 0) (plain z1 10) no_jobs (Some (disk 10)) Running 0 ∷ [])
+    (group (codes "web") 1 1 ∷ []) [] [] [] []
 
 abbrev pub migrated_g2 : Goal
 migrated_g2 =
-    goal (codes "dep") (row (web 0) (plain z1 10) no_jobs (Some (disk 20)) Running 0 ∷ []) (group (codes "web") 1 1 ∷ []) [] [] [] []
+    goal (codes "dep") (row (web 0) (plain z1 10) no_jobs (Some (disk 20)) Running 0 ∷ [])
+    (group (codes "web") 1 1 ∷ []) [] [] [] []
 
 abbrev pub migrated_g3 : Goal
 migrated_g3 =
-    goal (codes "dep") (row (web 0) (plain z1 10) no_jobs (Some (disk 30)) Running 0 ∷ []) (group (codes "web") 1 1 ∷ []) [] [] [] []
+    goal (codes "dep") (row (web 0) (plain z1 10) no_jobs (Some (disk 30)) Running 0 ∷ [])
+    (group (codes "web") 1 1 ∷ []) [] [] [] []
 
 abbrev pub migrated : History
 migrated built =
-    (Note (opening 1 kinds.Deploy (Some (codes "dep")) (Some migrated_g1) ((web 0) ∷ []) [] [] sourced) ∷ Note (upd_begin 1 (web 0)) ∷ [])
+    (Note (opening 1 kinds.Deploy (Some (codes "dep")) (Some migrated_g1) ((web 0) ∷ []) [] [] sourced)
+    ∷ Note (upd_begin 1 (web 0))
+    ∷ [])
     ++ called 1 1 0 (Instance (web 0)) (calls.CreateVm (plain z1 10) []) true (answers.Cid 1)
     ++ called 2 1 0 (Instance (web 0)) (calls.CreateDisk (disk 10) 1) true (answers.Cid 1)
     ++ called 3 1 0 (Instance (web 0)) (calls.AttachDisk 1 1) true answers.Done
     ++ called 4 1 0 (Instance (web 0)) (calls.MountDisk 1 1) true answers.Done
     ++ called 5 1 0 (Instance (web 0)) (calls.Apply 1 no_jobs) true answers.Done
     ++ called 6 1 0 (Instance (web 0)) (calls.Start 1) true answers.Done
-    ++ (Note (upd_done 1 (web 0)) ∷ Note (entries.TaskDone 1) ∷ said 3 ∷ written (web 0) (codes "hello") ∷ said 4 ∷ said 5 ∷ Note (opening 2 kinds.Deploy (Some (codes "dep")) (Some migrated_g2) ((web 0) ∷ []) [] [] sourced) ∷ Note (upd_begin 2 (web 0)) ∷ [])
+    ++
+    (Note (upd_done 1 (web 0))
+    ∷ Note (entries.TaskDone 1)
+    ∷ said 3
+    ∷ written (web 0) (codes "hello")
+    ∷ said 4
+    ∷ said 5
+    ∷ Note (opening 2 kinds.Deploy (Some (codes "dep")) (Some migrated_g2) ((web 0) ∷ []) [] [] sourced)
+    ∷ Note (upd_begin 2 (web 0))
+    ∷ [])
     ++ called 7 2 0 (Instance (web 0)) (calls.Drain 1) true answers.Done
     ++ called 8 2 0 (Instance (web 0)) (calls.Stop 1) true answers.Done
     ++ called 9 2 0 (Instance (web 0)) (calls.CreateDisk (disk 20) 1) true (answers.Cid 2)
     ++ called 10 2 0 (Instance (web 0)) (calls.AttachDisk 1 2) true answers.Done
     ++ called 11 2 0 (Instance (web 0)) (calls.MountDisk 1 2) true answers.Done
-    ++ (Note (beginning_of 12 2 0 (Instance (web 0)) (calls.MigrateDisk 1 1 2)) ∷ Halt causes.Stop ∷ said 6 ∷ stop None (12 ∷ []) None ∷ Note (task_error 2 failures.Interrupted) ∷ said 7 ∷ Note (opening 3 kinds.Deploy (Some (codes "dep")) (Some migrated_g3) ((web 0) ∷ []) [] [] sourced) ∷ Note (upd_begin 3 (web 0)) ∷ [])
+    ++
+    (Note (beginning_of 12 2 0 (Instance (web 0)) (calls.MigrateDisk 1 1 2))
+    ∷ Halt causes.Stop
+    ∷ said 6
+    ∷ stop None (12 ∷ []) None
+    ∷ Note (task_error 2 failures.Interrupted)
+    ∷ said 7
+    ∷ Note (opening 3 kinds.Deploy (Some (codes "dep")) (Some migrated_g3) ((web 0) ∷ []) [] [] sourced)
+    ∷ Note (upd_begin 3 (web 0))
+    ∷ [])
     ++ called 13 3 0 (Instance (web 0)) (calls.UnmountDisk 1 2) true answers.Done
     ++ called 14 3 0 (Instance (web 0)) (calls.DetachDisk 1 2) true answers.Done
     ++ called 15 3 0 (Instance (web 0)) (calls.CreateDisk (disk 30) 1) true (answers.Cid 3)

@@ -10,12 +10,14 @@ use Rattle.bosh_base.specs.declared.moves.Move.TheVariants.{Note, Halt}
 use Rattle.bosh_base.specs.declared.owner.Owner.TheVariants.{Instance, Disk}
 use Rattle.bosh_base.specs.declared.state.State.TheVariants.{Running}
 use Rattle.bosh_base.specs.declared.task.TaskKind.TheVariants as kinds
-use Rattle.bosh_history_examples.specs.Scenes.{History, web, z1, plain, no_jobs, disk, row, group, goal, sourced, opening, beginning_of, gone, task_error, stop, said, called, part}
+use Rattle.bosh_history_examples.specs.Scenes.{History, sourced, opening, beginning_of, gone, task_error, stop, said, called, part}
+use Rattle.bosh_history_examples.specs.Values.{web, z1, plain, no_jobs, disk, row, group, goal}
 use Rattle.bosh_history_examples.specs.Migrated.{migrated}
 
 abbrev pub orphan_g1 : Goal
 orphan_g1 =
-    goal (codes "dep") (row (web 0) (plain z1 10) no_jobs (Some (disk 10)) Running 0 ∷ []) (group (codes "web") 1 1 ∷ []) [] [] [] []
+    goal (codes "dep") (row (web 0) (plain z1 10) no_jobs (Some (disk 10)) Running 0 ∷ [])
+    (group (codes "web") 1 1 ∷ []) [] [] [] []
 
 abbrev pub orphan_g2 : Goal
 orphan_g2 =
@@ -30,7 +32,20 @@ orphan built =
     ++ called 9 2 0 (Instance (web 0)) (calls.UnmountDisk 1 1) true answers.Done
     ++ called 10 2 0 (Instance (web 0)) (calls.DetachDisk 1 1) true answers.Done
     ++ called 11 2 0 (Instance (web 0)) (calls.DeleteVm 1) true answers.Done
-    ++ (Note (gone 2 (web 0)) ∷ Note (entries.TaskDone 2) ∷ said 4 ∷ said 5 ∷ Note (opening 3 kinds.CleanUp None None [] [] (1 ∷ []) None) ∷ Note (beginning_of 12 3 0 (Disk 1) (calls.DeleteDisk 1)) ∷ Halt causes.Stop ∷ said 6 ∷ stop None (12 ∷ []) None ∷ Note (task_error 3 failures.Interrupted) ∷ said 7 ∷ Note (opening 4 kinds.CleanUp None None [] [] (1 ∷ []) None) ∷ [])
+    ++
+    (Note (gone 2 (web 0))
+    ∷ Note (entries.TaskDone 2)
+    ∷ said 4
+    ∷ said 5
+    ∷ Note (opening 3 kinds.CleanUp None None [] [] (1 ∷ []) None)
+    ∷ Note (beginning_of 12 3 0 (Disk 1) (calls.DeleteDisk 1))
+    ∷ Halt causes.Stop
+    ∷ said 6
+    ∷ stop None (12 ∷ []) None
+    ∷ Note (task_error 3 failures.Interrupted)
+    ∷ said 7
+    ∷ Note (opening 4 kinds.CleanUp None None [] [] (1 ∷ []) None)
+    ∷ [])
     ++ called 13 4 0 (Disk 1) (calls.HasDisk 1) false answers.No
     ++ (Note (entries.TaskDone 4) ∷ said 8 ∷ [])
 

@@ -8,23 +8,37 @@ use Rattle.bosh_base.specs.declared.moves.Move.TheVariants.{Note}
 use Rattle.bosh_base.specs.declared.owner.Owner.TheVariants.{Instance}
 use Rattle.bosh_base.specs.declared.state.State.TheVariants.{Running}
 use Rattle.bosh_base.specs.declared.task.TaskKind.TheVariants as kinds
-use Rattle.bosh_history_examples.specs.Scenes.{History, web, z1, plain, no_jobs, row, group, goal, sourced, opening, beginning_of, upd_begin, upd_done, said, called, part}
+use Rattle.bosh_history_examples.specs.Scenes.{History, sourced, opening, beginning_of, upd_begin, upd_done, said, called, part}
+use Rattle.bosh_history_examples.specs.Values.{web, z1, plain, no_jobs, row, group, goal}
 
 abbrev pub recreate_g1 : Goal
 recreate_g1 =
-    goal (codes "dep") (row (web 0) (plain z1 10) no_jobs None Running 0 ∷ []) (group (codes "web") 1 1 ∷ []) [] [] [] []
+    goal (codes "dep") (row (web 0) (plain z1 10) no_jobs None Running 0 ∷ []) (group (codes "web") 1 1 ∷ []) [] [] []
+    []
 
 abbrev pub recreate_g2 : Goal
 recreate_g2 =
-    goal (codes "dep") (row (web 0) (plain z1 10) no_jobs None Running 3 ∷ []) (group (codes "web") 1 1 ∷ []) [] [] [] []
+    goal (codes "dep") (row (web 0) (plain z1 10) no_jobs None Running 3 ∷ []) (group (codes "web") 1 1 ∷ []) [] [] []
+    []
 
 abbrev pub recreate : History
 recreate built =
-    (Note (opening 1 kinds.Deploy (Some (codes "dep")) (Some recreate_g1) ((web 0) ∷ []) [] [] sourced) ∷ Note (upd_begin 1 (web 0)) ∷ [])
+    (Note (opening 1 kinds.Deploy (Some (codes "dep")) (Some recreate_g1) ((web 0) ∷ []) [] [] sourced)
+    ∷ Note (upd_begin 1 (web 0))
+    ∷ [])
     ++ called 1 1 0 (Instance (web 0)) (calls.CreateVm (plain z1 10) []) true (answers.Cid 1)
     ++ called 2 1 0 (Instance (web 0)) (calls.Apply 1 no_jobs) true answers.Done
     ++ called 3 1 0 (Instance (web 0)) (calls.Start 1) true answers.Done
-    ++ (Note (upd_done 1 (web 0)) ∷ Note (entries.TaskDone 1) ∷ said 3 ∷ Note (opening 2 kinds.Deploy (Some (codes "dep")) (Some recreate_g1) [] [] [] sourced) ∷ Note (entries.TaskDone 2) ∷ said 4 ∷ Note (opening 3 (kinds.Recreate (web 0)) (Some (codes "dep")) (Some recreate_g2) ((web 0) ∷ []) [] [] None) ∷ Note (upd_begin 3 (web 0)) ∷ [])
+    ++
+    (Note (upd_done 1 (web 0))
+    ∷ Note (entries.TaskDone 1)
+    ∷ said 3
+    ∷ Note (opening 2 kinds.Deploy (Some (codes "dep")) (Some recreate_g1) [] [] [] sourced)
+    ∷ Note (entries.TaskDone 2)
+    ∷ said 4
+    ∷ Note (opening 3 (kinds.Recreate (web 0)) (Some (codes "dep")) (Some recreate_g2) ((web 0) ∷ []) [] [] None)
+    ∷ Note (upd_begin 3 (web 0))
+    ∷ [])
     ++ called 4 3 0 (Instance (web 0)) (calls.Drain 1) true answers.Done
     ++ called 5 3 0 (Instance (web 0)) (calls.Stop 1) true answers.Done
     ++ called 6 3 0 (Instance (web 0)) (calls.DeleteVm 1) true answers.Done
@@ -43,6 +57,8 @@ created_before_deleted built =
 abbrev pub not_renewed : History
 not_renewed built =
     part 1 17 (recreate built)
-    ++ (Note (opening 3 (kinds.Recreate (web 0)) (Some (codes "dep")) (Some recreate_g1) ((web 0) ∷ []) [] [] None) ∷ [])
+    ++
+    (Note (opening 3 (kinds.Recreate (web 0)) (Some (codes "dep")) (Some recreate_g1) ((web 0) ∷ []) [] [] None)
+    ∷ [])
     ++ (Note (upd_done 3 (web 0)) ∷ [])
     ++ part 39 39 (recreate built)

@@ -8,17 +8,23 @@ use Rattle.bosh_base.specs.declared.moves.Move.TheVariants.{Note}
 use Rattle.bosh_base.specs.declared.owner.Owner.TheVariants.{Instance}
 use Rattle.bosh_base.specs.declared.state.State.TheVariants.{Running}
 use Rattle.bosh_base.specs.declared.task.TaskKind.TheVariants as kinds
-use Rattle.bosh_history_examples.specs.Scenes.{History, web, z1, z2, plain, no_jobs, row, group, goal, opening, upd_begin, upd_done, said, called, part}
+use Rattle.bosh_history_examples.specs.Scenes.{History, opening, upd_begin, upd_done, said, called, part}
+use Rattle.bosh_history_examples.specs.Values.{web, z1, z2, plain, no_jobs, row, group, goal}
 use Rattle.bosh_history_examples.specs.Lost.{lost}
 
 abbrev pub resolve_g1 : Goal
 resolve_g1 =
-    goal (codes "dep") (row (web 0) (plain z1 10) no_jobs None Running 0 ∷ row (web 1) (plain z2 11) no_jobs None Running 0 ∷ []) (group (codes "web") 1 1 ∷ []) [] [] [] []
+    goal (codes "dep")
+    (row (web 0) (plain z1 10) no_jobs None Running 0 ∷ row (web 1) (plain z2 11) no_jobs None Running 0 ∷ [])
+    (group (codes "web") 1 1 ∷ []) [] [] [] []
 
 abbrev pub resolve : History
 resolve built =
     part 1 27 (lost built)
-    ++ (said 5 ∷ Note (opening 2 (kinds.Resolve (web 0)) (Some (codes "dep")) (Some resolve_g1) ((web 0) ∷ []) [] [] None) ∷ [])
+    ++
+    (said 5
+    ∷ Note (opening 2 (kinds.Resolve (web 0)) (Some (codes "dep")) (Some resolve_g1) ((web 0) ∷ []) [] [] None)
+    ∷ [])
     ++ called 7 2 0 (Instance (web 0)) (calls.Ping 1) false answers.Gone
     ++ (Note (upd_begin 2 (web 0)) ∷ [])
     ++ called 8 2 0 (Instance (web 0)) (calls.DeleteVm 1) false answers.Gone

@@ -10,23 +10,37 @@ use Rattle.bosh_base.specs.declared.moves.Move.TheVariants.{Note, Halt}
 use Rattle.bosh_base.specs.declared.owner.Owner.TheVariants.{Instance}
 use Rattle.bosh_base.specs.declared.state.State.TheVariants.{Running}
 use Rattle.bosh_base.specs.declared.task.TaskKind.TheVariants as kinds
-use Rattle.bosh_history_examples.specs.Scenes.{History, web, z1, z2, plain, no_jobs, row, group, goal, sourced, opening, beginning_of, upd_begin, upd_done, task_error, did, loss, stop, said, called, part}
+use Rattle.bosh_history_examples.specs.Scenes.{History, sourced, opening, beginning_of, upd_begin, upd_done, task_error, did, loss, stop, said, called, part}
+use Rattle.bosh_history_examples.specs.Values.{web, z1, z2, plain, no_jobs, row, group, goal}
 use Rattle.bosh_history_examples.specs.Two.{two}
 
 abbrev pub silent_g1 : Goal
 silent_g1 =
-    goal (codes "dep") (row (web 0) (plain z1 10) no_jobs None Running 0 ∷ row (web 1) (plain z2 11) no_jobs None Running 0 ∷ []) (group (codes "web") 1 1 ∷ []) [] [] [] []
+    goal (codes "dep")
+    (row (web 0) (plain z1 10) no_jobs None Running 0 ∷ row (web 1) (plain z2 11) no_jobs None Running 0 ∷ [])
+    (group (codes "web") 1 1 ∷ []) [] [] [] []
 
 abbrev pub silent_g2 : Goal
 silent_g2 =
-    goal (codes "dep") (row (web 0) (plain z1 10) no_jobs None Running 6 ∷ row (web 1) (plain z2 11) no_jobs None Running 0 ∷ []) (group (codes "web") 1 1 ∷ []) [] [] [] []
+    goal (codes "dep")
+    (row (web 0) (plain z1 10) no_jobs None Running 6 ∷ row (web 1) (plain z2 11) no_jobs None Running 0 ∷ [])
+    (group (codes "web") 1 1 ∷ []) [] [] [] []
 
 abbrev pub silent : History
 silent built =
     part 1 25 (two built)
-    ++ (loss 1 false ∷ said 4 ∷ Note (opening 2 (kinds.Recreate (web 0)) (Some (codes "dep")) (Some silent_g2) ((web 0) ∷ []) [] [] None) ∷ Note (upd_begin 2 (web 0)) ∷ [])
+    ++
+    (loss 1 false
+    ∷ said 4
+    ∷ Note (opening 2 (kinds.Recreate (web 0)) (Some (codes "dep")) (Some silent_g2) ((web 0) ∷ []) [] [] None)
+    ∷ Note (upd_begin 2 (web 0))
+    ∷ [])
     ++ called 7 2 0 (Instance (web 0)) (calls.Drain 1) false answers.Gone
-    ++ (Note (task_error 2 (failures.Gone 7)) ∷ said 5 ∷ Note (opening 3 kinds.Fix (Some (codes "dep")) (Some silent_g1) ((web 0) ∷ (web 1) ∷ []) [] [] sourced) ∷ [])
+    ++
+    (Note (task_error 2 (failures.Gone 7))
+    ∷ said 5
+    ∷ Note (opening 3 kinds.Fix (Some (codes "dep")) (Some silent_g1) ((web 0) ∷ (web 1) ∷ []) [] [] sourced)
+    ∷ [])
     ++ called 8 3 0 (Instance (web 0)) (calls.Ping 1) false answers.Gone
     ++ called 9 3 0 (Instance (web 1)) (calls.Ping 2) false answers.Done
     ++ (Note (upd_begin 3 (web 0)) ∷ [])

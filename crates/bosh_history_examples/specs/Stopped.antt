@@ -10,19 +10,33 @@ use Rattle.bosh_base.specs.declared.moves.Move.TheVariants.{Note, Halt}
 use Rattle.bosh_base.specs.declared.owner.Owner.TheVariants.{Instance}
 use Rattle.bosh_base.specs.declared.state.State.TheVariants.{Running}
 use Rattle.bosh_base.specs.declared.task.TaskKind.TheVariants as kinds
-use Rattle.bosh_history_examples.specs.Scenes.{History, web, z1, plain, big, no_jobs, row, group, goal, sourced, opening, beginning_of, ending, upd_begin, upd_done, task_error, config, did, stop, said, called, part}
+use Rattle.bosh_history_examples.specs.Scenes.{History, sourced, opening, beginning_of, ending, upd_begin, upd_done, task_error, config, did, stop, said, called, part}
+use Rattle.bosh_history_examples.specs.Values.{web, z1, plain, big, no_jobs, row, group, goal}
 
 abbrev pub stopped_g1 : Goal
 stopped_g1 =
-    goal (codes "dep") (row (web 0) (plain z1 10) no_jobs None Running 0 ∷ []) (group (codes "web") 1 1 ∷ []) [] [] [] []
+    goal (codes "dep") (row (web 0) (plain z1 10) no_jobs None Running 0 ∷ []) (group (codes "web") 1 1 ∷ []) [] [] []
+    []
 
 abbrev pub stopped_g2 : Goal
 stopped_g2 =
-    goal (codes "dep") (row (web 0) (big z1 10) no_jobs None Running 0 ∷ []) (group (codes "web") 1 1 ∷ []) [] [] [] []
+    goal (codes "dep") (row (web 0) (big z1 10) no_jobs None Running 0 ∷ []) (group (codes "web") 1 1 ∷ []) [] [] []
+    []
 
 abbrev pub stopped : History
 stopped built =
-    (said 3 ∷ Note (opening 1 kinds.Deploy (Some (codes "dep")) (Some stopped_g1) ((web 0) ∷ []) [] [] sourced) ∷ Note (upd_begin 1 (web 0)) ∷ Note (beginning_of 1 1 0 (Instance (web 0)) (calls.CreateVm (plain z1 10) [])) ∷ Halt causes.Stop ∷ said 4 ∷ stop None (1 ∷ []) None ∷ Note (task_error 1 failures.Interrupted) ∷ said 5 ∷ Note (opening 2 kinds.Deploy (Some (codes "dep")) (Some stopped_g2) ((web 0) ∷ []) [] [] sourced) ∷ Note (upd_begin 2 (web 0)) ∷ [])
+    (said 3
+    ∷ Note (opening 1 kinds.Deploy (Some (codes "dep")) (Some stopped_g1) ((web 0) ∷ []) [] [] sourced)
+    ∷ Note (upd_begin 1 (web 0))
+    ∷ Note (beginning_of 1 1 0 (Instance (web 0)) (calls.CreateVm (plain z1 10) []))
+    ∷ Halt causes.Stop
+    ∷ said 4
+    ∷ stop None (1 ∷ []) None
+    ∷ Note (task_error 1 failures.Interrupted)
+    ∷ said 5
+    ∷ Note (opening 2 kinds.Deploy (Some (codes "dep")) (Some stopped_g2) ((web 0) ∷ []) [] [] sourced)
+    ∷ Note (upd_begin 2 (web 0))
+    ∷ [])
     ++ called 2 2 0 (Instance (web 0)) (calls.FindVm 1) false (answers.Found (Some 1))
     ++ called 3 2 0 (Instance (web 0)) (calls.DeleteVm 1) true answers.Done
     ++ called 4 2 0 (Instance (web 0)) (calls.CreateVm (big z1 10) []) true (answers.Cid 2)

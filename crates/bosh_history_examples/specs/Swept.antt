@@ -9,7 +9,8 @@ use Rattle.bosh_base.specs.declared.moves.Cause.TheVariants as causes
 use Rattle.bosh_base.specs.declared.moves.Move.TheVariants.{Note, Halt}
 use Rattle.bosh_base.specs.declared.owner.Owner.TheVariants.{Compile}
 use Rattle.bosh_base.specs.declared.task.TaskKind.TheVariants as kinds
-use Rattle.bosh_history_examples.specs.Scenes.{History, z1, plain, slot, work_p, group, goal, sourced, opening, beginning_of, task_error, stop, said, called, part}
+use Rattle.bosh_history_examples.specs.Scenes.{History, sourced, opening, beginning_of, task_error, stop, said, called, part}
+use Rattle.bosh_history_examples.specs.Values.{z1, plain, slot, work_p, group, goal}
 
 abbrev pub swept_g1 : Goal
 swept_g1 =
@@ -21,7 +22,16 @@ swept_g2 =
 
 abbrev pub swept : History
 swept built =
-    (said 4 ∷ Note (opening 1 kinds.Deploy (Some (codes "dep")) (Some swept_g1) [] [] [] sourced) ∷ Note (beginning_of 1 1 0 (Compile 1 0) (calls.CreateVm (plain z1 10) [])) ∷ Halt causes.Stop ∷ said 5 ∷ stop None (1 ∷ []) None ∷ Note (task_error 1 failures.Interrupted) ∷ said 6 ∷ Note (opening 2 kinds.Deploy (Some (codes "dep")) (Some swept_g2) [] [] [] sourced) ∷ [])
+    (said 4
+    ∷ Note (opening 1 kinds.Deploy (Some (codes "dep")) (Some swept_g1) [] [] [] sourced)
+    ∷ Note (beginning_of 1 1 0 (Compile 1 0) (calls.CreateVm (plain z1 10) []))
+    ∷ Halt causes.Stop
+    ∷ said 5
+    ∷ stop None (1 ∷ []) None
+    ∷ Note (task_error 1 failures.Interrupted)
+    ∷ said 6
+    ∷ Note (opening 2 kinds.Deploy (Some (codes "dep")) (Some swept_g2) [] [] [] sourced)
+    ∷ [])
     ++ called 2 2 0 (Compile 1 0) (calls.FindVm 1) false (answers.Found (Some 1))
     ++ called 3 2 0 (Compile 1 0) (calls.DeleteVm 1) true answers.Done
     ++ called 4 2 0 (Compile 2 0) (calls.CreateVm (plain z1 11) []) true (answers.Cid 2)

@@ -8,33 +8,52 @@ use Rattle.bosh_base.specs.declared.moves.Move.TheVariants.{Note}
 use Rattle.bosh_base.specs.declared.owner.Owner.TheVariants.{Instance, Compile}
 use Rattle.bosh_base.specs.declared.state.State.TheVariants.{Running}
 use Rattle.bosh_base.specs.declared.task.TaskKind.TheVariants as kinds
-use Rattle.bosh_history_examples.specs.Scenes.{History, inst, z1, plain, slot, with_j, work_p, row, group, goal, sourced, opening, beginning_of, ending, upd_begin, upd_done, did, said, called, part}
+use Rattle.bosh_history_examples.specs.Scenes.{History, sourced, opening, beginning_of, ending, upd_begin, upd_done, did, said, called, part}
+use Rattle.bosh_history_examples.specs.Values.{inst, z1, plain, slot, with_j, work_p, row, group, goal}
 
 abbrev pub together_g1 : Goal
 together_g1 =
-    goal (codes "a") (row (inst (codes "a") (codes "web") 0) (plain z1 10) with_j None Running 0 ∷ []) (group (codes "web") 1 1 ∷ []) (work_p ∷ []) (slot z1 11 ∷ []) [] []
+    goal (codes "a") (row (inst (codes "a") (codes "web") 0) (plain z1 10) with_j None Running 0 ∷ [])
+    (group (codes "web") 1 1 ∷ []) (work_p ∷ []) (slot z1 11 ∷ []) [] []
 
 abbrev pub together_g2 : Goal
 together_g2 =
-    goal (codes "b") (row (inst (codes "b") (codes "web") 0) (plain z1 12) with_j None Running 0 ∷ []) (group (codes "web") 1 1 ∷ []) (work_p ∷ []) (slot z1 13 ∷ []) [] []
+    goal (codes "b") (row (inst (codes "b") (codes "web") 0) (plain z1 12) with_j None Running 0 ∷ [])
+    (group (codes "web") 1 1 ∷ []) (work_p ∷ []) (slot z1 13 ∷ []) [] []
 
 abbrev pub together : History
 together built =
-    (said 4 ∷ Note (opening 1 kinds.Deploy (Some (codes "a")) (Some together_g1) ((inst (codes "a") (codes "web") 0) ∷ []) [] [] sourced) ∷ Note (opening 2 kinds.Deploy (Some (codes "b")) (Some together_g2) ((inst (codes "b") (codes "web") 0) ∷ []) [] [] sourced) ∷ [])
+    (said 4
+    ∷ Note
+    (opening 1 kinds.Deploy (Some (codes "a")) (Some together_g1) ((inst (codes "a") (codes "web") 0) ∷ []) [] []
+    sourced)
+    ∷ Note
+    (opening 2 kinds.Deploy (Some (codes "b")) (Some together_g2) ((inst (codes "b") (codes "web") 0) ∷ []) [] []
+    sourced)
+    ∷ [])
     ++ called 1 1 0 (Compile 1 0) (calls.CreateVm (plain z1 11) []) true (answers.Cid 1)
     ++ called 2 2 0 (Compile 2 0) (calls.CreateVm (plain z1 13) []) true (answers.Cid 2)
     ++ called 3 1 0 (Compile 1 0) (calls.CompilePackage 1 work_p []) false (answers.Built (built work_p []))
     ++ called 4 2 0 (Compile 2 0) (calls.DeleteVm 2) true answers.Done
     ++ called 5 1 0 (Compile 1 0) (calls.DeleteVm 1) true answers.Done
     ++ (Note (upd_begin 2 (inst (codes "b") (codes "web") 0)) ∷ [])
-    ++ called 6 2 0 (Instance (inst (codes "b") (codes "web") 0)) (calls.CreateVm (plain z1 12) []) true (answers.Cid 3)
+    ++ called 6 2 0 (Instance (inst (codes "b") (codes "web") 0)) (calls.CreateVm (plain z1 12) []) true
+    (answers.Cid 3)
     ++ (Note (upd_begin 1 (inst (codes "a") (codes "web") 0)) ∷ [])
-    ++ called 7 1 0 (Instance (inst (codes "a") (codes "web") 0)) (calls.CreateVm (plain z1 10) []) true (answers.Cid 4)
+    ++ called 7 1 0 (Instance (inst (codes "a") (codes "web") 0)) (calls.CreateVm (plain z1 10) []) true
+    (answers.Cid 4)
     ++ called 8 2 0 (Instance (inst (codes "b") (codes "web") 0)) (calls.Apply 3 with_j) true answers.Done
     ++ called 9 1 0 (Instance (inst (codes "a") (codes "web") 0)) (calls.Apply 4 with_j) true answers.Done
     ++ called 10 2 0 (Instance (inst (codes "b") (codes "web") 0)) (calls.Start 3) true answers.Done
     ++ called 11 1 0 (Instance (inst (codes "a") (codes "web") 0)) (calls.Start 4) true answers.Done
-    ++ (Note (upd_done 2 (inst (codes "b") (codes "web") 0)) ∷ Note (entries.TaskDone 2) ∷ said 6 ∷ Note (upd_done 1 (inst (codes "a") (codes "web") 0)) ∷ Note (entries.TaskDone 1) ∷ said 5 ∷ [])
+    ++
+    (Note (upd_done 2 (inst (codes "b") (codes "web") 0))
+    ∷ Note (entries.TaskDone 2)
+    ∷ said 6
+    ∷ Note (upd_done 1 (inst (codes "a") (codes "web") 0))
+    ∷ Note (entries.TaskDone 1)
+    ∷ said 5
+    ∷ [])
 
 -- One key compiled twice, one after the other.
 abbrev pub compiles_twice : History
@@ -61,10 +80,12 @@ abbrev pub machine_before_keys : History
 machine_before_keys built =
     part 1 3 (together built)
     ++ (Note (upd_begin 2 (inst (codes "b") (codes "web") 0)) ∷ [])
-    ++ (Note (beginning_of 1 2 0 (Instance (inst (codes "b") (codes "web") 0)) (calls.CreateVm (plain z1 12) [])) ∷ [])
+    ++
+    (Note (beginning_of 1 2 0 (Instance (inst (codes "b") (codes "web") 0)) (calls.CreateVm (plain z1 12) [])) ∷ [])
 
 -- A task that works on another deployment's row.
 abbrev pub work_of_another : History
 work_of_another built =
     part 1 19 (together built)
-    ++ (Note (beginning_of 6 1 0 (Instance (inst (codes "b") (codes "web") 0)) (calls.CreateVm (plain z1 12) [])) ∷ [])
+    ++
+    (Note (beginning_of 6 1 0 (Instance (inst (codes "b") (codes "web") 0)) (calls.CreateVm (plain z1 12) [])) ∷ [])

@@ -10,15 +10,20 @@ use Rattle.bosh_base.specs.declared.moves.Move.TheVariants.{Note, Halt}
 use Rattle.bosh_base.specs.declared.owner.Owner.TheVariants.{Instance}
 use Rattle.bosh_base.specs.declared.state.State.TheVariants.{Running}
 use Rattle.bosh_base.specs.declared.task.TaskKind.TheVariants as kinds
-use Rattle.bosh_history_examples.specs.Scenes.{History, web, z1, z2, plain, no_jobs, row, group, goal, sourced, opening, beginning_of, ending, upd_begin, upd_done, task_error, did, stop, said, called, part, earlier_calls}
+use Rattle.bosh_history_examples.specs.Scenes.{History, sourced, opening, beginning_of, ending, upd_begin, upd_done, task_error, did, stop, said, called, part, earlier_calls}
+use Rattle.bosh_history_examples.specs.Values.{web, z1, z2, plain, no_jobs, row, group, goal}
 
 abbrev pub two_g1 : Goal
 two_g1 =
-    goal (codes "dep") (row (web 0) (plain z1 10) no_jobs None Running 0 ∷ row (web 1) (plain z2 11) no_jobs None Running 0 ∷ []) (group (codes "web") 1 1 ∷ []) [] [] [] []
+    goal (codes "dep")
+    (row (web 0) (plain z1 10) no_jobs None Running 0 ∷ row (web 1) (plain z2 11) no_jobs None Running 0 ∷ [])
+    (group (codes "web") 1 1 ∷ []) [] [] [] []
 
 abbrev pub two : History
 two built =
-    (Note (opening 1 kinds.Deploy (Some (codes "dep")) (Some two_g1) ((web 0) ∷ (web 1) ∷ []) [] [] sourced) ∷ Note (upd_begin 1 (web 0)) ∷ [])
+    (Note (opening 1 kinds.Deploy (Some (codes "dep")) (Some two_g1) ((web 0) ∷ (web 1) ∷ []) [] [] sourced)
+    ∷ Note (upd_begin 1 (web 0))
+    ∷ [])
     ++ called 1 1 0 (Instance (web 0)) (calls.CreateVm (plain z1 10) []) true (answers.Cid 1)
     ++ called 2 1 0 (Instance (web 0)) (calls.Apply 1 no_jobs) true answers.Done
     ++ called 3 1 0 (Instance (web 0)) (calls.Start 1) true answers.Done
@@ -134,18 +139,22 @@ interrupted_without_stop built =
 
 abbrev pub one_address_goal : Goal
 one_address_goal =
-    goal (codes "dep") (row (web 0) (plain z1 10) no_jobs None Running 0 ∷ row (web 1) (plain z2 10) no_jobs None Running 0 ∷ []) (group (codes "web") 1 1 ∷ []) [] [] [] []
+    goal (codes "dep")
+    (row (web 0) (plain z1 10) no_jobs None Running 0 ∷ row (web 1) (plain z2 10) no_jobs None Running 0 ∷ [])
+    (group (codes "web") 1 1 ∷ []) [] [] [] []
 
 -- Two machines with one address, by a goal that gives it to both.
 abbrev pub one_address : History
 one_address built =
-    (Note (opening 1 kinds.Deploy (Some (codes "dep")) (Some one_address_goal) ((web 0) ∷ (web 1) ∷ []) [] [] sourced) ∷ [])
+    (Note (opening 1 kinds.Deploy (Some (codes "dep")) (Some one_address_goal) ((web 0) ∷ (web 1) ∷ []) [] [] sourced)
+    ∷ [])
     ++ part 2 13 (two built)
     ++ (Note (beginning_of 4 1 0 (Instance (web 1)) (calls.CreateVm (plain z2 10) [])) ∷ [])
 
 abbrev pub goal_of_nobody_goal : Goal
 goal_of_nobody_goal =
-    goal (codes "dep") (row (web 0) (plain z1 10) no_jobs None Running 0 ∷ []) (group (codes "web") 1 1 ∷ []) [] [] [] []
+    goal (codes "dep") (row (web 0) (plain z1 10) no_jobs None Running 0 ∷ []) (group (codes "web") 1 1 ∷ []) [] [] []
+    []
 
 -- A goal that is not the manifest's: one row is left out.
 abbrev pub goal_of_nobody : History

@@ -23,7 +23,12 @@ use Rattle.bosh_history_examples.specs.Scenes.{Builder, History}
 
 -- each file is a config, each release goes with the others, and a task opens with a sound goal
 abbrev pub outside : Builder → Outside
-outside built = record { built = built; is_config = λ file. true; goes_with = λ releases release. true; may_open = is_sound }
+outside built = record {
+  built = built;
+  is_config = λ file. true;
+  goes_with = λ releases release. true;
+  may_open = is_sound;
+}
 
 -- each move is permitted
 abbrev pub IsPermittedFrom : Moment → History → Type 0
@@ -38,12 +43,15 @@ IsFirstRefused outside m (move ∷ history) = IsPermitted outside m move → ⊥
 
 -- the move at a place, counted from 1, is not permitted after those before it
 abbrev pub IsRefusedAt : Moment → ℕ → History → Type 0
-IsRefusedAt m k history = (built : Builder) → IsFirstRefused (outside built) (after m (k - 1) (history built)) (drop (k - 1) (history built))
+IsRefusedAt m k history =
+    (built : Builder) → IsFirstRefused (outside built) (after m (k - 1) (history built))
+    (drop (k - 1) (history built))
 
 -- the first place at which a test fails, counted on from one
 abbrev pub first_failure : (Moment → Move → Bool) → ℕ → Moment → List Move → Option ℕ
 first_failure test k m [] = None
-first_failure test k m (move ∷ history) = if test m move then first_failure test (k + 1) (later m move) history else Some k
+first_failure test k m (move ∷ history) =
+    if test m move then first_failure test (k + 1) (later m move) history else Some k
 
 -- where each law is first broken
 pub record Verdict : Type 0 where
@@ -58,7 +66,17 @@ pub record Verdict : Type 0 where
   pub links : Option ℕ
 
 abbrev pub good : Verdict
-good = record { deletions = None; addresses = None; rolling = None; compile_keys = None; disk_contents = None; phases = None; tied = None; recovered = None; links = None }
+good = record {
+  deletions = None;
+  addresses = None;
+  rolling = None;
+  compile_keys = None;
+  disk_contents = None;
+  phases = None;
+  tied = None;
+  recovered = None;
+  links = None;
+}
 
 abbrev pub verdict : Moment → List Move → Verdict
 verdict m history = record {
@@ -90,4 +108,5 @@ pub record IsCounted (m : Moment) (opened ended task calls most : ℕ) (history 
   pub budget : budget_by (after m (opened - 1) history) (drop (opened - 1) history) ≡ Some most
 
 abbrev pub AreCallsWithin : Moment → ℕ → ℕ → ℕ → ℕ → ℕ → History → Type 0
-AreCallsWithin m opened ended task calls most history = (built : Builder) → IsCounted m opened ended task calls most (history built)
+AreCallsWithin m opened ended task calls most history =
+    (built : Builder) → IsCounted m opened ended task calls most (history built)

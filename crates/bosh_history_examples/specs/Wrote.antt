@@ -4,12 +4,14 @@ use Rattle.bosh_base.specs.declared.goal.Goal.{Goal}
 use Rattle.bosh_base.specs.declared.moves.Cause.TheVariants as causes
 use Rattle.bosh_base.specs.declared.moves.Move.TheVariants.{Halt}
 use Rattle.bosh_base.specs.declared.state.State.TheVariants.{Running}
-use Rattle.bosh_history_examples.specs.Scenes.{History, web, z1, plain, no_jobs, disk, row, group, goal, write, stop, part}
+use Rattle.bosh_history_examples.specs.Scenes.{History, write, stop, part}
+use Rattle.bosh_history_examples.specs.Values.{web, z1, plain, no_jobs, disk, row, group, goal}
 use Rattle.bosh_history_examples.specs.Migrated.{migrated}
 
 abbrev pub wrote_g1 : Goal
 wrote_g1 =
-    goal (codes "dep") (row (web 0) (plain z1 10) no_jobs (Some (disk 10)) Running 0 ∷ []) (group (codes "web") 1 1 ∷ []) [] [] [] []
+    goal (codes "dep") (row (web 0) (plain z1 10) no_jobs (Some (disk 10)) Running 0 ∷ [])
+    (group (codes "web") 1 1 ∷ []) [] [] [] []
 
 abbrev pub wrote : History
 wrote built =

@@ -10,7 +10,8 @@ pub fn canaries_examples()
     ensures exact_46 { IsExactAt prepared 46 1 canaries true }
     ensures calls_46 { AreCallsWithin prepared 1 46 1 12 144 canaries }
     ensures begins_beside_canaries { IsRefusedAt prepared 4 begins_beside_canaries }
-    ensures begins_beside_canaries_breaks { HasVerdict prepared begins_beside_canaries (record good { rolling = Some 4 }) }
+    ensures begins_beside_canaries_breaks { HasVerdict prepared begins_beside_canaries
+        (record good { rolling = Some 4 }) }
     ensures limit_exceeded { IsRefusedAt prepared 17 limit_exceeded }
     ensures limit_exceeded_breaks { HasVerdict prepared limit_exceeded (record good { rolling = Some 17 }) }
     ensures limit_per_worker { IsRefusedAt prepared 17 limit_per_worker }

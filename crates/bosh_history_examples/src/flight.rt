@@ -14,7 +14,8 @@ pub fn flight_examples()
     ensures third_in_flight { IsRefusedAt prepared 6 third_in_flight }
     ensures third_in_flight_breaks { HasVerdict prepared third_in_flight (record good { rolling = Some 6 }) }
     ensures took_done_and_open { IsRefusedAt prepared 8 took_done_and_open }
-    ensures took_done_and_open_breaks { HasVerdict prepared took_done_and_open (record good { addresses = Some 8; tied = Some 8 }) }
+    ensures took_done_and_open_breaks { HasVerdict prepared took_done_and_open
+        (record good { addresses = Some 8; tied = Some 8 }) }
     ensures took_out_of_order { IsRefusedAt prepared 7 took_out_of_order }
     ensures took_out_of_order_breaks { HasVerdict prepared took_out_of_order good }
     ensures took_both { IsPermittedFrom prepared took_both }

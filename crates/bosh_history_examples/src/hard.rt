@@ -14,7 +14,8 @@ pub fn hard_examples()
     ensures calls_45 { AreCallsWithin prepared 44 45 3 0 36 hard }
     ensures exact_65 { IsExactAt prepared 65 4 hard true }
     ensures disk_of_a_row_deleted { IsRefusedAt prepared 44 disk_of_a_row_deleted }
-    ensures disk_of_a_row_deleted_breaks { HasVerdict prepared disk_of_a_row_deleted (record good { deletions = Some 46; tied = Some 46 }) }
+    ensures disk_of_a_row_deleted_breaks { HasVerdict prepared disk_of_a_row_deleted
+        (record good { deletions = Some 46; tied = Some 46 }) }
     ensures machine_of_detached { IsRefusedAt prepared 45 machine_of_detached }
     ensures machine_of_detached_breaks { HasVerdict prepared machine_of_detached good }
 {}

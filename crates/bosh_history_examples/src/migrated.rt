@@ -12,15 +12,18 @@ pub fn migrated_examples()
     ensures exact_80 { IsExactAt prepared 80 3 migrated true }
     ensures calls_80 { AreCallsWithin prepared 50 80 3 9 36 migrated }
     ensures deletes_old_disk { IsRefusedAt prepared 76 deletes_old_disk }
-    ensures deletes_old_disk_breaks { HasVerdict prepared deletes_old_disk (record good { deletions = Some 77; tied = Some 77 }) }
+    ensures deletes_old_disk_breaks { HasVerdict prepared deletes_old_disk
+        (record good { deletions = Some 77; tied = Some 77 }) }
     ensures active_without_migration { IsRefusedAt prepared 68 active_without_migration }
-    ensures active_without_migration_breaks { HasVerdict prepared active_without_migration (record good { disk_contents = Some 68 }) }
+    ensures active_without_migration_breaks { HasVerdict prepared active_without_migration
+        (record good { disk_contents = Some 68 }) }
     ensures active_without_migration_empty { IsRefusedAt prepared 66 active_without_migration_empty }
     ensures active_without_migration_empty_breaks { HasVerdict prepared active_without_migration_empty good }
     ensures migration_left_out { IsRefusedAt prepared 67 migration_left_out }
     ensures migration_left_out_breaks { HasVerdict prepared migration_left_out (record good { tied = Some 67 }) }
     ensures migrated_backwards { IsRefusedAt prepared 67 migrated_backwards }
-    ensures migrated_backwards_breaks { HasVerdict prepared migrated_backwards (record good { disk_contents = Some 67 }) }
+    ensures migrated_backwards_breaks { HasVerdict prepared migrated_backwards
+        (record good { disk_contents = Some 67 }) }
     ensures disk_too_many { IsRefusedAt prepared 15 disk_too_many }
     ensures disk_too_many_breaks { HasVerdict prepared disk_too_many (record good { disk_contents = Some 15 }) }
     ensures wrote_while_stopped { IsRefusedAt prepared 35 wrote_while_stopped }

@@ -13,7 +13,8 @@ pub fn recreate_examples()
     ensures calls_16 { AreCallsWithin prepared 15 16 2 0 36 recreate }
     ensures exact_39 { IsExactAt prepared 39 3 recreate true }
     ensures created_before_deleted { IsRefusedAt prepared 26 created_before_deleted }
-    ensures created_before_deleted_breaks { HasVerdict prepared created_before_deleted (record good { addresses = Some 26 }) }
+    ensures created_before_deleted_breaks { HasVerdict prepared created_before_deleted
+        (record good { addresses = Some 26 }) }
     ensures not_renewed { IsPermittedFrom prepared not_renewed }
     ensures not_renewed_breaks { HasVerdict prepared not_renewed good }
     ensures not_renewed_exact { IsExactAt prepared 20 3 not_renewed true }

@@ -14,5 +14,6 @@ pub fn replaced_examples()
     ensures begun_before_gone { IsRefusedAt prepared 16 begun_before_gone }
     ensures begun_before_gone_breaks { HasVerdict prepared begun_before_gone (record good { phases = Some 16 }) }
     ensures machine_before_gone { IsRefusedAt prepared 16 machine_before_gone }
-    ensures machine_before_gone_breaks { HasVerdict prepared machine_before_gone (record good { addresses = Some 17; phases = Some 16 }) }
+    ensures machine_before_gone_breaks { HasVerdict prepared machine_before_gone
+        (record good { addresses = Some 17; phases = Some 16 }) }
 {}

@@ -10,21 +10,25 @@ pub fn stopped_examples()
     ensures exact_28 { IsExactAt prepared 28 2 stopped true }
     ensures calls_28 { AreCallsWithin prepared 10 28 2 5 36 stopped }
     ensures second_machine_after_restart { IsRefusedAt prepared 12 second_machine_after_restart }
-    ensures second_machine_after_restart_breaks { HasVerdict prepared second_machine_after_restart (record good { addresses = Some 12; tied = Some 12 }) }
+    ensures second_machine_after_restart_breaks { HasVerdict prepared second_machine_after_restart
+        (record good { addresses = Some 12; tied = Some 12 }) }
     ensures second_machine_in_luck { IsRefusedAt prepared 12 second_machine_in_luck }
     ensures second_machine_in_luck_breaks { HasVerdict prepared second_machine_in_luck good }
     ensures lock_kept_after_restart { IsRefusedAt prepared 8 lock_kept_after_restart }
-    ensures lock_kept_after_restart_breaks { HasVerdict prepared lock_kept_after_restart (record good { recovered = Some 8 }) }
+    ensures lock_kept_after_restart_breaks { HasVerdict prepared lock_kept_after_restart
+        (record good { recovered = Some 8 }) }
     ensures opened_before_end { IsRefusedAt prepared 8 opened_before_end }
     ensures opened_before_end_breaks { HasVerdict prepared opened_before_end (record good { recovered = Some 8 }) }
     ensures config_before_end { IsRefusedAt prepared 8 config_before_end }
     ensures config_before_end_breaks { HasVerdict prepared config_before_end (record good { recovered = Some 8 }) }
     ensures interrupted_with_open_call { IsRefusedAt prepared 8 interrupted_with_open_call }
-    ensures interrupted_with_open_call_breaks { HasVerdict prepared interrupted_with_open_call (record good { recovered = Some 8 }) }
+    ensures interrupted_with_open_call_breaks { HasVerdict prepared interrupted_with_open_call
+        (record good { recovered = Some 8 }) }
     ensures kept_before_end { IsRefusedAt prepared 9 kept_before_end }
     ensures kept_before_end_breaks { HasVerdict prepared kept_before_end (record good { recovered = Some 9 }) }
     ensures took_with_did { IsRefusedAt prepared 8 took_with_did }
-    ensures took_with_did_breaks { HasVerdict prepared took_with_did (record good { addresses = Some 8; tied = Some 8 }) }
+    ensures took_with_did_breaks { HasVerdict prepared took_with_did
+        (record good { addresses = Some 8; tied = Some 8 }) }
     ensures took_unknown { IsRefusedAt prepared 7 took_unknown }
     ensures took_unknown_breaks { HasVerdict prepared took_unknown good }
     ensures kept_end { IsRefusedAt prepared 7 kept_end }

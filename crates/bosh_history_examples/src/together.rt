@@ -14,11 +14,14 @@ pub fn together_examples()
     ensures compiles_twice { IsRefusedAt with_release 13 compiles_twice }
     ensures compiles_twice_breaks { HasVerdict with_release compiles_twice (record good { compile_keys = Some 13 }) }
     ensures compiles_at_once { IsRefusedAt with_release 11 compiles_at_once }
-    ensures compiles_at_once_breaks { HasVerdict with_release compiles_at_once (record good { compile_keys = Some 11 }) }
+    ensures compiles_at_once_breaks { HasVerdict with_release compiles_at_once
+        (record good { compile_keys = Some 11 }) }
     ensures update_before_keys { IsRefusedAt with_release 4 update_before_keys }
-    ensures update_before_keys_breaks { HasVerdict with_release update_before_keys (record good { compile_keys = Some 4; phases = Some 4 }) }
+    ensures update_before_keys_breaks { HasVerdict with_release update_before_keys
+        (record good { compile_keys = Some 4; phases = Some 4 }) }
     ensures machine_before_keys { IsRefusedAt with_release 4 machine_before_keys }
-    ensures machine_before_keys_breaks { HasVerdict with_release machine_before_keys (record good { compile_keys = Some 4; phases = Some 4 }) }
+    ensures machine_before_keys_breaks { HasVerdict with_release machine_before_keys
+        (record good { compile_keys = Some 4; phases = Some 4 }) }
     ensures work_of_another { IsRefusedAt with_release 20 work_of_another }
     ensures work_of_another_breaks { HasVerdict with_release work_of_another good }
 {}

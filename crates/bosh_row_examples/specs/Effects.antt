@@ -8,7 +8,7 @@ use Rattle.bosh_base.specs.declared.inst.Inst.{Inst}
 use Rattle.bosh_base.specs.declared.owner.Owner.TheVariants.{Instance}
 use Rattle.bosh_base.specs.declared.row.DiskRow.{DiskRow}
 use Rattle.bosh_base.specs.declared.row.Row.{Row}
-use Rattle.bosh_history_examples.specs.Scenes.{web, z1, plain, with_j, disk}
+use Rattle.bosh_history_examples.specs.Values.{web, z1, plain, with_j, disk}
 use Rattle.bosh_row_examples.specs.Rows.{active, having, up, with_spec}
 use Rattle.bosh_rows.specs.Tied.{IsTiedRow}
 

@@ -10,7 +10,8 @@ use Rattle.bosh_history.specs.Moments.{Moment}
 use Rattle.bosh_history_examples.specs.Canaries.{canaries}
 use Rattle.bosh_history_examples.specs.Flight.{flight}
 use Rattle.bosh_history_examples.specs.Scenes.{Builder, History, beginning_of, did, ending, part}
-use Rattle.bosh_history_examples.specs.Scenes.{plain, upd_begin, web, z1}
+use Rattle.bosh_history_examples.specs.Scenes.{upd_begin}
+use Rattle.bosh_history_examples.specs.Values.{plain, web, z1}
 use Rattle.bosh_history_examples.specs.Verdicts.{after}
 
 -- the claim of a worker of a task, after so many moves of a history

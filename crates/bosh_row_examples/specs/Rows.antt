@@ -11,7 +11,7 @@ use Rattle.bosh_base.specs.declared.row.Row.{Row}
 use Rattle.bosh_base.specs.declared.spec.Spec.{Spec}
 use Rattle.bosh_base.specs.declared.state.State.{State}
 use Rattle.bosh_base.specs.declared.state.State.TheVariants.{Running}
-use Rattle.bosh_history_examples.specs.Scenes.{web, z1, plain, with_j, disk, row}
+use Rattle.bosh_history_examples.specs.Values.{web, z1, plain, with_j, disk, row}
 use Rattle.bosh_rows.specs.declared.step.Step.{Step}
 
 -- ---- how it is wanted

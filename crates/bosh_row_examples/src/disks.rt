@@ -1,7 +1,7 @@
 ghost use Rattle.std.specs.Prelude.{◌∷◌, [], Some, None, true, false};
 ghost use Rattle.bosh_base.specs.declared.call.Call.TheVariants as calls;
 ghost use Rattle.bosh_base.specs.declared.method.Method.TheVariants as methods;
-ghost use Rattle.bosh_history_examples.specs.Scenes.{disk};
+ghost use Rattle.bosh_history_examples.specs.Values.{disk};
 ghost use Rattle.bosh_row_examples.specs.Rows.{active, at_rest, having, kept, new, old, wanted, wanted_with_disk};
 ghost use Rattle.bosh_row_examples.specs.Rows.{with_disk, with_spec};
 ghost use Rattle.bosh_row_examples.specs.Says.{Comes, ComesOn};

@@ -1,7 +1,7 @@
 ghost use Rattle.std.specs.Prelude.{Some, None, [], true, false, ◌∷◌};
 ghost use Rattle.bosh_base.specs.declared.call.Call.TheVariants as calls;
 ghost use Rattle.bosh_base.specs.declared.method.Method.TheVariants as methods;
-ghost use Rattle.bosh_history_examples.specs.Scenes.{disk, no_jobs, plain, with_j, z1};
+ghost use Rattle.bosh_history_examples.specs.Values.{disk, no_jobs, plain, with_j, z1};
 ghost use Rattle.bosh_row_examples.specs.Rows.{absent, active, at_rest, drained, having, in_doubt, kept, lost, up};
 ghost use Rattle.bosh_row_examples.specs.Rows.{up_with_disk, wanted, wanted_with_disk};
 ghost use Rattle.bosh_row_examples.specs.Says.{Comes, Rests};

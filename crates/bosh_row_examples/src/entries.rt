@@ -2,7 +2,7 @@ ghost use Rattle.std.specs.Prelude.{◌≡◌, ◌∷◌, [], Some, None, true, 
 ghost use Rattle.bosh_base.specs.declared.answer.Answer.TheVariants as answers;
 ghost use Rattle.bosh_base.specs.declared.call.Call.TheVariants as calls;
 ghost use Rattle.bosh_base.specs.declared.state.State.TheVariants.{Detached, Stopped};
-ghost use Rattle.bosh_history_examples.specs.Scenes.{big, disk, no_jobs, plain, with_j, z1, z2};
+ghost use Rattle.bosh_history_examples.specs.Values.{big, disk, no_jobs, plain, with_j, z1, z2};
 ghost use Rattle.bosh_row_examples.specs.Rows.{absent, active, at_rest, drained, having, in_doubt, kept, lost, new};
 ghost use Rattle.bosh_row_examples.specs.Rows.{of_make, old, on_vm, up, up_with_disk, wanted, wanted_as};
 ghost use Rattle.bosh_row_examples.specs.Rows.{wanted_with_disk, with_disk, with_spec};

@@ -2,7 +2,7 @@ ghost use Rattle.std.specs.Prelude.{◌∷◌, [], Some, None, true, false};
 ghost use Rattle.bosh_base.specs.declared.call.Call.TheVariants as calls;
 ghost use Rattle.bosh_base.specs.declared.method.Method.TheVariants as methods;
 ghost use Rattle.bosh_base.specs.declared.state.State.TheVariants.{Detached, Stopped};
-ghost use Rattle.bosh_history_examples.specs.Scenes.{big, plain, z1, z2};
+ghost use Rattle.bosh_history_examples.specs.Values.{big, plain, z1, z2};
 ghost use Rattle.bosh_row_examples.specs.Rows.{absent, active, at_rest, drained, fresh, having, kept, made, new};
 ghost use Rattle.bosh_row_examples.specs.Rows.{of_make, old, of_version, up, up_with_disk, wanted, wanted_as};
 ghost use Rattle.bosh_row_examples.specs.Rows.{with_disk};

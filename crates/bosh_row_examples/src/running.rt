@@ -2,7 +2,7 @@ ghost use Rattle.std.specs.Prelude.{◌∷◌, [], Some, None, true, false};
 ghost use Rattle.bosh_base.specs.declared.call.Call.TheVariants as calls;
 ghost use Rattle.bosh_base.specs.declared.method.Method.TheVariants as methods;
 ghost use Rattle.bosh_base.specs.declared.state.State.TheVariants.{Stopped};
-ghost use Rattle.bosh_history_examples.specs.Scenes.{no_jobs, with_j};
+ghost use Rattle.bosh_history_examples.specs.Values.{no_jobs, with_j};
 ghost use Rattle.bosh_row_examples.specs.Rows.{active, at_rest, drained, having, kept, new, old, of_kind, up};
 ghost use Rattle.bosh_row_examples.specs.Rows.{up_with_disk, wanted, wanted_as, wanted_with_disk, with_disk};
 ghost use Rattle.bosh_row_examples.specs.Rows.{with_spec};

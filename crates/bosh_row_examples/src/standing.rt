@@ -1,7 +1,7 @@
 ghost use Rattle.std.specs.Prelude.{◌∷◌, [], Some, None, true, false};
 ghost use Rattle.bosh_base.specs.declared.call.Call.TheVariants as calls;
 ghost use Rattle.bosh_base.specs.declared.state.State.TheVariants.{Detached, Stopped};
-ghost use Rattle.bosh_history_examples.specs.Scenes.{big, no_jobs, plain, web, z1, z2};
+ghost use Rattle.bosh_history_examples.specs.Values.{big, no_jobs, plain, web, z1, z2};
 ghost use Rattle.bosh_row_examples.specs.Rows.{absent, active, at_rest, drained, fresh, having, in_doubt, kept, lost};
 ghost use Rattle.bosh_row_examples.specs.Rows.{made, new, of_kind, of_make, old, up, up_with_disk, wanted, wanted_as};
 ghost use Rattle.bosh_row_examples.specs.Rows.{wanted_with_disk, with_disk, with_spec};

@@ -1,6 +1,6 @@
 ghost use Rattle.std.specs.Prelude.{◌∷◌, ◌++◌, [], Some, None, true, false};
 ghost use Rattle.bosh_base.specs.declared.call.Call.TheVariants as calls;
-ghost use Rattle.bosh_history_examples.specs.Scenes.{big, disk, no_jobs, plain, web, with_j, z1};
+ghost use Rattle.bosh_history_examples.specs.Values.{big, disk, no_jobs, plain, web, with_j, z1};
 ghost use Rattle.bosh_row_examples.specs.Effects.{and_lost, and_then, applied, attached, created, done, done_for};
 ghost use Rattle.bosh_row_examples.specs.Effects.{mounted, provided, started, started_with_disk};
 ghost use Rattle.bosh_row_examples.specs.Effects.{at_rest_on_first, bare_on_first, first_with_disk, its_disk};

@@ -2,7 +2,7 @@ ghost use Rattle.std.specs.Prelude.{◌∷◌, [], Some, None, true, false};
 ghost use Rattle.bosh_base.specs.declared.answer.Answer.TheVariants as answers;
 ghost use Rattle.bosh_base.specs.declared.call.Call.TheVariants as calls;
 ghost use Rattle.bosh_base.specs.declared.state.State.TheVariants.{Detached, Stopped};
-ghost use Rattle.bosh_history_examples.specs.Scenes.{big, disk, plain, web, with_j, z1};
+ghost use Rattle.bosh_history_examples.specs.Values.{big, disk, plain, web, with_j, z1};
 ghost use Rattle.bosh_row_examples.specs.Rows.{absent, active, at_rest, fresh, having, in_doubt, kept, lost, new};
 ghost use Rattle.bosh_row_examples.specs.Rows.{of_make, up, up_with_disk, wanted, wanted_as, with_disk};
 ghost use Rattle.bosh_row_examples.specs.Rows.{wanted_with_disk};

@@ -14,7 +14,8 @@ pub record SameMachine (old new : Row) : Type 0 where
   pub spec : new.spec ≡ old.spec
   pub running : new.running ≡ old.running
 
-found_by : (tag : ℕ) (found : Option ℕ) (doubt : Option Doubt) (row : Row) → SameMachine row (with_found tag found doubt row)
+found_by : (tag : ℕ) (found : Option ℕ) (doubt : Option Doubt) (row : Row)
+    → SameMachine row (with_found tag found doubt row)
 found_by tag found doubt row = record { vm = grind (arith); spec = grind (arith); running = grind (arith) }
 
 pub machine_after : (n : ℕ) (call : Call) (answer : Answer) (row : Row)
@@ -68,7 +69,8 @@ spec_after n (MigrateDisk x0 x1 x2) answer row = grind (arith)
 spec_after n (CompilePackage x0 x1 x2) answer row = grind (arith)
 
 pub running_after : (n : ℕ) (call : Call) (answer : Answer) (row : Row)
-    → (after n call answer row).running ≡ or_before (says_absent row call answer) false (running_told call answer) row.running
+    → (after n call answer row).running
+    ≡ or_before (says_absent row call answer) false (running_told call answer) row.running
 running_after n (CreateVm x0 x1) answer row = grind (arith)
 running_after n (DeleteVm x0) answer row = grind (arith)
 running_after n (HasVm x0) answer row = grind (arith)

@@ -1,4 +1,5 @@
--- What one answer says of a row, for the reader of the step rule: each of these facts is that of the last answer that says it.
+-- What one answer says of a row, for the reader of the step rule: each of these facts is that of the last answer that
+-- says it.
 use Rattle.std.specs.Prelude.{◌≡◌, ℕ, Bool, true, false, not, ◌||◌, ◌==◌, if◌then◌else◌, Option, Some, None, List}
 use Rattle.std.specs.List.{list_any, list_all}
 use Rattle.std.specs.Option.{option_and_then, option_map}
