@@ -1,6 +1,6 @@
 //! Manifests of bare machines, and their goals.
-use bosh_base::{Goal, GoalRow, GroupPlan, Name, State, Text};
-use bosh_cases::{CaseFault, Outcome, joined, pair, push_parts};
+use bosh_base::{Goal, GoalRow, GroupPlan, Inst, Name, State, Text};
+use bosh_cases::{CaseFault, Outcome, joined, pair};
 use bosh_goal::{GoalFault, bare_goal};
 use bosh_manifest::{BareManifest, ManFault, read_bare};
 use bosh_yaml::{Node, read};
@@ -54,21 +54,22 @@ fn state_of(row: &GoalRow) -> &'static str {
     }
 }
 
+fn push_inst(alloc: Global, text: &mut Vec<u8>, inst: &Inst) -> Result<(), AllocError> {
+    text.extend_from_slice(inst.dep.as_bytes())?;
+    text.push(b'/')?;
+    text.extend_from_slice(inst.group.as_bytes())?;
+    let index = format!(in alloc; "/{} ", inst.index)?;
+    text.extend_from_slice(index.as_bytes())
+}
+
 fn push_row(alloc: Global, text: &mut Vec<u8>, row: &GoalRow) -> Result<(), AllocError> {
-    let index = format!(in alloc; "/{} ", row.inst.index)?;
-    let parts: &[&[u8]] = &[
-        row.inst.dep.as_bytes(),
-        b"/",
-        row.inst.group.as_bytes(),
-        index.as_bytes(),
-        row.make.az.as_bytes(),
-        b" ",
-        row.make.vm.as_slice(),
-        b" ",
-        state_of(row).as_bytes(),
-        b"\n",
-    ];
-    push_parts(text, parts)
+    push_inst(alloc, text, &row.inst)?;
+    text.extend_from_slice(row.make.az.as_bytes())?;
+    text.push(b' ')?;
+    text.extend_from_slice(row.make.vm.as_slice())?;
+    text.push(b' ')?;
+    text.extend_from_slice(state_of(row).as_bytes())?;
+    text.push(b'\n')
 }
 
 fn push_plan(alloc: Global, text: &mut Vec<u8>, plan: &GroupPlan) -> Result<(), AllocError> {

@@ -38,7 +38,8 @@ pub(crate) fn canonical(alloc: Global, given: &Node) -> Result<Outcome, CaseFaul
 /// A copy of the node of a plain scalar.
 pub(crate) fn plain(alloc: Global, given: &Node) -> Result<Outcome, CaseFault> {
     let text = Text::of(alloc, given)?;
-    let node = scalar(alloc, text.as_slice())?.copy(alloc)?;
+    let text = Str::of(alloc, text.as_slice())?;
+    let node = scalar(alloc, text.as_bytes())?.copy(alloc)?;
     Outcome::node(alloc, &node)
 }
 
