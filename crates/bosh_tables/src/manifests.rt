@@ -69,7 +69,7 @@ fn push_row(alloc: Global, text: &mut Vec<u8>, row: &GoalRow) -> Result<(), Allo
     text.extend_from_slice(row.make.vm.as_slice())?;
     text.push(b' ')?;
     text.extend_from_slice(state_of(row).as_bytes())?;
-    text.push(b'\n')
+    text.extend_from_slice(b"\n")
 }
 
 fn push_plan(alloc: Global, text: &mut Vec<u8>, plan: &GroupPlan) -> Result<(), AllocError> {
