@@ -1,5 +1,6 @@
 #!/usr/bin/env bash
-# Runs every session of this folder through the built program, and compares its output and status.
+# Runs every session of this folder through the program, which is built anew where it is older than a source, and
+# compares its output and status.
 # A session is a file NAME with NAME.stdout and, where the status is not 0, NAME.status. A folder NAME.shelf
 # holds the files that lie where it runs.
 set -u
@@ -9,8 +10,12 @@ if [ ! -d "$top/crates/boshd" ]; then
     echo "there is no program yet: sessions are skipped"
     exit 0
 fi
-make --no-print-directory -C "$top" build || exit 1
 program=$top/crates/boshd/out/boshd
+newer=()
+[ -x "$program" ] && newer=(-newer "$program")
+if [ -n "$(find "$top/crates" -name out -prune -o \( -name '*.rt' -o -name '*.antt' \) "${newer[@]}" -print -quit)" ]; then
+    make --no-print-directory -C "$top" build || exit 1
+fi
 passed=0
 failed=0
 for wanted in "$here"/*.stdout; do
