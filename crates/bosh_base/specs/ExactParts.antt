@@ -63,7 +63,8 @@ Decides-net_addr a b =
 
 pub Decides-make : (a b : Make) → Decides (make_test.ghosts.eq a b) (a ≡ b)
 Decides-make a b =
-    let nets : Decides (pointwise net_addr_test.ghosts.eq a.nets b.nets) (a.nets ≡ b.nets) = Decides-list Decides-net_addr a.nets b.nets in
+    let nets : Decides (pointwise net_addr_test.ghosts.eq a.nets b.nets) (a.nets ≡ b.nets) =
+    Decides-list Decides-net_addr a.nets b.nets in
     Prim.search rules
 
 pub Decides-mark : (a b : Mark) → Decides (mark_test.ghosts.eq a b) (a ≡ b)
@@ -76,9 +77,12 @@ Decides-placed a b =
 
 pub Decides-spec : (a b : Spec) → Decides (spec_test.ghosts.eq a b) (a ≡ b)
 Decides-spec a b =
-    let jobs : Decides (pointwise mark_test.ghosts.eq a.jobs b.jobs) (a.jobs ≡ b.jobs) = Decides-list Decides-mark a.jobs b.jobs in
-    let packages : Decides (pointwise mark_test.ghosts.eq a.packages b.packages) (a.packages ≡ b.packages) = Decides-list Decides-mark a.packages b.packages in
-    let files : Decides (pointwise placed_test.ghosts.eq a.files b.files) (a.files ≡ b.files) = Decides-list Decides-placed a.files b.files in
+    let jobs : Decides (pointwise mark_test.ghosts.eq a.jobs b.jobs) (a.jobs ≡ b.jobs) =
+    Decides-list Decides-mark a.jobs b.jobs in
+    let packages : Decides (pointwise mark_test.ghosts.eq a.packages b.packages) (a.packages ≡ b.packages) =
+    Decides-list Decides-mark a.packages b.packages in
+    let files : Decides (pointwise placed_test.ghosts.eq a.files b.files) (a.files ≡ b.files) =
+    Decides-list Decides-placed a.files b.files in
     Prim.search rules
 
 pub Decides-key : (a b : Key) → Decides (key_test.ghosts.eq a b) (a ≡ b)
@@ -87,7 +91,8 @@ Decides-key a b =
 
 pub Decides-key_work : (a b : KeyWork) → Decides (key_work_test.ghosts.eq a b) (a ≡ b)
 Decides-key_work a b =
-    let deps : Decides (pointwise key_test.ghosts.eq a.deps b.deps) (a.deps ≡ b.deps) = Decides-list Decides-key a.deps b.deps in
+    let deps : Decides (pointwise key_test.ghosts.eq a.deps b.deps) (a.deps ≡ b.deps) =
+    Decides-list Decides-key a.deps b.deps in
     Prim.search rules
 
 pub Decides-setting : (a b : Setting) → Decides (setting_test.ghosts.eq a b) (a ≡ b)
@@ -96,12 +101,14 @@ Decides-setting a b =
 
 pub Decides-prop_spec : (a b : PropSpec) → Decides (prop_spec_test.ghosts.eq a b) (a ≡ b)
 Decides-prop_spec a b =
-    let fallback : Decides (option_eq setting_test.ghosts.eq a.fallback b.fallback) (a.fallback ≡ b.fallback) = Decides-option Decides-setting a.fallback b.fallback in
+    let fallback : Decides (option_eq setting_test.ghosts.eq a.fallback b.fallback) (a.fallback ≡ b.fallback) =
+    Decides-option Decides-setting a.fallback b.fallback in
     Prim.search rules
 
 pub Decides-link_spec : (a b : LinkSpec) → Decides (link_spec_test.ghosts.eq a b) (a ≡ b)
 Decides-link_spec a b =
-    let properties : Decides (pointwise (pointwise nat_eq) a.properties b.properties) (a.properties ≡ b.properties) = Decides-list (Decides-list Decides-eqb) a.properties b.properties in
+    let properties : Decides (pointwise (pointwise nat_eq) a.properties b.properties) (a.properties ≡ b.properties) =
+    Decides-list (Decides-list Decides-eqb) a.properties b.properties in
     Prim.search rules
 
 pub Decides-template_spec : (a b : TemplateSpec) → Decides (template_spec_test.ghosts.eq a b) (a ≡ b)
@@ -110,16 +117,22 @@ Decides-template_spec a b =
 
 pub Decides-package_spec : (a b : PackageSpec) → Decides (package_spec_test.ghosts.eq a b) (a ≡ b)
 Decides-package_spec a b =
-    let deps : Decides (pointwise (pointwise nat_eq) a.deps b.deps) (a.deps ≡ b.deps) = Decides-list (Decides-list Decides-eqb) a.deps b.deps in
+    let deps : Decides (pointwise (pointwise nat_eq) a.deps b.deps) (a.deps ≡ b.deps) =
+    Decides-list (Decides-list Decides-eqb) a.deps b.deps in
     Prim.search rules
 
 pub Decides-job_spec : (a b : JobSpec) → Decides (job_spec_test.ghosts.eq a b) (a ≡ b)
 Decides-job_spec a b =
-    let templates : Decides (pointwise template_spec_test.ghosts.eq a.templates b.templates) (a.templates ≡ b.templates) = Decides-list Decides-template_spec a.templates b.templates in
-    let packages : Decides (pointwise (pointwise nat_eq) a.packages b.packages) (a.packages ≡ b.packages) = Decides-list (Decides-list Decides-eqb) a.packages b.packages in
-    let properties : Decides (pointwise prop_spec_test.ghosts.eq a.properties b.properties) (a.properties ≡ b.properties) = Decides-list Decides-prop_spec a.properties b.properties in
-    let provides : Decides (pointwise link_spec_test.ghosts.eq a.provides b.provides) (a.provides ≡ b.provides) = Decides-list Decides-link_spec a.provides b.provides in
-    let consumes : Decides (pointwise link_spec_test.ghosts.eq a.consumes b.consumes) (a.consumes ≡ b.consumes) = Decides-list Decides-link_spec a.consumes b.consumes in
+    let templates : Decides (pointwise template_spec_test.ghosts.eq a.templates b.templates) (a.templates ≡ b.templates) =
+    Decides-list Decides-template_spec a.templates b.templates in
+    let packages : Decides (pointwise (pointwise nat_eq) a.packages b.packages) (a.packages ≡ b.packages) =
+    Decides-list (Decides-list Decides-eqb) a.packages b.packages in
+    let properties : Decides (pointwise prop_spec_test.ghosts.eq a.properties b.properties) (a.properties ≡ b.properties) =
+    Decides-list Decides-prop_spec a.properties b.properties in
+    let provides : Decides (pointwise link_spec_test.ghosts.eq a.provides b.provides) (a.provides ≡ b.provides) =
+    Decides-list Decides-link_spec a.provides b.provides in
+    let consumes : Decides (pointwise link_spec_test.ghosts.eq a.consumes b.consumes) (a.consumes ≡ b.consumes) =
+    Decides-list Decides-link_spec a.consumes b.consumes in
     Prim.search rules
 
 pub Decides-task_end : (a b : TaskEnd) → Decides (task_end_test.ghosts.eq a b) (a ≡ b)
@@ -189,5 +202,6 @@ Decides-call (ListDisk a0) call = Prim.search rules
 Decides-call (MigrateDisk a0 b0 c0) call = Prim.search rules
 Decides-call (CompilePackage a0 b0 c0) call =
     let work : (x y : KeyWork) → Decides (key_work_test.ghosts.eq x y) (x ≡ y) = Decides-key_work in
-    let deps : (x y : List Digest) → Decides (pointwise digest_test.ghosts.eq x y) (x ≡ y) = Decides-list Decides-digest in
+    let deps : (x y : List Digest) → Decides (pointwise digest_test.ghosts.eq x y) (x ≡ y) =
+    Decides-list Decides-digest in
     Prim.search rules

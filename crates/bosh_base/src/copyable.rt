@@ -112,6 +112,8 @@ pub fn copy_five<A: Copyable, B: Copyable, C: Copyable, D: Copyable, E: Copyable
 }
 
 /// Copies six values, as `copy_both` does two.
+// Dear to prove, as are those of more values: all copies made before are alive when one fails. Each is proved once, for
+// all structs of that many parts.
 pub fn copy_six<A: Copyable, B: Copyable, C: Copyable, D: Copyable, E: Copyable, F: Copyable>(
     first: &A,
     second: &B,

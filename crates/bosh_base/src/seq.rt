@@ -108,6 +108,7 @@ impl<'a, T> IntoIterator for &'a Seq<T> {
     }
 }
 
+// Dear to prove, since the copy made so far is alive at each turn; proved once, for lists of any type.
 impl<T: Copyable> Copyable for Seq<T> {
     fn copy(&self, alloc: Global) -> Result<Self, CopyFault> {
         let mut items = Vec::with_capacity(alloc, self.items.len())?;

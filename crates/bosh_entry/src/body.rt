@@ -45,6 +45,7 @@ fn first(format: Format, kind: u8) -> u8
     }
 }
 
+// Dear to prove: one arm for each kind of entry, each a function of its own.
 #[tactic(auto, unfolding(crate::specs::Later::present_at))]
 fn fields(alloc: Global, format: Format, kind: u8, from: &mut Source) -> Result<Entry, EntryFault>
     ensures { Gives result from.new.rest.now (variant_at 1 (kinds format) kind from.old.rest.now) }
@@ -72,6 +73,7 @@ fn fields(alloc: Global, format: Format, kind: u8, from: &mut Source) -> Result<
     }
 }
 
+// Its `write` is dear to prove: one arm for each kind of entry, each a function of its own.
 impl Coded for Entry {
     ghost use Rattle.bosh_entry.specs.Body.{entry, is_entry, entry_at};
 

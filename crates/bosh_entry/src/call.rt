@@ -103,6 +103,7 @@ fn compile_package(alloc: Global, format: Format, from: &mut Source) -> Result<C
     })
 }
 
+// Dear to prove: one arm for each of 22 methods, each a function of its own.
 impl Coded for Call {
     ghost use Rattle.bosh_entry.specs.Call.{call, is_call, call_at};
 

@@ -51,6 +51,7 @@ impl Coded for TaskOpen {
     }
 }
 
+// Its `read` is dear to prove: a call of 22 variants is alive beside what is read after it.
 impl Coded for Begin {
     ghost use Rattle.bosh_entry.specs.Entry.{begin, is_begin, begin_at};
 

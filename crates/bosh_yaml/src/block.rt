@@ -137,6 +137,7 @@ fn key_fit(column: usize, frame: Frame) -> Fit
 }
 
 // Places a dash at a column.
+// Dear to prove: it takes the open frames apart, an enum of five, and puts them together again.
 pub(crate) fn place_dash(
     line: u32,
     column: usize,

@@ -125,6 +125,7 @@ fn take_event(
 }
 
 /// The node that events make in which no key stands twice in its mapping.
+// Dear to prove: one loop over all events, in which each open list and mapping is alive.
 pub(crate) fn node_of(alloc: Global, events: Vec<Event>) -> Result<Node, ReadFault>
     requires { repeated [] events.items ≡ None }
     ensures { Gives tree_of result (made None [] events.items) }

@@ -263,6 +263,7 @@ pub(crate) fn flow_form(
     take_signs(alloc, line, signs, events)
 }
 
+// Dear to prove: one loop over the signs of a line, each an enum with a text of its own.
 fn take_signs(
     alloc: Global,
     line: u32,

@@ -139,6 +139,7 @@ fn fixed_indent(line: u32, indent: Option<usize>, found: usize) -> Result<usize,
 }
 
 // A line while a literal is open.
+// Dear to prove: it takes the mode of the reader, an enum with what is gathered, apart and puts it together again.
 fn literal_line<'a>(
     alloc: Global,
     header: Header,
@@ -230,6 +231,7 @@ fn skip_empty(mode: Mode, text: &[u8]) -> &[u8]
 }
 
 /// The events of a text of at most 1,048,576 bytes.
+// Dear to prove: one loop over all lines, with the mode of the reader and all events alive.
 pub(crate) fn events_of(alloc: Global, text: &[u8]) -> Result<Vec<Event>, ReadFault>
     requires { length text.now ≤ 1048576 }
     ensures { Gives (λ v. v.items) result (events_spelled text.now) }
