@@ -20,6 +20,6 @@ budget k o =
     + MOST_CALLS_OF_A_MACHINE * length (keys_of o.goal)
     + MOST_CALLS_OF_A_MACHINE * length (filter (is_left k o) k.machines)
 
--- the calls of the task, where they are counted, are within the budget that it had when it opened
+-- the calls of the task are counted, and are within the budget that it had when it opened
 abbrev pub is_within_budget : (opened ended : Known) → TaskOpen → Bool
 is_within_budget opened ended o = holds (λ n. nat_le n (budget opened o)) (ended.task o.task).calls

@@ -14,6 +14,7 @@ pub mod Frame
 pub mod Goals
 pub mod Held
 pub mod Items
+pub mod Keys
 pub mod Known
 pub mod Learn
 pub mod Links

@@ -10,16 +10,15 @@ use Rattle.bosh_base.specs.declared.goal.Goal.{Goal}
 use Rattle.bosh_base.specs.declared.goal.GoalRow.{GoalRow}
 use Rattle.bosh_base.specs.declared.goal.GroupPlan.{GroupPlan}
 use Rattle.bosh_base.specs.declared.inst.Inst.{Inst}
-use Rattle.bosh_base.specs.declared.key.Key.{Key}
-use Rattle.bosh_base.specs.declared.key.KeyWork.{KeyWork}
 use Rattle.bosh_base.specs.declared.link.Tie.{Tie}
 use Rattle.bosh_base.specs.declared.make.Make.{Make}
+use Rattle.bosh_base.specs.declared.offer.Offer.{Offer}
 use Rattle.bosh_base.specs.declared.task.TaskKind.{TaskKind}
 use Rattle.bosh_base.specs.declared.task.TaskKind.TheVariants.{DeleteDeployment}
 use Rattle.bosh_base.specs.declared.view.Held.{Held}
-use Rattle.bosh_compile.specs.Readiness.{same_key}
 use Rattle.bosh_history.specs.Goals.{named, inst_of, is_in}
-use Rattle.bosh_history.specs.Held.{held_by_machines, held_elsewhere, is_offered, offers_in}
+use Rattle.bosh_history.specs.Held.{held_by_machines, held_elsewhere, is_offered, offers_in, same_bytes_joint}
+use Rattle.bosh_history.specs.Keys.{are_in_order}
 use Rattle.bosh_history.specs.Known.{Known}
 use Rattle.bosh_history.specs.Slots.{is_compiled}
 use Rattle.bosh_history.specs.Words.{is_among, are_distinct, holds}
@@ -90,18 +89,10 @@ has_addresses k goal =
 
 -- ---- keys
 
--- each key comes after those that it needs, or these are compiled; none is compiled, and none stands twice
-abbrev pub are_keys_in_order : Known → List Key → List KeyWork → Bool
-are_keys_in_order k before [] = true
-are_keys_in_order k before (work ∷ works) =
-    not (is_compiled k work.key)
-    && (not (is_among same_key work.key before)
-    && (list_all (λ key. is_compiled k key || is_among same_key key before) work.deps
-    && are_keys_in_order k (work.key ∷ before) works))
-
--- where there are keys there is a slot
+-- they are in compile order, and where there are keys there is a slot
 abbrev pub has_keys : Known → Goal → Bool
-has_keys k goal = are_keys_in_order k [] goal.keys && (nat_le (length goal.keys) 0 || nat_le 1 (length goal.slots))
+has_keys k goal =
+    are_in_order (is_compiled k) goal.keys && (nat_le (length goal.keys) 0 || nat_le 1 (length goal.slots))
 
 -- ---- links
 
@@ -130,12 +121,16 @@ are_rows_kept i [] [] = true
 are_rows_kept i (a ∷ more) (b ∷ others) = is_kept_row i a b && are_rows_kept i more others
 are_rows_kept i rows others = false
 
+-- the same link, of the same type
+abbrev pub same_offer : Offer → Offer → Bool
+same_offer a b = same_bytes_joint a.joint b.joint && bytes_eq a.kind b.kind
+
 abbrev pub same_plan : GroupPlan → GroupPlan → Bool
 same_plan a b =
     bytes_eq a.name b.name && (a.canaries == b.canaries && (a.limit == b.limit && a.stage == b.stage))
 
--- The goal of a task of one instance has the rows, plans and ties of the current one; unless the named one is to be
--- detached, no address of it is that of a recorded row which is not in the goal, since such a task deletes none.
+-- The goal of a task of one instance has the rows, plans, ties and offers of the current one; unless the named one is
+-- to be detached, no address of it is that of a recorded row which is not in the goal, since such a task deletes none.
 abbrev pub has_no_address : Known → Goal → GoalRow → Bool
 has_no_address k goal want = list_all (λ i. is_in (Some goal) i || not (takes i)) k.instances
   where
@@ -148,8 +143,9 @@ is_renewed k goal i (Some current) =
     && (are_rows_kept i goal.rows current.rows
     && (pointwise same_plan goal.groups current.groups
     && (pointwise same_tie goal.ties current.ties
+    && (pointwise same_offer goal.offers current.offers
     && list_all (λ want. not (same_inst want.inst i) || (is_detached want.state || has_no_address k goal want))
-    goal.rows)))
+    goal.rows))))
 is_renewed k goal i None = false
 
 abbrev pub is_empty_goal : Goal → Bool

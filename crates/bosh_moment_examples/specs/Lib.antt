@@ -1,0 +1,5 @@
+pub mod Moves
+pub mod Goals
+pub mod Left
+pub mod Loads
+pub mod Seen
