@@ -1,3 +1,5 @@
 pub mod ActiveLemmas
+pub mod DiskLemmas
 pub mod SameLemmas
+pub mod StepLemmas
 pub mod ToldLemmas

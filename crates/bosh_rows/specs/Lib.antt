@@ -1,6 +1,7 @@
 pub mod After
 pub mod CallOf
 pub mod Disks
+pub mod Group
 pub mod NextStep
 pub mod Same
 pub mod Standing

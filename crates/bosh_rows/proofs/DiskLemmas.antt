@@ -1,0 +1,35 @@
+-- The least of several disks.
+use Rattle.std.proofs.Common.{◌≡◌, ℕ, ◌+◌, ◌<◌, Bool, true, false, cond, Option, None, List, [], ◌∷◌, ◌++◌, length, get_or, take, fold, refl, arith}
+use Rattle.std.specs.Prelude.{◌||◌, filter}
+use Rattle.std.specs.List.{list_any}
+use Rattle.std.proofs.lemmas.Grind.{fold-append}
+use Rattle.std.proofs.lemmas.List.Elements.{filter_more}
+use Rattle.bosh_base.specs.declared.row.DiskRow.{DiskRow}
+use Rattle.bosh_rows.specs.Disks.{lesser}
+
+-- the least of those that meet the test among the first disks
+abbrev pub least_to : (DiskRow → Bool) → List DiskRow → ℕ → Option DiskRow
+least_to p disks i = fold lesser None (filter p (take i disks))
+
+-- .. and among one more
+pub least_more : (p : DiskRow → Bool) (disks : List DiskRow) (i : ℕ) (d : DiskRow) → i < length disks
+    → d ≡ get_or disks i d → least_to p disks (i + 1) ≡ cond (p d) (lesser (least_to p disks i) d) (least_to p disks i)
+least_more p disks i d below is = by_test (p d) refl
+  where
+    by_test : (b : Bool) → p d ≡ b → least_to p disks (i + 1) ≡ cond b (lesser (least_to p disks i) d) (least_to p disks i)
+    by_test true meets = grind (arith, filter_more p disks i d below, fold-append {A = DiskRow} {B = Option DiskRow})
+    by_test false meets = grind (arith, filter_more p disks i d below, fold-append {A = DiskRow} {B = Option DiskRow})
+
+-- one of two tests is met, where the one is or the other
+pub list_any-or : (p q : DiskRow → Bool) (disks : List DiskRow)
+    → list_any (λ d. p d || q d) disks ≡ (list_any p disks || list_any q disks)
+list_any-or p q [] = refl
+list_any-or p q (d ∷ disks) =
+    let others : list_any (λ it. p it || q it) disks ≡ (list_any p disks || list_any q disks) = list_any-or p q disks in
+    rw others (either (p d) (q d) (list_any p disks) (list_any q disks))
+  where
+    either : (a b c e : Bool) → ((a || b) || (c || e)) ≡ ((a || c) || (b || e))
+    either true b c e = refl
+    either false true true e = refl
+    either false true false e = refl
+    either false false c e = refl
