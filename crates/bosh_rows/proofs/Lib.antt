@@ -1,4 +1,5 @@
 pub mod ActiveLemmas
+pub mod CallLemmas
 pub mod DiskLemmas
 pub mod SameLemmas
 pub mod StepLemmas

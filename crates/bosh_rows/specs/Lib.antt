@@ -1,5 +1,6 @@
 pub mod After
 pub mod CallOf
+pub mod DiskChange
 pub mod Disks
 pub mod Group
 pub mod NextStep
