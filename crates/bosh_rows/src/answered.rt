@@ -7,19 +7,14 @@ ghost use Rattle.bosh_rows.specs.DiskChange.{disk_after};
 use crate::RowFault;
 use crate::disk_change::{Change, DiskChange};
 use crate::disks::active;
+use crate::place::put;
 use bosh_base::{Answer, Call, Copyable, DiskRow, DiskWant, Doubt, Role, Row, Spec, Vm};
 use std::alloc::Global;
 
 fn clear_doubt(row: &mut Row)
     ensures { row.new ≡ record row.old { doubt = None } }
 {
-    row.doubt = None;
-}
-
-fn change_disk(alloc: Global, row: &mut Row, disk: u64, change: Change)
-    ensures { row.new ≡ with_disks (map (disk_after (DiskChange.One disk change)) row.old.disks) row.old }
-{
-    change_disks(alloc, row, DiskChange::One(disk, change));
+    put(&mut row.doubt, None);
 }
 
 fn change_disks(alloc: Global, row: &mut Row, change: DiskChange<'_>)
@@ -29,13 +24,13 @@ fn change_disks(alloc: Global, row: &mut Row, change: DiskChange<'_>)
     clear_doubt(row);
 }
 
-// The machine is absent, and with it what it had.
-fn without_machine(alloc: Global, row: &mut Row)
+/// The machine is absent, and with it what it had.
+pub(crate) fn without_machine(alloc: Global, row: &mut Row)
     ensures { row.new ≡ without_machine row.old }
 {
     change_disks(alloc, row, DiskChange::Each(Change::LetGo));
     row.vm = None;
-    row.spec = None;
+    put(&mut row.spec, None);
     row.running = false;
     row.drained = false;
     row.lost = false;
@@ -171,7 +166,8 @@ fn with_facts(
     ensures ok { OnOk result (row.new ≡ with_facts spec.now running drained row.old) }
     ensures err { OnErr result (row.new ≡ row.old) }
 {
-    row.spec = spec.copy(alloc)?;
+    let spec = spec.copy(alloc)?;
+    put(&mut row.spec, spec);
     with_jobs(row, running, drained);
     Ok(())
 }
@@ -180,7 +176,8 @@ fn with_spec(alloc: Global, row: &mut Row, spec: &Spec) -> Result<(), RowFault>
     ensures ok { OnOk result (row.new ≡ record row.old { spec = Some spec.now; doubt = None }) }
     ensures err { OnErr result (row.new ≡ row.old) }
 {
-    row.spec = Some(spec.copy(alloc)?);
+    let spec = spec.copy(alloc)?;
+    put(&mut row.spec, Some(spec));
     clear_doubt(row);
     Ok(())
 }
@@ -209,10 +206,10 @@ fn with_done(alloc: Global, row: &mut Row, call: &Call) -> Result<(), RowFault>
     match call {
         Call::Apply { spec, .. } => return with_spec(alloc, row, spec),
         Call::DeleteVm { .. } => without_machine(alloc, row),
-        Call::AttachDisk { disk, .. } => change_disk(alloc, row, *disk, Change::Attach),
-        Call::DetachDisk { disk, .. } => change_disk(alloc, row, *disk, Change::LetGo),
-        Call::MountDisk { disk, .. } => change_disk(alloc, row, *disk, Change::Mount),
-        Call::UnmountDisk { disk, .. } => change_disk(alloc, row, *disk, Change::Unmount),
+        Call::AttachDisk { disk, .. } => change_disks(alloc, row, DiskChange::One(*disk, Change::Attach)),
+        Call::DetachDisk { disk, .. } => change_disks(alloc, row, DiskChange::One(*disk, Change::LetGo)),
+        Call::MountDisk { disk, .. } => change_disks(alloc, row, DiskChange::One(*disk, Change::Mount)),
+        Call::UnmountDisk { disk, .. } => change_disks(alloc, row, DiskChange::One(*disk, Change::Unmount)),
         Call::MigrateDisk { from, to, .. } => migrate(alloc, row, *from, *to),
         Call::Start { .. } => with_jobs(row, true, false),
         Call::Drain { .. } => with_jobs(row, row.running, true),

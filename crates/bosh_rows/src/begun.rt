@@ -2,6 +2,7 @@ ghost use Rattle.std.specs.Prelude.{◌≡◌, Some, OnOk, OnErr};
 ghost use Rattle.bosh_rows.specs.After.{bare, begun};
 
 use crate::RowFault;
+use crate::place::put;
 use bosh_base::{Call, Copyable, Doubt, Inst, Row, Seq, copy_both};
 use std::alloc::Global;
 
@@ -25,7 +26,7 @@ pub fn bare(alloc: Global, inst: Inst) -> Row
 fn leave_doubt(row: &mut Row, n: u64, call: Call)
     ensures { row.new ≡ record row.old { doubt = Some (record { n = n; call = call }) } }
 {
-    row.doubt = Some(Doubt { n, call });
+    put(&mut row.doubt, Some(Doubt { n, call }));
 }
 
 /// What is recorded of an instance, once the call `n` began: a changing call is in doubt until it is answered, but for
@@ -37,7 +38,7 @@ pub fn begin(alloc: Global, row: &mut Row, n: u64, call: &Call) -> Result<(), Ro
     match call {
         Call::CreateVm { make, .. } => {
             let (make, call) = copy_both(make, call, alloc)?;
-            row.make = Some(make);
+            put(&mut row.make, Some(make));
             leave_doubt(row, n, call);
         }
         Call::MigrateDisk { .. } => {}

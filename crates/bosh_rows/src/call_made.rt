@@ -9,23 +9,17 @@ ghost use Rattle.bosh_rows.specs.NextStep.{next_step, plain};
 
 use crate::disks::{active, is_active};
 use crate::{RowFault, Step};
-use bosh_base::{Call, Copyable, DiskRow, Doubt, GoalRow, Method, Row, Seq};
+use bosh_base::{Call, Copyable, DiskRow, GoalRow, Method, Row, Seq, Vm};
 use std::alloc::Global;
 
-/// Whether an instance has a machine on record where its next step is of one: where it is lost, or in doubt of another
-/// call than the creation of a machine. Rows that entries tell of always do, but a snapshot can spell others.
+/// Whether a machine is recorded of an instance where its next step is of one: where it is lost, or in doubt of another
+/// call than the creation of a machine. Rows that entries tell of always have it, but a snapshot can spell others.
 pub fn has_its_machine(row: &Row) -> bool
     ensures { result ≡ has_its_machine row.now }
 {
-    row.vm.is_some() || (!row.lost && !is_doubt_on_machine(row.doubt.as_ref()))
-}
-
-fn is_doubt_on_machine(doubt: Option<&Doubt>) -> bool
-    ensures { result ≡ is_doubt_on_machine (option_copied doubt.entry) }
-{
-    match doubt {
-        Some(doubt) => !matches!(doubt.call, Call::CreateVm { .. }),
-        None => false,
+    match &row.doubt {
+        Some(doubt) if !matches!(doubt.call, Call::CreateVm { .. }) => row.vm.is_some(),
+        _ => row.vm.is_some() || !row.lost,
     }
 }
 
@@ -87,34 +81,49 @@ fn application(
     Ok(Some(Call::Apply { vm: vm.vm, spec }))
 }
 
+// A call that names no machine, but asks for what the call in doubt made.
+fn search(method: Method, row: &Row) -> Option<Call>
+    ensures { result ≡ call_of (plain method) None (record row.now { vm = None }) }
+{
+    let doubt = row.doubt.as_ref()?;
+    match method {
+        Method::FindVm => Some(Call::FindVm { agent: doubt.n }),
+        Method::FindDisk => Some(Call::FindDisk { tag: doubt.n }),
+        _ => None,
+    }
+}
+
 // A call that asks for nothing of what is wanted.
 fn call_without_want(step: Step, row: &Row) -> Option<Call>
     ensures { result ≡ call_of step None row.now }
 {
-    let Step { method, disk } = step;
-    match method {
-        Method::FindVm => Some(Call::FindVm { agent: row.doubt.as_ref()?.n }),
-        Method::FindDisk => Some(Call::FindDisk { tag: row.doubt.as_ref()?.n }),
-        Method::DeleteVm => Some(Call::DeleteVm { vm: row.vm?.vm }),
-        Method::HasVm => Some(Call::HasVm { vm: row.vm?.vm }),
-        Method::GetDisks => Some(Call::GetDisks { vm: row.vm?.vm }),
-        Method::Ping => Some(Call::Ping { vm: row.vm?.vm }),
-        Method::GetState => Some(Call::GetState { vm: row.vm?.vm }),
-        Method::Start => Some(Call::Start { vm: row.vm?.vm }),
-        Method::Drain => Some(Call::Drain { vm: row.vm?.vm }),
-        Method::Stop => Some(Call::Stop { vm: row.vm?.vm }),
-        Method::ListDisk => Some(Call::ListDisk { vm: row.vm?.vm }),
-        Method::AttachDisk => Some(Call::AttachDisk { vm: row.vm?.vm, disk: disk? }),
-        Method::DetachDisk => Some(Call::DetachDisk { vm: row.vm?.vm, disk: disk? }),
-        Method::MountDisk => Some(Call::MountDisk { vm: row.vm?.vm, disk: disk? }),
-        Method::UnmountDisk => Some(Call::UnmountDisk { vm: row.vm?.vm, disk: disk? }),
-        Method::MigrateDisk => Some(Call::MigrateDisk {
-            vm: row.vm?.vm,
-            from: active(row.disks.as_slice())?.disk,
-            to: disk?,
-        }),
-        _ => None,
+    let Some(Vm { vm, .. }) = row.vm else {
+        return search(step.method, row);
+    };
+    match (step.method, step.disk) {
+        (Method::DeleteVm, _) => Some(Call::DeleteVm { vm }),
+        (Method::HasVm, _) => Some(Call::HasVm { vm }),
+        (Method::GetDisks, _) => Some(Call::GetDisks { vm }),
+        (Method::Ping, _) => Some(Call::Ping { vm }),
+        (Method::GetState, _) => Some(Call::GetState { vm }),
+        (Method::Start, _) => Some(Call::Start { vm }),
+        (Method::Drain, _) => Some(Call::Drain { vm }),
+        (Method::Stop, _) => Some(Call::Stop { vm }),
+        (Method::ListDisk, _) => Some(Call::ListDisk { vm }),
+        (Method::AttachDisk, Some(disk)) => Some(Call::AttachDisk { vm, disk }),
+        (Method::DetachDisk, Some(disk)) => Some(Call::DetachDisk { vm, disk }),
+        (Method::MountDisk, Some(disk)) => Some(Call::MountDisk { vm, disk }),
+        (Method::UnmountDisk, Some(disk)) => Some(Call::UnmountDisk { vm, disk }),
+        (Method::MigrateDisk, Some(to)) => migration(vm, active(row.disks.as_slice()), to),
+        _ => search(step.method, row),
     }
+}
+
+fn migration(vm: u64, old: Option<&DiskRow>, to: u64) -> Option<Call>
+    ensures { result ≡ option_map (λ old. calls.MigrateDisk vm old.disk to) (option_copied old.entry) }
+{
+    let from = old?.disk;
+    Some(Call::MigrateDisk { vm, from, to })
 }
 
 // The call of a step, if the row has what it names.

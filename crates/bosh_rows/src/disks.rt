@@ -2,7 +2,7 @@
 ghost use Rattle.std.specs.Prelude.{◌≡◌, if◌then◌else◌, Some};
 ghost use Rattle.std.specs.List.{list_all};
 ghost use Rattle.std.specs.Option.{option_copied};
-ghost use Rattle.bosh_rows.specs.Disks.{is_active, is_new, is_right, is_spare_beside, active, coming, lesser};
+ghost use Rattle.bosh_rows.specs.Disks.{is_active, is_right, is_spare_beside, active, coming, lesser};
 
 use bosh_base::{DiskRow, DiskWant, Role};
 
@@ -10,12 +10,6 @@ pub(crate) fn is_active(disk: &DiskRow) -> bool
     ensures { result ≡ is_active disk.now }
 {
     matches!(disk.role, Role::Active)
-}
-
-fn is_new(disk: &DiskRow) -> bool
-    ensures { result ≡ is_new disk.now }
-{
-    matches!(disk.role, Role::New)
 }
 
 /// Whether a disk has the size and the properties that are wanted.
@@ -64,7 +58,11 @@ pub(crate) fn coming<'a>(wanted: &DiskWant, disks: &'a [DiskRow]) -> Option<&'a 
     }
     let mut least = None;
     for disk in disks {
-        least = lesser_if(is_new(disk) && is_right(wanted, disk), least, disk);
+        least = lesser_if(
+            matches!(disk.role, Role::New) && is_right(wanted, disk),
+            least,
+            disk,
+        );
     }
     least
 }

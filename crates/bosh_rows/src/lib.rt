@@ -11,6 +11,7 @@ mod fault;
 mod group;
 mod laws;
 mod next_step;
+mod place;
 mod removal;
 mod standing;
 mod step;

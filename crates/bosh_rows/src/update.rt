@@ -1,12 +1,15 @@
 ghost use Rattle.std.specs.Prelude.{◌≡◌, ◌∷◌, [], ◌++◌, IfOk, OnErr, OnOk, filter};
-ghost use Rattle.bosh_rows.specs.After.{left_behind, updated};
+ghost use Rattle.bosh_rows.specs.After.{bare, left_behind, updated};
 ghost use Rattle.bosh_rows.specs.Disks.{stays};
 ghost use Rattle.bosh_rows.specs.Standing.{same_truth};
 
 use crate::RowFault;
+use crate::answered::without_machine;
 use crate::disks::is_active;
+use crate::place::put;
 use bosh_base::{Copyable, DiskRow, GoalRow, Row, Seq, State};
 use std::alloc::Global;
+use std::mem;
 
 /// Whether a disk stays with its instance where an update is done.
 fn stays(want: &GoalRow, disk: &DiskRow) -> bool
@@ -56,13 +59,18 @@ pub fn update_done(
 {
     let kept = disks_where(alloc, row.disks.as_slice(), want, true)?;
     let left = disks_where(alloc, row.disks.as_slice(), want, false)?;
-    row.disks = kept;
+    put(&mut row.disks, kept);
     Ok(left)
 }
 
-/// The disks of an instance that is gone: all of them are orphaned, and nothing is recorded of it any more.
-pub fn instance_gone(row: Row) -> Seq<DiskRow>
-    ensures { result ≡ row.disks }
+/// An instance is gone: nothing is recorded of it any more, and its disks, which are given back, are all orphaned. It
+/// takes no memory.
+pub fn instance_gone(alloc: Global, row: &mut Row) -> Seq<DiskRow>
+    ensures left { result ≡ row.old.disks }
+    ensures bare { row.new ≡ bare row.old.inst }
 {
-    row.disks
+    let left = mem::replace(&mut row.disks, Seq::new(alloc));
+    without_machine(alloc, row);
+    put(&mut row.make, None);
+    left
 }
