@@ -1,12 +1,14 @@
 -- The call that a step is (bosh.io, "CPI API v1" and "Agent API").
-use Rattle.std.specs.Prelude.{ℕ, Option, None}
+use Rattle.std.specs.Prelude.{ℕ, Bool, true, false, not, ◌&&◌, ◌||◌, Option, Some, None, is_some}
 use Rattle.std.specs.Option.{option_and_then, option_map}
+use Rattle.bosh_base.specs.Call.{method_of}
 use Rattle.bosh_base.specs.declared.call.Call.{Call}
 use Rattle.bosh_base.specs.declared.call.Call.TheVariants as calls
 use Rattle.bosh_base.specs.declared.disk_want.DiskWant.{DiskWant}
 use Rattle.bosh_base.specs.declared.goal.GoalRow.{GoalRow}
 use Rattle.bosh_base.specs.declared.method.Method.{Method}
 use Rattle.bosh_base.specs.declared.method.Method.TheVariants.{CreateVm, DeleteVm, HasVm, FindVm, CreateDisk, FindDisk, AttachDisk, DetachDisk, GetDisks, GetState, Ping, Apply, Start, Drain, Stop, MountDisk, UnmountDisk, ListDisk, MigrateDisk}
+use Rattle.bosh_base.specs.declared.row.Doubt.{Doubt}
 use Rattle.bosh_base.specs.declared.row.Row.{Row}
 use Rattle.bosh_rows.specs.Disks.{active, active_disks}
 use Rattle.bosh_rows.specs.NextStep.{next_step}
@@ -58,3 +60,19 @@ call_of step want row = by_method step.method
 -- the call of the next step
 abbrev pub next_call : Option GoalRow → Row → Option Call
 next_call want row = option_and_then (λ step. call_of step want row) (next_step want row)
+
+-- ---- which rows have what their steps name
+
+-- a call in doubt other than the creation of a machine
+abbrev pub is_doubt_on_machine : Option Doubt → Bool
+is_doubt_on_machine (Some it) = by_method (method_of it.call)
+  where
+    by_method : Method → Bool
+    by_method CreateVm = false
+    by_method method = true
+is_doubt_on_machine None = false
+
+-- A row that is lost, or in doubt of another call than the creation of a machine, has a machine. No history folds
+-- another row, but a snapshot can spell one.
+abbrev pub has_its_machine : Row → Bool
+has_its_machine row = is_some row.vm || (not row.lost && not (is_doubt_on_machine row.doubt))

@@ -80,9 +80,13 @@ coming (Some wanted) disks =
     if meets (is_right wanted) (active disks) then None else least (λ d. is_new d && is_right wanted d) disks
 coming None disks = None
 
+-- it is an old disk, or a new one that is not this one
+abbrev pub is_spare_beside : Option DiskRow → DiskRow → Bool
+is_spare_beside other d = is_old d || (is_new d && not (meets (λ it. it.disk == d.disk) other))
+
 -- no use is left for it: an old disk, or a new one that takes nobody's place
 abbrev pub is_spare : Option DiskWant → List DiskRow → DiskRow → Bool
-is_spare wanted disks d = is_old d || (is_new d && not (meets (λ it. it.disk == d.disk) (coming wanted disks)))
+is_spare wanted disks d = is_spare_beside (coming wanted disks) d
 
 -- where the update of an instance is done it stays with the instance, and else it is orphaned: the active disk stays,
 -- where one is wanted or the instance is to be detached

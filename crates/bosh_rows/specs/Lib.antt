@@ -1,6 +1,8 @@
 pub mod After
 pub mod CallOf
+pub mod DiskChange
 pub mod Disks
+pub mod Group
 pub mod NextStep
 pub mod Same
 pub mod Standing

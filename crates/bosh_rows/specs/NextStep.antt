@@ -36,6 +36,13 @@ first_of [] = None
 first_of (Some step ∷ steps) = Some step
 first_of (None ∷ steps) = first_of steps
 
+-- the least mounted disk of those that meet the test is unmounted, and else the least attached one detached
+abbrev pub letting_go : (DiskRow → Bool) → List DiskRow → Option Step
+letting_go test disks = first_of
+    (on UnmountDisk (least (λ d. test d && d.mounted) disks)
+    ∷ on DetachDisk (least (λ d. test d && d.attached) disks)
+    ∷ [])
+
 -- ---- rules 0 and 1: what is not known comes first
 
 -- 0. A machine that did not answer goes, once it is known which disk or machine there is.
