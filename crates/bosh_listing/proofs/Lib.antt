@@ -1,0 +1,4 @@
+mod LineLemmas
+mod ListLemmas
+mod ListingLemmas
+mod StampLemmas
