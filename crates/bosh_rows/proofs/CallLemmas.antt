@@ -1,20 +1,18 @@
 -- The next step of a row is a call.
 use Rattle.std.proofs.Common.{◌≡◌, Bool, true, false, cond, Option, Some, None, List, [], ◌∷◌, refl, subst, arith}
-use Rattle.std.specs.Prelude.{is_some, not, ◌&&◌}
+use Rattle.std.specs.Prelude.{is_some}
 use Rattle.std.specs.List.{list_all}
+use Rattle.std.specs.Option.{option_and_then}
 use Rattle.bosh_base.specs.Call.{method_of}
-use Rattle.bosh_base.specs.Cloud.{when}
 use Rattle.bosh_base.specs.declared.disk_want.DiskWant.{DiskWant}
 use Rattle.bosh_base.specs.declared.goal.GoalRow.{GoalRow}
 use Rattle.bosh_base.specs.declared.method.Method.{Method}
-use Rattle.bosh_base.specs.declared.method.Method.TheVariants.{CreateVm, DeleteVm, CreateDisk, AttachDisk, DetachDisk, Apply, Start, Drain, Stop, MountDisk, UnmountDisk, MigrateDisk}
-use Rattle.bosh_base.specs.declared.row.DiskRow.{DiskRow}
+use Rattle.bosh_base.specs.declared.method.Method.TheVariants.{CreateVm, CreateDisk}
 use Rattle.bosh_base.specs.declared.row.Doubt as doubt
 use Rattle.bosh_base.specs.declared.row.Row.{Row}
 use Rattle.bosh_base.specs.declared.row.Vm as vm
-use Rattle.bosh_rows.specs.CallOf.{call_of, has_its_machine}
-use Rattle.bosh_rows.specs.Disks.{active, coming, is_right, least}
-use Rattle.bosh_rows.specs.NextStep.{first_of, plain, with_disk, on, lost_method, lost_step, probe_method, probe_step, removal, creation, pausing, clearing, releasing, placing, replacing, providing, disk_step, applying, starting, tending, has_to_go, machine_step, known_step, next_step}
+use Rattle.bosh_rows.specs.CallOf.{call_of, has_its_machine, next_call}
+use Rattle.bosh_rows.specs.NextStep.{first_of, plain, lost_method, lost_step, probe_method, removal, pausing, clearing, disk_step, applying, starting, tending, machine_step, known_step, next_step}
 use Rattle.bosh_rows.specs.declared.step.Step.{Step}
 
 -- the step, if it is one, is a call
@@ -117,3 +115,12 @@ pub next_is_call : (want : Option GoalRow) (row : Row) (step : Step) → next_st
 next_is_call want row step next has =
     let calls : is_call want row (next_step want row) ≡ true = next_calls want row has in
     subst (λ (found : Option Step). is_call want row found ≡ true) next calls
+
+pub next_is_next_call : (want : Option GoalRow) (row : Row) → has_its_machine row ≡ true
+    → is_some (next_call want row) ≡ is_some (next_step want row)
+next_is_next_call want row has = by_step (next_step want row) (next_calls want row has)
+  where
+    by_step : (step : Option Step) → is_call want row step ≡ true
+        → is_some (option_and_then (λ it. call_of it want row) step) ≡ is_some step
+    by_step (Some step) calls = calls
+    by_step None calls = refl

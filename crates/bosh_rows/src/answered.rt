@@ -80,13 +80,7 @@ fn with_disk(row: &mut Row, disk: u64, tag: u64, want: DiskWant) -> Result<(), R
 }
 
 // What the call n made has this number.
-fn with_made(
-    alloc: Global,
-    row: &mut Row,
-    n: u64,
-    call: &Call,
-    number: u64,
-) -> Result<(), RowFault>
+fn with_made(alloc: Global, row: &mut Row, n: u64, call: &Call, number: u64) -> Result<(), RowFault>
     ensures ok { OnOk result (row.new ≡ told n call.now (answers.Cid number) row.old) }
     ensures err { OnErr result (row.new ≡ row.old) }
 {
@@ -111,10 +105,12 @@ fn with_found_disk(
     ensures ok { OnOk result (row.new ≡ with_found tag found row.old.doubt row.old) }
     ensures err { OnErr result (row.new ≡ row.old) }
 {
-    let Some(Doubt {
-        call: Call::CreateDisk { want, .. },
-        ..
-    }) = &row.doubt
+    let Some(
+        Doubt {
+            call: Call::CreateDisk { want, .. },
+            ..
+        },
+    ) = &row.doubt
     else {
         return Ok(());
     };
@@ -127,12 +123,7 @@ fn with_found_disk(
 }
 
 // What a call looked for is there, with this number, or is not there.
-fn with_found(
-    alloc: Global,
-    row: &mut Row,
-    call: &Call,
-    found: Option<u64>,
-) -> Result<(), RowFault>
+fn with_found(alloc: Global, row: &mut Row, call: &Call, found: Option<u64>) -> Result<(), RowFault>
     ensures ok { OnOk result ((n : ℕ) → row.new ≡ told n call.now (answers.Found found) row.old) }
     ensures err { OnErr result (row.new ≡ row.old) }
 {
@@ -206,10 +197,26 @@ fn with_done(alloc: Global, row: &mut Row, call: &Call) -> Result<(), RowFault>
     match call {
         Call::Apply { spec, .. } => return with_spec(alloc, row, spec),
         Call::DeleteVm { .. } => without_machine(alloc, row),
-        Call::AttachDisk { disk, .. } => change_disks(alloc, row, DiskChange::One(*disk, Change::Attach)),
-        Call::DetachDisk { disk, .. } => change_disks(alloc, row, DiskChange::One(*disk, Change::LetGo)),
-        Call::MountDisk { disk, .. } => change_disks(alloc, row, DiskChange::One(*disk, Change::Mount)),
-        Call::UnmountDisk { disk, .. } => change_disks(alloc, row, DiskChange::One(*disk, Change::Unmount)),
+        Call::AttachDisk { disk, .. } => change_disks(
+            alloc,
+            row,
+            DiskChange::One(*disk, Change::Attach),
+        ),
+        Call::DetachDisk { disk, .. } => change_disks(
+            alloc,
+            row,
+            DiskChange::One(*disk, Change::LetGo),
+        ),
+        Call::MountDisk { disk, .. } => change_disks(
+            alloc,
+            row,
+            DiskChange::One(*disk, Change::Mount),
+        ),
+        Call::UnmountDisk { disk, .. } => change_disks(
+            alloc,
+            row,
+            DiskChange::One(*disk, Change::Unmount),
+        ),
         Call::MigrateDisk { from, to, .. } => migrate(alloc, row, *from, *to),
         Call::Start { .. } => with_jobs(row, true, false),
         Call::Drain { .. } => with_jobs(row, row.running, true),
@@ -250,7 +257,9 @@ pub fn after(
             spec,
             running,
             drained,
-        } if matches!(call, Call::GetState { .. }) => return with_facts(alloc, row, spec, *running, *drained),
+        } if matches!(call, Call::GetState { .. }) => return with_facts(
+            alloc, row, spec, *running, *drained,
+        ),
         Answer::Yes if matches!(call, Call::HasVm { .. }) => clear_doubt(row),
         Answer::No if matches!(call, Call::HasVm { .. }) => without_machine(alloc, row),
         Answer::Gone => with_gone(alloc, row, call),

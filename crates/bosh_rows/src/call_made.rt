@@ -35,11 +35,7 @@ fn active_disks(alloc: Global, disks: &[DiskRow]) -> Result<Seq<u64>, RowFault>
     Ok(Seq::from(numbers))
 }
 
-fn creation(
-    alloc: Global,
-    want: Option<&GoalRow>,
-    row: &Row,
-) -> Result<Option<Call>, RowFault>
+fn creation(alloc: Global, want: Option<&GoalRow>, row: &Row) -> Result<Option<Call>, RowFault>
     ensures { IfOk result (λ call. call ≡ call_of (plain methods.CreateVm) (option_copied want.entry) row.now) }
 {
     let Some(want) = want else {
@@ -50,11 +46,7 @@ fn creation(
     Ok(Some(Call::CreateVm { make, disks }))
 }
 
-fn disk_creation(
-    alloc: Global,
-    want: Option<&GoalRow>,
-    row: &Row,
-) -> Result<Option<Call>, RowFault>
+fn disk_creation(alloc: Global, want: Option<&GoalRow>, row: &Row) -> Result<Option<Call>, RowFault>
     ensures { IfOk result (λ call. call ≡ call_of (plain methods.CreateDisk) (option_copied want.entry) row.now) }
 {
     let (Some(want), Some(vm)) = (want, row.vm) else {
@@ -67,11 +59,7 @@ fn disk_creation(
     Ok(Some(Call::CreateDisk { want, vm: vm.vm }))
 }
 
-fn application(
-    alloc: Global,
-    want: Option<&GoalRow>,
-    row: &Row,
-) -> Result<Option<Call>, RowFault>
+fn application(alloc: Global, want: Option<&GoalRow>, row: &Row) -> Result<Option<Call>, RowFault>
     ensures { IfOk result (λ call. call ≡ call_of (plain methods.Apply) (option_copied want.entry) row.now) }
 {
     let (Some(want), Some(vm)) = (want, row.vm) else {

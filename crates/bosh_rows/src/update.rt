@@ -48,11 +48,7 @@ fn disks_where(
 
 /// The update of an instance is done, as it is wanted: it keeps the disks that stay with it, and the others, which are
 /// given back, are orphaned.
-pub fn update_done(
-    alloc: Global,
-    row: &mut Row,
-    want: &GoalRow,
-) -> Result<Seq<DiskRow>, RowFault>
+pub fn update_done(alloc: Global, row: &mut Row, want: &GoalRow) -> Result<Seq<DiskRow>, RowFault>
     ensures left { IfOk result (λ left. left ≡ left_behind want.now row.old) }
     ensures ok { OnOk result (row.new ≡ updated want.now row.old) }
     ensures err { OnErr result (row.new ≡ row.old) }

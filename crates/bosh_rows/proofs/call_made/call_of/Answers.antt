@@ -10,5 +10,5 @@ pub unreachable-requires : goal.unreachable-requires
 unreachable-requires c =
     let want = option_copied c.args.want in
     let calls : is_some (call_of c.args.step want c.args.row.now) ≡ true =
-        next_is_call want c.args.row.now c.args.step c.requires.next c.requires.machine in
+    next_is_call want c.args.row.now c.args.step c.requires.next c.requires.machine in
     grind (arith, calls, c.in-None.is, c.in_ok-call.ensures)

@@ -1,7 +1,6 @@
 -- The disks are looked at once.
 use Rattle.std.proofs.Common.{◌≡◌, ◌∙◌, ◌&&◌, ◌||◌, not, ap, arith}
 use Rattle.std.specs.List.{list_any}
-use Rattle.bosh_base.specs.declared.row.DiskRow.{DiskRow}
 use Rattle.bosh_rows.proofs.DiskLemmas.{list_any-or}
 use Rattle.bosh_rows.specs.Disks.{is_active, is_spare}
 use Rattle.bosh_rows.specs.Group.{is_in}
