@@ -22,7 +22,8 @@ is_call want row None = true
 
 -- ---- where there is a machine
 
-removal_calls : (want : Option GoalRow) (row : Row) (v : vm.Vm) → row.vm ≡ Some v → is_call want row (removal row) ≡ true
+removal_calls : (want : Option GoalRow) (row : Row) (v : vm.Vm) → row.vm ≡ Some v
+    → is_call want row (removal row) ≡ true
 removal_calls want row v there = grind (arith, there)
 
 pausing_calls : (want : GoalRow) (row : Row) (v : vm.Vm) → row.vm ≡ Some v
@@ -76,8 +77,8 @@ machine_calls (Some want) row (Some v) there =
 machine_calls (Some want) row None there = grind arith
 
 -- the call that asks for one in doubt
-probe_calls : (want : Option GoalRow) (row : Row) (d : doubt.Doubt) → row.doubt ≡ Some d → (v : Option vm.Vm) → row.vm ≡ v
-    → has_its_machine row ≡ true → (m : Method) → method_of d.call ≡ m
+probe_calls : (want : Option GoalRow) (row : Row) (d : doubt.Doubt) → row.doubt ≡ Some d
+    → (v : Option vm.Vm) → row.vm ≡ v → has_its_machine row ≡ true → (m : Method) → method_of d.call ≡ m
     → is_call want row (Some (plain (probe_method m))) ≡ true
 probe_calls want row d doubts v there has CreateVm is = rw doubts refl
 probe_calls want row d doubts v there has CreateDisk is = rw doubts refl
@@ -95,7 +96,8 @@ lost_calls want row lost has (Some v) there (Some d) doubts = by_method (method_
     by_method CreateDisk = rw doubts refl
     by_method m = rw there refl
 
-known_calls : (want : Option GoalRow) (row : Row) → has_its_machine row ≡ true → (d : Option doubt.Doubt) → row.doubt ≡ d
+known_calls : (want : Option GoalRow) (row : Row) → has_its_machine row ≡ true
+    → (d : Option doubt.Doubt) → row.doubt ≡ d
     → is_call want row (known_step want row d) ≡ true
 known_calls want row has None doubts = machine_calls want row row.vm refl
 known_calls want row has (Some d) doubts = probe_calls want row d doubts row.vm refl has (method_of d.call) refl
