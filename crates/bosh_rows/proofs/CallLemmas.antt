@@ -1,20 +1,18 @@
 -- The next step of a row is a call.
 use Rattle.std.proofs.Common.{◌≡◌, Bool, true, false, cond, Option, Some, None, List, [], ◌∷◌, refl, subst, arith}
-use Rattle.std.specs.Prelude.{is_some, not, ◌&&◌}
+use Rattle.std.specs.Prelude.{is_some}
 use Rattle.std.specs.List.{list_all}
+use Rattle.std.specs.Option.{option_and_then}
 use Rattle.bosh_base.specs.Call.{method_of}
-use Rattle.bosh_base.specs.Cloud.{when}
 use Rattle.bosh_base.specs.declared.disk_want.DiskWant.{DiskWant}
 use Rattle.bosh_base.specs.declared.goal.GoalRow.{GoalRow}
 use Rattle.bosh_base.specs.declared.method.Method.{Method}
-use Rattle.bosh_base.specs.declared.method.Method.TheVariants.{CreateVm, DeleteVm, CreateDisk, AttachDisk, DetachDisk, Apply, Start, Drain, Stop, MountDisk, UnmountDisk, MigrateDisk}
-use Rattle.bosh_base.specs.declared.row.DiskRow.{DiskRow}
+use Rattle.bosh_base.specs.declared.method.Method.TheVariants.{CreateVm, CreateDisk}
 use Rattle.bosh_base.specs.declared.row.Doubt as doubt
 use Rattle.bosh_base.specs.declared.row.Row.{Row}
 use Rattle.bosh_base.specs.declared.row.Vm as vm
-use Rattle.bosh_rows.specs.CallOf.{call_of, has_its_machine}
-use Rattle.bosh_rows.specs.Disks.{active, coming, is_right, least}
-use Rattle.bosh_rows.specs.NextStep.{first_of, plain, with_disk, on, lost_method, lost_step, probe_method, probe_step, removal, creation, pausing, clearing, releasing, placing, replacing, providing, disk_step, applying, starting, tending, has_to_go, machine_step, known_step, next_step}
+use Rattle.bosh_rows.specs.CallOf.{call_of, has_its_machine, next_call}
+use Rattle.bosh_rows.specs.NextStep.{first_of, plain, lost_method, lost_step, probe_method, removal, pausing, clearing, disk_step, applying, starting, tending, machine_step, known_step, next_step}
 use Rattle.bosh_rows.specs.declared.step.Step.{Step}
 
 -- the step, if it is one, is a call
@@ -24,7 +22,8 @@ is_call want row None = true
 
 -- ---- where there is a machine
 
-removal_calls : (want : Option GoalRow) (row : Row) (v : vm.Vm) → row.vm ≡ Some v → is_call want row (removal row) ≡ true
+removal_calls : (want : Option GoalRow) (row : Row) (v : vm.Vm) → row.vm ≡ Some v
+    → is_call want row (removal row) ≡ true
 removal_calls want row v there = grind (arith, there)
 
 pausing_calls : (want : GoalRow) (row : Row) (v : vm.Vm) → row.vm ≡ Some v
@@ -78,8 +77,8 @@ machine_calls (Some want) row (Some v) there =
 machine_calls (Some want) row None there = grind arith
 
 -- the call that asks for one in doubt
-probe_calls : (want : Option GoalRow) (row : Row) (d : doubt.Doubt) → row.doubt ≡ Some d → (v : Option vm.Vm) → row.vm ≡ v
-    → has_its_machine row ≡ true → (m : Method) → method_of d.call ≡ m
+probe_calls : (want : Option GoalRow) (row : Row) (d : doubt.Doubt) → row.doubt ≡ Some d
+    → (v : Option vm.Vm) → row.vm ≡ v → has_its_machine row ≡ true → (m : Method) → method_of d.call ≡ m
     → is_call want row (Some (plain (probe_method m))) ≡ true
 probe_calls want row d doubts v there has CreateVm is = rw doubts refl
 probe_calls want row d doubts v there has CreateDisk is = rw doubts refl
@@ -97,7 +96,8 @@ lost_calls want row lost has (Some v) there (Some d) doubts = by_method (method_
     by_method CreateDisk = rw doubts refl
     by_method m = rw there refl
 
-known_calls : (want : Option GoalRow) (row : Row) → has_its_machine row ≡ true → (d : Option doubt.Doubt) → row.doubt ≡ d
+known_calls : (want : Option GoalRow) (row : Row) → has_its_machine row ≡ true
+    → (d : Option doubt.Doubt) → row.doubt ≡ d
     → is_call want row (known_step want row d) ≡ true
 known_calls want row has None doubts = machine_calls want row row.vm refl
 known_calls want row has (Some d) doubts = probe_calls want row d doubts row.vm refl has (method_of d.call) refl
@@ -117,3 +117,12 @@ pub next_is_call : (want : Option GoalRow) (row : Row) (step : Step) → next_st
 next_is_call want row step next has =
     let calls : is_call want row (next_step want row) ≡ true = next_calls want row has in
     subst (λ (found : Option Step). is_call want row found ≡ true) next calls
+
+pub next_is_next_call : (want : Option GoalRow) (row : Row) → has_its_machine row ≡ true
+    → is_some (next_call want row) ≡ is_some (next_step want row)
+next_is_next_call want row has = by_step (next_step want row) (next_calls want row has)
+  where
+    by_step : (step : Option Step) → is_call want row step ≡ true
+        → is_some (option_and_then (λ it. call_of it want row) step) ≡ is_some step
+    by_step (Some step) calls = calls
+    by_step None calls = refl

@@ -19,7 +19,8 @@ pub least_more : (p : DiskRow → Bool) (disks : List DiskRow) (i : ℕ) (d : Di
     → d ≡ get_or disks i d → least_to p disks (i + 1) ≡ cond (p d) (lesser (least_to p disks i) d) (least_to p disks i)
 least_more p disks i d below is = by_test (p d) refl
   where
-    by_test : (b : Bool) → p d ≡ b → least_to p disks (i + 1) ≡ cond b (lesser (least_to p disks i) d) (least_to p disks i)
+    by_test : (b : Bool) → p d ≡ b
+        → least_to p disks (i + 1) ≡ cond b (lesser (least_to p disks i) d) (least_to p disks i)
     by_test true meets = grind (arith, filter_more p disks i d below, fold-append {A = DiskRow} {B = Option DiskRow})
     by_test false meets = grind (arith, filter_more p disks i d below, fold-append {A = DiskRow} {B = Option DiskRow})
 

@@ -1,5 +1,5 @@
 -- What a call changes in each disk of a row.
-use Rattle.std.specs.Prelude.{ℕ, ◌==◌, if◌then◌else◌}
+use Rattle.std.specs.Prelude.{◌==◌, if◌then◌else◌}
 use Rattle.bosh_base.specs.declared.row.DiskRow.{DiskRow}
 use Rattle.bosh_base.specs.declared.row.Role.TheVariants as roles
 use Rattle.bosh_rows.specs.After.{attach, attached_by, let_go, mount, mounted_by, unmount}

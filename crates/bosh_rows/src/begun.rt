@@ -23,12 +23,6 @@ pub fn bare(alloc: Global, inst: Inst) -> Row
     }
 }
 
-fn leave_doubt(row: &mut Row, n: u64, call: Call)
-    ensures { row.new ≡ record row.old { doubt = Some (record { n = n; call = call }) } }
-{
-    put(&mut row.doubt, Some(Doubt { n, call }));
-}
-
 /// What is recorded of an instance, once the call `n` began: a changing call is in doubt until it is answered, but for
 /// a migration, and the creation of a machine tells what it is made from.
 pub fn begin(alloc: Global, row: &mut Row, n: u64, call: &Call) -> Result<(), RowFault>
@@ -39,12 +33,12 @@ pub fn begin(alloc: Global, row: &mut Row, n: u64, call: &Call) -> Result<(), Ro
         Call::CreateVm { make, .. } => {
             let (make, call) = copy_both(make, call, alloc)?;
             put(&mut row.make, Some(make));
-            leave_doubt(row, n, call);
+            put(&mut row.doubt, Some(Doubt { n, call }));
         }
         Call::MigrateDisk { .. } => {}
         _ if call.method().is_changing() => {
             let call = call.copy(alloc)?;
-            leave_doubt(row, n, call);
+            put(&mut row.doubt, Some(Doubt { n, call }));
         }
         _ => {}
     }

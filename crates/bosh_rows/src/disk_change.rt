@@ -77,7 +77,7 @@ impl DiskChange<'_> {
     }
 }
 
-// Stands in a list for a disk that was taken out of it.
+// Stands in a list for a disk that was taken out of it: a list gives an item only for another.
 fn blank(alloc: Global) -> DiskRow {
     DiskRow {
         disk: 0,

@@ -38,7 +38,8 @@ pub(crate) fn lesser_if<'a>(
     least: Option<&'a DiskRow>,
     disk: &'a DiskRow,
 ) -> Option<&'a DiskRow>
-    ensures { option_copied result ≡ (if counts then lesser (option_copied least.entry) disk.now else option_copied least.entry) }
+    ensures { let before = option_copied least.entry in
+        option_copied result ≡ (if counts then lesser before disk.now else before) }
 {
     match least {
         None if counts => Some(disk),

@@ -1,10 +1,13 @@
-ghost use Rattle.std.specs.Prelude.{◌≡◌, ℕ, false, None, Some};
+ghost use Rattle.std.specs.Prelude.{◌≡◌, ℕ, Option, false, None, Some, IsTrue, is_some};
 ghost use Rattle.bosh_base.specs.declared.answer.Answer.{Answer};
 ghost use Rattle.bosh_base.specs.declared.answer.Answer.TheVariants.{Done};
 ghost use Rattle.bosh_base.specs.declared.call.Call.{Call};
 ghost use Rattle.bosh_base.specs.declared.call.Call.TheVariants.{MigrateDisk};
+ghost use Rattle.bosh_base.specs.declared.goal.GoalRow.{GoalRow};
 ghost use Rattle.bosh_base.specs.declared.row.Row.{Row};
 ghost use Rattle.bosh_rows.specs.After.{after};
+ghost use Rattle.bosh_rows.specs.CallOf.{has_its_machine, next_call};
+ghost use Rattle.bosh_rows.specs.NextStep.{next_step};
 ghost use Rattle.bosh_rows.specs.Told.{CanMigrate, active_number, disk_told, first_number, is_migration, machine_told, or_before, running_told, says_absent, spec_told};
 
 /// What an answer leaves of the machine of a row, of its spec and of whether it runs: what the answer says of it;
@@ -19,6 +22,13 @@ pub fn an_answer_says()
     ensures running { (n : ℕ) (call : Call) (answer : Answer) (row : Row) →
         (after n call answer row).running
         ≡ or_before (says_absent row call answer) false (running_told call answer) row.running }
+{}
+
+/// The next step of a row that has the machine that its steps may name is a call.
+#[tactic(auto, using(crate::proofs::CallLemmas::next_is_next_call))]
+pub fn a_next_step_is_a_call()
+    ensures { (want : Option GoalRow) (row : Row) → IsTrue (has_its_machine row) →
+        is_some (next_call want row) ≡ is_some (next_step want row) }
 {}
 
 /// The active disk of a row after an answer is the one before it, and where there was none the one that the answer says

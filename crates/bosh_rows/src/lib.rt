@@ -23,7 +23,7 @@ pub use answered::after;
 pub use begun::{bare, begin};
 pub use call_made::{call_of, has_its_machine};
 pub use fault::RowFault;
-pub use laws::{an_answer_keeps_the_active_disk, an_answer_says};
+pub use laws::{a_next_step_is_a_call, an_answer_keeps_the_active_disk, an_answer_says};
 pub use next_step::next;
 pub use standing::stands;
 pub use step::Step;

@@ -46,7 +46,8 @@ fn spare_disks<'a>(want: &GoalRow, row: &'a Row) -> Group<'a>
 
 // Whether a spare disk is attached, or one that is not active is mounted.
 fn shows_others(disks: &[DiskRow], spare: Group<'_>) -> bool
-    ensures { result ≡ list_any (λ d. (is_in spare.entry d && d.attached) || (not (is_active d) && d.mounted)) disks.now }
+    ensures { result
+        ≡ list_any (λ d. (is_in spare.entry d && d.attached) || (not (is_active d) && d.mounted)) disks.now }
 {
     disks.iter().any(|disk| (spare.has(disk) && disk.attached)
         || (!is_active(disk) && disk.mounted))

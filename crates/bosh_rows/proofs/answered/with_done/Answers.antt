@@ -1,5 +1,4 @@
 -- The change of one disk is the one of the call.
-use Rattle.std.proofs.Common.{◌≡◌}
 use Rattle.bosh_rows.proofs.answered.with_done.Goals as goal
 
 pub returns-in-AttachDisk-clause-ok : goal.returns-in-AttachDisk-clause-ok

@@ -7,5 +7,6 @@ use Rattle.bosh_rows.proofs.tending.clearing.Goals as goal
 pub returns : goal.returns
 returns c =
     let disks = c.args.row.now.disks in
-    let made : c.letting_go.result ≡ letting_go (is_in c.spare_disks.result) disks = rw c.as_slice.ensures at c.letting_go.ensures in
+    let made : c.letting_go.result ≡ letting_go (is_in c.spare_disks.result) disks =
+    rw c.as_slice.ensures at c.letting_go.ensures in
     made ∙ ap (λ test. letting_go test disks) c.spare_disks.ensures

@@ -1,5 +1,5 @@
 -- The disks are looked at once.
-use Rattle.std.proofs.Common.{◌≡◌, ◌∙◌, ◌&&◌, ◌||◌, not, ap, arith}
+use Rattle.std.proofs.Common.{◌≡◌, ◌∙◌, ◌&&◌, ◌||◌, Bool, not, ap, arith}
 use Rattle.std.specs.List.{list_any}
 use Rattle.bosh_base.specs.declared.row.DiskRow.{DiskRow}
 use Rattle.bosh_rows.proofs.DiskLemmas.{list_any-or}
@@ -11,9 +11,11 @@ pub returns-else-not-is_disk_settled : goal.returns-else-not-is_disk_settled
 returns-else-not-is_disk_settled c =
     let disks = c.args.row.now.disks in
     let spare = is_spare c.args.want.now.disk disks in
-    let seen : c.shows_others.result ≡ list_any (λ d. (is_in c.spare_disks.result d && d.attached) || (not (is_active d) && d.mounted)) disks =
+    let moved : DiskRow → Bool = λ d. not (is_active d) && d.mounted in
+    let seen : c.shows_others.result ≡ list_any (λ d. (is_in c.spare_disks.result d && d.attached) || moved d) disks =
     rw c.as_slice-else-not-is_disk_settled.ensures at c.shows_others.ensures in
-    let shown : c.shows_others.result ≡ (list_any (λ d. spare d && d.attached) disks || list_any (λ d. not (is_active d) && d.mounted) disks) =
-    seen ∙ (ap (λ test. list_any (λ d. (test d && d.attached) || (not (is_active d) && d.mounted)) disks) c.spare_disks.ensures
-    ∙ list_any-or (λ d. spare d && d.attached) (λ d. not (is_active d) && d.mounted) disks) in
+    let shown : c.shows_others.result ≡ (list_any (λ d. spare d && d.attached) disks || list_any moved disks) =
+    seen
+    ∙ (ap (λ test. list_any (λ d. (test d && d.attached) || moved d) disks) c.spare_disks.ensures
+    ∙ list_any-or (λ d. spare d && d.attached) moved disks) in
     grind (arith)

@@ -1,8 +1,6 @@
 -- The active disk is in its place, or is put there, before another takes its place.
-use Rattle.std.proofs.Common.{◌≡◌, ◌∙◌, sym, cond, None, Some, arith}
+use Rattle.std.proofs.Common.{arith}
 use Rattle.bosh_rows.proofs.StepLemmas.{first_of_two}
-use Rattle.bosh_rows.specs.Disks.{coming}
-use Rattle.bosh_rows.specs.NextStep.{placing, replacing}
 use Rattle.bosh_rows.proofs.tending.providing.Goals as goal
 
 pub returns-in-Some-2 : goal.returns-in-Some-2

@@ -1,5 +1,4 @@
 -- The active disks are those of the rule.
-use Rattle.std.proofs.Common.{◌≡◌}
 use Rattle.bosh_rows.proofs.tending.releasing.Goals as goal
 
 pub returns : goal.returns

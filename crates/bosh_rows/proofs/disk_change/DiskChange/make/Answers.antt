@@ -11,4 +11,6 @@ loop-place-preserved c =
     let place = c.loop-place.place in
     let below : place < length c.args.disks.now = search rules in
     let made : c.set.new.self ≡ slice_set (slice_set c.loop-place.disks place c.blank.result) place (f taken) = cc in
-    made ∙ changed_more f c.args.disks.now c.loop-place.disks place c.blank.result taken below c.loop-place.invariant c.set-disk.ensures.given_back
+    made
+    ∙ changed_more f c.args.disks.now c.loop-place.disks place c.blank.result taken below c.loop-place.invariant
+    c.set-disk.ensures.given_back

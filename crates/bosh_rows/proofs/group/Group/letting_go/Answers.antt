@@ -8,5 +8,7 @@ use Rattle.bosh_rows.proofs.group.Group.letting_go.Goals as goal
 
 pub returns : goal.returns
 returns c =
-    let made : c.or.result ≡ option_or (on UnmountDisk (option_copied c.loop-disk.mounted)) (on DetachDisk (option_copied c.loop-disk.attached)) = cc in
+    let unmounting = on UnmountDisk (option_copied c.loop-disk.mounted) in
+    let detaching = on DetachDisk (option_copied c.loop-disk.attached) in
+    let made : c.or.result ≡ option_or unmounting detaching = cc in
     made ∙ let_go _ _ _ c.loop-disk-test.false _ _ c.loop-disk.invariant.0 c.loop-disk.invariant.1
