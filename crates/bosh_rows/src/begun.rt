@@ -1,4 +1,4 @@
-ghost use Rattle.std.specs.Prelude.{◌≡◌, false, Some, IsOk, OnOk, OnErr};
+ghost use Rattle.std.specs.Prelude.{◌≡◌, false, IsOk, OnOk, OnErr};
 ghost use Rattle.bosh_rows.specs.After.{bare, begun, leaves_doubt};
 
 use crate::RowFault;

@@ -1,6 +1,6 @@
 //! The call that a step is.
-ghost use Rattle.std.specs.Prelude.{◌≡◌, false, None, Some, IsOk, IsTrue, IfOk, filter, map};
-ghost use Rattle.std.specs.Option.{option_and_then, option_copied, option_map};
+ghost use Rattle.std.specs.Prelude.{◌≡◌, false, None, Some, IsOk, IsTrue, IfOk};
+ghost use Rattle.std.specs.Option.{option_copied, option_map};
 ghost use Rattle.bosh_base.specs.declared.call.Call.TheVariants as calls;
 ghost use Rattle.bosh_base.specs.declared.method.Method.TheVariants as methods;
 ghost use Rattle.bosh_rows.specs.CallOf.{call_of, has_its_machine, has_want};
