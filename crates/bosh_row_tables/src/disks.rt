@@ -41,14 +41,14 @@ impl Worded for DiskRow {
     fn of(alloc: Global, words: &mut SplitWhitespace<'_>) -> Result<Self, CaseFault> {
         let (disk, tag) = numbers(words)?;
         let want = DiskWant::of(alloc, words);
-        let (want, (role, (attached, mounted))) = both(want, role_and_place(words))?;
+        let (want, (role, place)) = both(want, role_and_place(words))?;
         Ok(DiskRow {
             disk,
             tag,
             want,
             role,
-            attached,
-            mounted,
+            attached: place.0,
+            mounted: place.1,
         })
     }
 }

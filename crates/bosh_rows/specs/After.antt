@@ -166,6 +166,14 @@ after n call answers.Failed row = row
 after n call answers.Gone row = gone call row
 after n call answer row = told n call answer row
 
+-- Only what is new in a row asks for memory: a disk, a spec, and the facts of a machine.
+abbrev pub asks_for_memory : Call → Answer → Bool
+asks_for_memory (CreateDisk wanted vm) (answers.Cid d) = true
+asks_for_memory (FindDisk tag) (answers.Found (Some d)) = true
+asks_for_memory (Apply vm spec) answers.Done = true
+asks_for_memory (GetState vm) (answers.Facts spec running drained) = true
+asks_for_memory call answer = false
+
 -- ---- an update is done
 
 -- the disks that stay with the instance

@@ -57,6 +57,13 @@ call_of step want row = by_method step.method
         option_and_then (λ old. on_both row step.disk (λ v to. calls.MigrateDisk v old.disk to)) (active row.disks)
     by_method method = None
 
+-- the call has what is wanted in it, a copy of which asks for memory
+abbrev pub has_want : Method → Bool
+has_want CreateVm = true
+has_want CreateDisk = true
+has_want Apply = true
+has_want method = false
+
 -- the call of the next step
 abbrev pub next_call : Option GoalRow → Row → Option Call
 next_call want row = option_and_then (λ step. call_of step want row) (next_step want row)

@@ -1,7 +1,7 @@
 //! What an answer leaves of what is recorded of an instance.
-ghost use Rattle.std.specs.Prelude.{◌≡◌, ℕ, None, Some, OnOk, OnErr, map};
+ghost use Rattle.std.specs.Prelude.{◌≡◌, ℕ, false, None, Some, IsOk, OnOk, OnErr, map};
 ghost use Rattle.bosh_base.specs.declared.answer.Answer.TheVariants as answers;
-ghost use Rattle.bosh_rows.specs.After.{after, gone, migrated, new_role, told, with_disk, with_disks, with_facts, with_found, with_machine, without_machine};
+ghost use Rattle.bosh_rows.specs.After.{after, asks_for_memory, gone, migrated, new_role, told, with_disk, with_disks, with_facts, with_found, with_machine, without_machine};
 ghost use Rattle.bosh_rows.specs.DiskChange.{disk_after};
 
 use crate::RowFault;
@@ -83,6 +83,7 @@ fn with_disk(row: &mut Row, disk: u64, tag: u64, want: DiskWant) -> Result<(), R
 fn with_made(alloc: Global, row: &mut Row, n: u64, call: &Call, number: u64) -> Result<(), RowFault>
     ensures ok { OnOk result (row.new ≡ told n call.now (answers.Cid number) row.old) }
     ensures err { OnErr result (row.new ≡ row.old) }
+    ensures succeeds { asks_for_memory call.now (answers.Cid number) ≡ false → IsOk result }
 {
     match call {
         Call::CreateDisk { want, .. } => {
@@ -104,6 +105,7 @@ fn with_found_disk(
 ) -> Result<(), RowFault>
     ensures ok { OnOk result (row.new ≡ with_found tag found row.old.doubt row.old) }
     ensures err { OnErr result (row.new ≡ row.old) }
+    ensures succeeds { found ≡ None → IsOk result }
 {
     let Some(
         Doubt {
@@ -126,6 +128,7 @@ fn with_found_disk(
 fn with_found(alloc: Global, row: &mut Row, call: &Call, found: Option<u64>) -> Result<(), RowFault>
     ensures ok { OnOk result ((n : ℕ) → row.new ≡ told n call.now (answers.Found found) row.old) }
     ensures err { OnErr result (row.new ≡ row.old) }
+    ensures succeeds { asks_for_memory call.now (answers.Found found) ≡ false → IsOk result }
 {
     match call {
         Call::FindDisk { tag } => return with_found_disk(alloc, row, *tag, found),
@@ -193,6 +196,7 @@ fn with_jobs(row: &mut Row, running: bool, drained: bool)
 fn with_done(alloc: Global, row: &mut Row, call: &Call) -> Result<(), RowFault>
     ensures ok { OnOk result ((n : ℕ) → row.new ≡ told n call.now answers.Done row.old) }
     ensures err { OnErr result (row.new ≡ row.old) }
+    ensures succeeds { asks_for_memory call.now answers.Done ≡ false → IsOk result }
 {
     match call {
         Call::Apply { spec, .. } => return with_spec(alloc, row, spec),
@@ -247,6 +251,7 @@ pub fn after(
 ) -> Result<(), RowFault>
     ensures ok { OnOk result (row.new ≡ after n call.now answer.now row.old) }
     ensures err { OnErr result (row.new ≡ row.old) }
+    ensures succeeds { asks_for_memory call.now answer.now ≡ false → IsOk result }
 {
     match answer {
         Answer::Cid(number) => return with_made(alloc, row, n, call, *number),

@@ -1,5 +1,5 @@
-ghost use Rattle.std.specs.Prelude.{◌≡◌, Some, OnOk, OnErr};
-ghost use Rattle.bosh_rows.specs.After.{bare, begun};
+ghost use Rattle.std.specs.Prelude.{◌≡◌, false, IsOk, OnOk, OnErr};
+ghost use Rattle.bosh_rows.specs.After.{bare, begun, leaves_doubt};
 
 use crate::RowFault;
 use crate::place::put;
@@ -28,6 +28,7 @@ pub fn bare(alloc: Global, inst: Inst) -> Row
 pub fn begin(alloc: Global, row: &mut Row, n: u64, call: &Call) -> Result<(), RowFault>
     ensures ok { OnOk result (row.new ≡ begun n call.now row.old) }
     ensures err { OnErr result (row.new ≡ row.old) }
+    ensures succeeds { leaves_doubt call.now ≡ false → IsOk result }
 {
     match call {
         Call::CreateVm { make, .. } => {

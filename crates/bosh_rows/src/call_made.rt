@@ -1,9 +1,9 @@
 //! The call that a step is.
-ghost use Rattle.std.specs.Prelude.{◌≡◌, None, Some, IsTrue, IfOk, filter, map};
-ghost use Rattle.std.specs.Option.{option_and_then, option_copied, option_map};
+ghost use Rattle.std.specs.Prelude.{◌≡◌, false, None, Some, IsOk, IsTrue, IfOk};
+ghost use Rattle.std.specs.Option.{option_copied, option_map};
 ghost use Rattle.bosh_base.specs.declared.call.Call.TheVariants as calls;
 ghost use Rattle.bosh_base.specs.declared.method.Method.TheVariants as methods;
-ghost use Rattle.bosh_rows.specs.CallOf.{call_of, has_its_machine, is_doubt_on_machine};
+ghost use Rattle.bosh_rows.specs.CallOf.{call_of, has_its_machine, has_want};
 ghost use Rattle.bosh_rows.specs.Disks.{active_disks};
 ghost use Rattle.bosh_rows.specs.NextStep.{next_step, plain};
 
@@ -121,7 +121,8 @@ fn call_if_any(
     want: Option<&GoalRow>,
     row: &Row,
 ) -> Result<Option<Call>, RowFault>
-    ensures { IfOk result (λ call. call ≡ call_of step (option_copied want.entry) row.now) }
+    ensures ok { IfOk result (λ call. call ≡ call_of step (option_copied want.entry) row.now) }
+    ensures succeeds { has_want step.method ≡ false → IsOk result }
 {
     match step.method {
         Method::CreateVm => creation(alloc, want, row),
@@ -140,7 +141,8 @@ pub fn call_of(
 ) -> Result<Call, RowFault>
     requires next { next_step (option_copied want) row.now ≡ Some step }
     requires machine { IsTrue (has_its_machine row.now) }
-    ensures { IfOk result (λ call. call_of step (option_copied want.entry) row.now ≡ Some call) }
+    ensures ok { IfOk result (λ call. call_of step (option_copied want.entry) row.now ≡ Some call) }
+    ensures succeeds { has_want step.method ≡ false → IsOk result }
 {
     match call_if_any(alloc, step, want, row)? {
         Some(call) => Ok(call),
