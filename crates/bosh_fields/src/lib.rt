@@ -1,0 +1,16 @@
+//! The fields of a mapping: values by their keys, each of a kind, or the first fault in the order in which they are read.
+#![tactic(auto)]
+
+mod distinct;
+mod fault;
+mod field;
+mod kind;
+mod list;
+mod number;
+
+pub use distinct::{Distinct, NamedItem, check_mapping, item_name};
+pub use fault::{FieldFault, limit, malformed, missing, repeated, unsupported, wrong_kind};
+pub use field::{optional, required, value_at};
+pub use kind::FromField;
+pub use list::List;
+pub use number::Number;
