@@ -1,3 +1,4 @@
+pub mod Address
 pub mod Answer
 pub mod Distinct
 pub mod Field
