@@ -9,6 +9,13 @@ abbrev pub ◌>>=◌ : {A B : Type 0} → Result A FieldFault → (A → Result 
 (Ok a) >>= f = f a
 (Err fault) >>= f = Err fault
 
+-- two readings, one after the other
+abbrev pub both : {A B : Type 0} → Result A FieldFault → Result B FieldFault → Result (A × B) FieldFault
+both first second = do
+  a ← first
+  b ← second
+  Ok (a, b)
+
 -- a call's answer is the one that the rules give, or want of memory
 abbrev pub IsAnswer : {A : Type 0} → Result A FieldFault → Result A FieldFault → Type 0
 IsAnswer (Ok value) answer = answer ≡ Ok value

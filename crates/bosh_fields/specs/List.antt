@@ -1,5 +1,5 @@
 -- Lists of values of one kind, which are read in their order.
-use Rattle.std.specs.Prelude.{ℕ, suc, List, [], ◌∷◌, Result, Ok, Err, nat_le, if◌then◌else◌}
+use Rattle.std.specs.Prelude.{ℕ, suc, ◌-◌, ◌^◌, List, [], ◌∷◌, Result, Ok, Err, nat_le, if◌then◌else◌}
 use Rattle.bosh_yaml.specs.Tree.{Tree, Trees, no_trees, tree}
 use Rattle.bosh_fields.specs.Answer.{◌>>=◌}
 use Rattle.bosh_fields.specs.Kind.{Kind, items}
@@ -24,6 +24,10 @@ a_list kind key t = do
 abbrev pub count : Trees → ℕ
 count no_trees = 0
 count (tree t ts) = suc (count ts)
+
+-- the most items of a list that may have any number of them
+abbrev pub unlimited : ℕ
+unlimited = 2 ^ 64 - 1
 
 -- the items of a list that has no more than the most
 abbrev pub items_up_to : ℕ → Kind Trees

@@ -2,7 +2,7 @@
 ghost use Rattle.std.specs.Prelude.{◌≡◌};
 ghost use Rattle.std.specs.Option.{option_map};
 ghost use Rattle.bosh_yaml.specs.View.{tree_of};
-ghost use Rattle.bosh_fields.specs.Answer.{IsAnswer};
+ghost use Rattle.bosh_fields.specs.Answer.{IsAnswer, both};
 ghost use Rattle.bosh_fields.specs.Field.{optional, required, value_at};
 
 use crate::fault::missing;
@@ -42,4 +42,18 @@ pub fn optional<T: FromField>(
         Some(node) => Ok(Some(T::from_field(alloc, key, node)?)),
         None => Ok(None),
     }
+}
+
+/// The values at two keys that have to be there, so that a caller holds neither while the other is read.
+pub fn required_both<A: FromField, B: FromField>(
+    alloc: Global,
+    holder: &Node,
+    first_key: &[u8],
+    second_key: &[u8],
+) -> Result<(A, B), FieldFault>
+    ensures { IsAnswer result
+        (both (required A.kind first_key.now (tree_of holder.now)) (required B.kind second_key.now (tree_of holder.now))) }
+{
+    let first = required(alloc, holder, first_key)?;
+    Ok((first, required(alloc, holder, second_key)?))
 }

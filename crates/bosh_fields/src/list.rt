@@ -13,6 +13,9 @@ use bosh_yaml::Node;
 use std::alloc::Global;
 use std::marker::Model;
 
+/// The most items of a list that may have any number of them.
+pub const UNLIMITED: usize = usize::MAX;
+
 // The items of a list.
 fn items<'a>(alloc: Global, key: &[u8], node: &'a Node) -> Result<&'a [Node], FieldFault>
     ensures { IsAnswerSeen (λ nodes. trees_of (map tree_of nodes.now)) result (items key.now (tree_of node.now)) }
