@@ -4,15 +4,9 @@ ghost use Rattle.bosh_base.specs.Plan.{is_in_some, is_reserved, is_within};
 ghost use Rattle.bosh_base.specs.declared.addr.Addr.{Addr};
 ghost use Rattle.bosh_cloudcfg.specs.Passes.{end_outside, first_in, gateway_outside, outside, outside_range, static_reserved};
 
-use bosh_bands::{first_common, in_order};
+use bosh_bands::{first_common, in_order, is_within, reserved_bands};
 use bosh_base::{Addr, Band, Subnet};
 use std::alloc::{AllocError, Global};
-
-fn is_within(addr: Addr, band: Band) -> bool
-    ensures { result ≡ is_within addr band }
-{
-    band.first.0 <= addr.0 && addr.0 <= band.last.0
-}
 
 fn outside(range: Band, addr: Addr) -> Option<Addr>
     ensures { result ≡ outside range addr }
@@ -66,29 +60,6 @@ pub(crate) fn outside_range(subnet: &Subnet) -> Option<Addr>
         None => some_end_outside(range, subnet.fixed.as_slice()),
         found => found,
     }
-}
-
-fn only(addr: Addr) -> Band
-    ensures first { result.first ≡ addr }
-    ensures last { result.last ≡ addr }
-{
-    Band {
-        first: addr,
-        last: addr,
-    }
-}
-
-// The bands that nobody has: the reserved ones, both ends of the range, and the gateway.
-fn reserved_bands(alloc: Global, subnet: &Subnet) -> Result<Vec<Band>, AllocError>
-    ensures { IfOk result (λ bands. (addr : Addr) → is_in_some addr bands.items ≡ is_reserved subnet.now addr) }
-{
-    let mut bands = Vec::from_slice(alloc, subnet.reserved.as_slice())?;
-    bands.push(only(subnet.range.first))?;
-    bands.push(only(subnet.range.last))?;
-    if let Some(gateway) = subnet.gateway {
-        bands.push(only(gateway))?;
-    }
-    Ok(bands)
 }
 
 /// The least address that is static and reserved at once.
