@@ -1,0 +1,9 @@
+pub mod Answer
+pub mod Block
+pub mod Check
+pub mod Config
+pub mod Passes
+pub mod Properties
+pub mod Subnet
+pub mod Tables
+pub mod Zones

@@ -1,0 +1,4 @@
+pub mod AddressLemmas
+pub mod BandLemmas
+pub mod DistinctLemmas
+pub mod ListLemmas

@@ -1,0 +1,18 @@
+//! The fields of a mapping: the values at its keys, each of a kind, or the first fault in the order in which they are read.
+#![tactic(auto)]
+
+mod addr;
+mod distinct;
+mod fault;
+mod field;
+mod kind;
+mod list;
+mod number;
+
+pub use addr::spelled;
+pub use distinct::{Distinct, NamedItem, check_mapping, item_name};
+pub use fault::{FieldFault, limit, malformed, missing, repeated, unsupported, wrong_kind};
+pub use field::{optional, required, required_both, value_at};
+pub use kind::FromField;
+pub use list::{List, UNLIMITED};
+pub use number::Number;

@@ -1,0 +1,6 @@
+pub mod Answer
+pub mod Assignment
+pub mod Fixed
+pub mod Free
+pub mod Kept
+pub mod Search

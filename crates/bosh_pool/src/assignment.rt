@@ -1,0 +1,211 @@
+//! The addresses of all wants.
+ghost use Rattle.std.specs.Prelude.{◌≡◌, ◌||◌, Option, length, map, IfOk, OnOk};
+ghost use Rattle.std.specs.List.{list_any};
+ghost use Rattle.bosh_base.specs.declared.addr.Addr.{Addr};
+ghost use Rattle.bosh_bands.specs.Least.{first_of};
+ghost use Rattle.bosh_bands.specs.Order.{IsInOrder};
+ghost use Rattle.bosh_pool.specs.Answer.{IsAnswer};
+ghost use Rattle.bosh_pool.specs.Assignment.{assignment, free_for, given, placed};
+ghost use Rattle.bosh_pool.specs.Fixed.{is_given, same_addr};
+ghost use Rattle.bosh_pool.specs.Free.{AreClosed, IsReady, is_used};
+ghost use Rattle.bosh_pool.specs.Kept.{is_taken, own};
+ghost use Rattle.bosh_pool.specs.Search.{AreReady};
+ghost use Rattle.bosh_pool.specs.declared.want.Want.{Want};
+
+use crate::fixed::check_fixed;
+use crate::kept::own_addrs;
+use crate::search::least_free;
+use crate::spot::Spot;
+use crate::{PoolFault, Want};
+use bosh_bands::{in_order, reserved_bands};
+use bosh_base::{Addr, Band, Copyable, Held, NetPlan, Seq, Subnet};
+use std::alloc::{AllocError, Global};
+use std::collections::BTreeSet;
+
+// Notes the number of an address.
+fn note(addr: Addr, used: &mut BTreeSet<u32>) -> Result<(), AllocError>
+    ensures { OnOk result ((other : Addr) → is_used used.new other ≡ (is_used used.old other || same_addr other addr)) }
+{
+    used.insert(addr.0)?;
+    Ok(())
+}
+
+fn note_held(helds: &[Held], used: &mut BTreeSet<u32>) -> Result<(), AllocError>
+    ensures { OnOk result ((addr : Addr) → is_used used.new addr ≡ (is_used used.old addr || is_taken helds.now addr)) }
+{
+    for held in helds {
+        note(held.addr, used)?;
+    }
+    Ok(())
+}
+
+fn note_own(own: &[Option<Addr>], used: &mut BTreeSet<u32>) -> Result<(), AllocError>
+    ensures { OnOk result ((addr : Addr) → is_used used.new addr ≡ (is_used used.old addr || list_any (is_given addr) own.now)) }
+{
+    for addr in own {
+        if let Some(addr) = *addr {
+            note(addr, used)?;
+        }
+    }
+    Ok(())
+}
+
+// The numbers of the addresses that somebody has, or that a want has of its own.
+fn held_numbers(
+    alloc: Global,
+    taken: &[Held],
+    kept: &[Held],
+    own: &[Option<Addr>],
+) -> Result<BTreeSet<u32>, AllocError>
+    ensures { IfOk result (λ used. (addr : Addr) → is_used used addr
+        ≡ (is_taken taken.now addr || (is_taken kept.now addr || list_any (is_given addr) own.now))) }
+{
+    let mut used = BTreeSet::new(alloc);
+    note_held(taken, &mut used)?;
+    note_held(kept, &mut used)?;
+    note_own(own, &mut used)?;
+    Ok(used)
+}
+
+// The bands that are given to nobody or to those alone that ask for them by number, in their order.
+fn closed_bands(alloc: Global, subnet: &Subnet) -> Result<Seq<Band>, AllocError>
+    ensures order { IfOk result (λ bands. IsInOrder bands) }
+    ensures closed { IfOk result (λ bands. AreClosed subnet.now bands) }
+{
+    let mut bands = reserved_bands(alloc, subnet)?;
+    bands.extend_from_slice(subnet.fixed.as_slice())?;
+    Ok(Seq::from(in_order(bands)?))
+}
+
+// Where the search in a subnet begins.
+fn first_spot(subnet: &Subnet, bands: &[Band], used: &BTreeSet<u32>) -> Spot
+    requires order { IsInOrder bands.now }
+    requires closed { AreClosed subnet.now bands.now }
+    ensures { IsReady subnet.now bands.now used.now result }
+{
+    Spot {
+        passed: 0,
+        next: u64::from(subnet.range.first.0),
+    }
+}
+
+// The closed bands of each subnet, and where the search in it begins.
+fn start(
+    alloc: Global,
+    subnets: &[Subnet],
+    used: &BTreeSet<u32>,
+) -> Result<(Vec<Seq<Band>>, Vec<Spot>), AllocError>
+    ensures { IfOk result (λ both. AreReady subnets.now both.0.items used.now both.1.items) }
+{
+    let mut bands = Vec::new(alloc);
+    let mut spots = Vec::new(alloc);
+    for subnet in subnets {
+        let closed = closed_bands(alloc, subnet)?;
+        spots.push(first_spot(subnet, closed.as_slice(), used))?;
+        bands.push(closed)?;
+    }
+    Ok((bands, spots))
+}
+
+// The address that was found for a want.
+fn found(alloc: Global, want: &Want, addr: Option<Addr>) -> Result<Addr, PoolFault>
+    ensures { IsAnswer result (placed want.now addr) }
+{
+    match addr {
+        Some(addr) => Ok(addr),
+        None => Err(PoolFault::Empty {
+            net: want.net.copy(alloc)?,
+        }),
+    }
+}
+
+// Its own address, or the least that is free for a want.
+fn place(
+    alloc: Global,
+    want: &Want,
+    own: Option<Addr>,
+    plan: &NetPlan,
+    bands: &[Seq<Band>],
+    used: &BTreeSet<u32>,
+    spots: &mut [Spot],
+) -> Result<Addr, PoolFault>
+    requires { AreReady plan.now.subnets bands.now used.now spots.old }
+    ensures ready { AreReady plan.now.subnets bands.now used.now spots.new }
+    ensures place { IsAnswer result (placed want.now (first_of own (free_for plan.now (is_used used.now) want.now))) }
+{
+    match own {
+        Some(addr) => Ok(addr),
+        None => {
+            let addr = least_free(want, plan.subnets.as_slice(), bands, used, spots);
+            found(alloc, want, addr)
+        }
+    }
+}
+
+// Each want has its own address, or else the least that is free for it.
+fn give(
+    alloc: Global,
+    wants: &[Want],
+    own: &[Option<Addr>],
+    plan: &NetPlan,
+    bands: &[Seq<Band>],
+    used: &mut BTreeSet<u32>,
+    spots: &mut [Spot],
+) -> Result<Seq<Addr>, PoolFault>
+    requires count { length own.now ≡ length wants.now }
+    requires ready { AreReady plan.now.subnets bands.now used.old spots.old }
+    ensures { (find : Want → Option Addr) → own.now ≡ map find wants.now
+        → IsAnswer result (given plan.now find (is_used used.old) wants.now) }
+{
+    let mut addrs = Vec::new(alloc);
+    for (i, want) in wants.iter().enumerate() {
+        let addr = place(alloc, want, own[i], plan, bands, used, spots)?;
+        note(addr, used)?;
+        addrs.push(addr)?;
+    }
+    Ok(Seq::from(addrs))
+}
+
+// The addresses of the wants, where nobody may have those in use.
+fn give_unused(
+    alloc: Global,
+    wants: &[Want],
+    own: &[Option<Addr>],
+    plan: &NetPlan,
+    used: &mut BTreeSet<u32>,
+) -> Result<Seq<Addr>, PoolFault>
+    requires { length own.now ≡ length wants.now }
+    ensures { (find : Want → Option Addr) → own.now ≡ map find wants.now
+        → IsAnswer result (given plan.now find (is_used used.old) wants.now) }
+{
+    let (bands, mut spots) = start(alloc, plan.subnets.as_slice(), used)?;
+    give(
+        alloc,
+        wants,
+        own,
+        plan,
+        bands.as_slice(),
+        used,
+        spots.as_mut_slice(),
+    )
+}
+
+/// The addresses of wants, which stand in manifest order, in their order. A want has the address that the manifest
+/// gives; else, where its instance holds in `kept` one of the network that it may go on with, that one; else the least
+/// that is free. `kept` has what the recorded instances of the deployment hold that stay, and `taken` what all others
+/// hold; an entry counts by its address alone, whatever its network. First the given addresses are looked at, in the
+/// order of the wants, and only then the others.
+pub fn assign(
+    alloc: Global,
+    wants: &[Want],
+    plan: &NetPlan,
+    taken: &[Held],
+    kept: &[Held],
+) -> Result<Seq<Addr>, PoolFault>
+    ensures { IsAnswer result (assignment wants.now plan.now taken.now kept.now) }
+{
+    check_fixed(alloc, wants, plan, taken, kept)?;
+    let own = own_addrs(alloc, wants, plan, taken, kept)?;
+    let mut used = held_numbers(alloc, taken, kept, own.as_slice())?;
+    give_unused(alloc, wants, own.as_slice(), plan, &mut used)
+}

@@ -1,0 +1,14 @@
+//! Addresses for the instances of a deployment: those that they ask for, those that they keep, and the least free ones.
+#![tactic(auto)]
+
+mod assignment;
+mod fault;
+mod fixed;
+mod kept;
+mod search;
+mod spot;
+mod want;
+
+pub use assignment::assign;
+pub use fault::PoolFault;
+pub use want::Want;

@@ -1,0 +1,88 @@
+//! The least free address over the subnets of a network.
+ghost use Rattle.std.specs.Prelude.{◌≡◌};
+ghost use Rattle.bosh_base.specs.Plan.{is_listed};
+ghost use Rattle.bosh_bands.specs.Least.{least};
+ghost use Rattle.bosh_pool.specs.Free.{FreeAt, IsReady, is_free};
+ghost use Rattle.bosh_pool.specs.Search.{AreReady, Finds, is_free_for, is_free_in, lesser, serves};
+
+use crate::Want;
+use crate::spot::{Spot, look};
+use bosh_base::{Addr, Band, Name, Seq, Subnet};
+use std::collections::BTreeSet;
+
+fn is_listed(name: &Name, names: &Seq<Name>) -> bool
+    ensures { result ≡ is_listed name.now names.now }
+{
+    names.iter().any(|listed| *listed == *name)
+}
+
+// Whether a subnet is of the network of a want, and lies in its zone.
+fn serves(want: &Want, subnet: &Subnet) -> bool
+    ensures { result ≡ serves want.now subnet.now }
+{
+    subnet.net == want.net && is_listed(&want.az, &subnet.azs)
+}
+
+// The address at the next number, where that is in the range of the subnet.
+fn at_next(subnet: &Subnet, bands: &[Band], used: &BTreeSet<u32>, spot: Spot) -> Option<Addr>
+    requires ready { IsReady subnet.now bands.now used.now spot }
+    requires free { FreeAt subnet.now used.now spot.next }
+    ensures { Finds (is_free subnet.now used.now) result }
+{
+    let last = subnet.range.last.0;
+    if spot.next <= u64::from(last) {
+        Some(Addr(spot.next as u32))
+    } else {
+        None
+    }
+}
+
+fn lesser(one: Option<Addr>, other: Option<Addr>) -> Option<Addr>
+    ensures { result ≡ lesser one other }
+{
+    match (one, other) {
+        (None, other) => other,
+        (one, None) => one,
+        (Some(a), Some(b)) => Some(if a.0 <= b.0 { a } else { b }),
+    }
+}
+
+// Where the search in a subnet stands then, and the least address that a want may have there.
+fn visit(
+    want: &Want,
+    subnet: &Subnet,
+    bands: &[Band],
+    used: &BTreeSet<u32>,
+    from: Spot,
+) -> (Spot, Option<Addr>)
+    requires { IsReady subnet.now bands.now used.now from }
+    ensures ready { IsReady subnet.now bands.now used.now result.0 }
+    ensures found { Finds (is_free_for want.now used.now subnet.now) result.1 }
+{
+    if !serves(want, subnet) {
+        return (from, None);
+    }
+    let spot = look(subnet, bands, used, from);
+    (spot, at_next(subnet, bands, used, spot))
+}
+
+/// The least address that a want may have and that is not used.
+pub(crate) fn least_free(
+    want: &Want,
+    subnets: &[Subnet],
+    bands: &[Seq<Band>],
+    used: &BTreeSet<u32>,
+    spots: &mut [Spot],
+) -> Option<Addr>
+    requires { AreReady subnets.now bands.now used.now spots.old }
+    ensures ready { AreReady subnets.now bands.now used.now spots.new }
+    ensures least { result ≡ least (is_free_in want.now used.now subnets.now) }
+{
+    let mut best = None;
+    for (i, subnet) in subnets.iter().enumerate() {
+        let (spot, found) = visit(want, subnet, bands[i].as_slice(), used, spots[i]);
+        spots[i] = spot;
+        best = lesser(best, found);
+    }
+    best
+}
