@@ -1,10 +1,10 @@
 //! Inputs in pieces, at their limits, and that fail.
+use crate::repeated::followed;
 use bosh_input::{Input, InputFault};
 use bosh_lines::Command;
 use bosh_ports::MemSource;
 use std::alloc::Global;
 use std::process::Abort;
-use std::test::Fail;
 
 const SESSION: &[u8] =
     b"# a comment\n\r\nfile a\r\n|x\r\n|\n\n|y\n!cloud\r\n-d dep deploy a\nfile b\n|z";
@@ -40,12 +40,32 @@ fn read_all(
     (300, None)
 }
 
+// The word of a command, none for a line that is no command.
+fn word_of(asked: &Option<Command>) -> &'static [u8] {
+    match asked {
+        None => b"",
+        Some(Command::File { .. }) => b"file",
+        Some(Command::Deploy { .. }) => b"deploy",
+        Some(Command::Cloud) => b"cloud",
+    }
+}
+
+// Whether the next command has this word and this block.
+fn gives(input: &mut Input, source: &mut MemSource, word: &[u8], block: &[u8]) -> bool {
+    match input.next(source) {
+        Ok(Some(request)) => {
+            word_of(&request.asked) == word && request.block.as_slice() == block
+        }
+        _ => false,
+    }
+}
+
 #[test]
-fn gives_commands_in_pieces(rt: HostRuntime) -> Result<(), Fail> {
+fn gives_commands_in_pieces(rt: HostRuntime) {
     let alloc = rt.alloc();
     for piece in [1, 2, 3, 1000] {
         let mut source = source(&rt, alloc, SESSION, piece, None);
-        let mut input = Input::new(alloc)?;
+        let mut input = Input::new(alloc).expect(&rt, "memory");
         let wants: [(&[u8], &[u8]); 5] = [
             (b"file", b"x\r\n\n"),
             (b"", b""),
@@ -53,23 +73,11 @@ fn gives_commands_in_pieces(rt: HostRuntime) -> Result<(), Fail> {
             (b"deploy", b""),
             (b"file", b"z\n"),
         ];
-        for (form, block) in wants {
-            let request = match input.next(&mut source) {
-                Ok(request) => request.expect(&rt, "a command"),
-                Err(_) => return Err(Fail::from("a fault")),
-            };
-            let is: &[u8] = match &request.asked {
-                None => b"",
-                Some(Command::File { .. }) => b"file",
-                Some(Command::Deploy { .. }) => b"deploy",
-                Some(Command::Cloud) => b"cloud",
-            };
-            assert!(rt; is == form);
-            assert!(rt; request.block.as_slice() == block);
+        for (word, block) in wants {
+            assert!(rt; gives(&mut input, &mut source, word, block));
         }
         assert!(rt; matches!(input.next(&mut source), Ok(None)));
     }
-    Ok(())
 }
 
 #[test]
@@ -95,34 +103,24 @@ fn ends_where_the_source_fails(rt: HostRuntime) {
 }
 
 #[test]
-fn ends_where_there_are_too_many_commands(rt: HostRuntime) -> Result<(), Fail> {
+fn ends_where_there_are_too_many_commands(rt: HostRuntime) {
     let alloc = rt.alloc();
-    let mut bytes = Vec::new(alloc);
-    for _ in 0..200 {
-        bytes.extend_from_slice(b"!cloud\n")?;
-    }
-    bytes.extend_from_slice(b"\r\n# a comment")?;
-    assert_eq!(rt; read_all(&rt, alloc, &bytes, 1000, None), (200, None));
-    bytes.extend_from_slice(b"\nx")?;
-    assert_eq!(rt;
-        read_all(&rt, alloc, &bytes, 1000, None),
-        (200, Some(InputFault::Limit))
-    );
-    Ok(())
+    let commands = followed(&rt, alloc, b"", b"!cloud\n", 200);
+    let bytes = followed(&rt, alloc, commands.as_slice(), b"\r\n# a comment", 1);
+    let read = read_all(&rt, alloc, bytes.as_slice(), 1000, None);
+    assert_eq!(rt; read, (200, None));
+    let bytes = followed(&rt, alloc, bytes.as_slice(), b"\nx", 1);
+    let read = read_all(&rt, alloc, bytes.as_slice(), 1000, None);
+    assert_eq!(rt; read, (200, Some(InputFault::Limit)));
 }
 
 #[test]
-fn ends_where_there_are_too_many_bytes(rt: HostRuntime) -> Result<(), Fail> {
+fn ends_where_there_are_too_many_bytes(rt: HostRuntime) {
     let alloc = rt.alloc();
-    let mut bytes = b"!cloud\n".to_vec(alloc)?;
-    for _ in bytes.len()..8_388_608 {
-        bytes.push(b'#')?;
-    }
-    assert_eq!(rt; read_all(&rt, alloc, &bytes, 100_000, None), (1, None));
-    bytes.push(b'\n')?;
-    assert_eq!(rt;
-        read_all(&rt, alloc, &bytes, 100_000, None),
-        (1, Some(InputFault::Limit))
-    );
-    Ok(())
+    let bytes = followed(&rt, alloc, b"!cloud\n", b"#", 8_388_601);
+    let read = read_all(&rt, alloc, bytes.as_slice(), 100_000, None);
+    assert_eq!(rt; read, (1, None));
+    let bytes = followed(&rt, alloc, bytes.as_slice(), b"\n", 1);
+    let read = read_all(&rt, alloc, bytes.as_slice(), 100_000, None);
+    assert_eq!(rt; read, (1, Some(InputFault::Limit)));
 }

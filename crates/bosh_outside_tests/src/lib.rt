@@ -15,6 +15,8 @@ mod outside;
 #[cfg(test)]
 mod ports;
 #[cfg(test)]
+mod repeated;
+#[cfg(test)]
 mod samples;
 #[cfg(test)]
 mod session;

@@ -1,58 +1,50 @@
 //! Inputs at the limits of a session, and one past them.
+use crate::repeated::followed;
 use crate::session::{FIRST, FIRST_OUTPUT, WHOLE, run_session};
-use std::test::Fail;
+use std::alloc::Global;
+use std::process::Abort;
 
-#[test]
-fn a_command_after_the_last_ends_the_session(rt: HostRuntime) -> Result<(), Fail> {
-    let alloc = rt.alloc();
-    let mut session = Vec::new(alloc);
-    for _ in 0..200 {
-        session.extend_from_slice(b"frob\n")?;
-    }
-    let (status, written) = run_session(&rt, alloc, &[], &session, WHOLE, WHOLE);
-    assert_eq!(rt; status, 1);
-    assert_eq!(rt; written.len(), 200 * b"error: lines UnknownCommand\n".len());
-    session.extend_from_slice(b"frob")?;
-    let (status, written) = run_session(&rt, alloc, &[], &session, WHOLE, WHOLE);
-    assert_eq!(rt; status, 6);
-    assert_eq!(rt; written.len(), 200 * b"error: lines UnknownCommand\n".len());
-    Ok(())
+// What a session comes to and writes.
+fn ends_so(rt: &impl Abort, alloc: Global, session: &[u8], status: u8, written: &[u8]) -> bool {
+    let ended = run_session(rt, alloc, &[], session, WHOLE, WHOLE);
+    ended.0 == status && ended.1.as_slice() == written
 }
 
 #[test]
-fn a_byte_too_many_ends_the_session(rt: HostRuntime) -> Result<(), Fail> {
+fn a_command_after_the_last_ends_the_session(rt: HostRuntime) {
     let alloc = rt.alloc();
-    let mut session = FIRST.to_vec(alloc)?;
-    session.push(b'#')?;
-    for _ in session.len()..8_388_608 {
-        session.push(b'x')?;
-    }
-    let (status, written) = run_session(&rt, alloc, &[], &session, WHOLE, WHOLE);
-    assert_eq!(rt; status, 0);
-    assert_eq!(rt; written.as_slice(), FIRST_OUTPUT);
-    session.push(b'x')?;
-    let (status, written) = run_session(&rt, alloc, &[], &session, WHOLE, WHOLE);
-    assert_eq!(rt; status, 6);
-    assert_eq!(rt; written.as_slice(), FIRST_OUTPUT);
-    Ok(())
+    let refused = followed(&rt, alloc, b"", b"error: lines UnknownCommand\n", 200);
+    let session = followed(&rt, alloc, b"", b"frob\n", 200);
+    assert!(rt; ends_so(&rt, alloc, session.as_slice(), 1, refused.as_slice()));
+    let session = followed(&rt, alloc, session.as_slice(), b"frob", 1);
+    assert!(rt; ends_so(&rt, alloc, session.as_slice(), 6, refused.as_slice()));
 }
 
 #[test]
-fn a_file_has_at_most_a_mebibyte(rt: HostRuntime) -> Result<(), Fail> {
+fn a_byte_too_many_ends_the_session(rt: HostRuntime) {
     let alloc = rt.alloc();
-    let cases = [
+    let front = followed(&rt, alloc, FIRST, b"#", 1);
+    let more = 8_388_608usize.saturating_sub(front.len());
+    let session = followed(&rt, alloc, front.as_slice(), b"x", more);
+    assert!(rt; ends_so(&rt, alloc, session.as_slice(), 0, FIRST_OUTPUT));
+    let session = followed(&rt, alloc, session.as_slice(), b"x", 1);
+    assert!(rt; ends_so(&rt, alloc, session.as_slice(), 6, FIRST_OUTPUT));
+}
+
+// A deploy of a manifest of so many bytes.
+fn deploy_of(rt: &impl Abort, alloc: Global, size: usize) -> Vec<u8> {
+    let file = followed(rt, alloc, b"file m.yml\n|", b"x", size);
+    followed(rt, alloc, file.as_slice(), b"\n-d dep deploy m.yml\n", 1)
+}
+
+#[test]
+fn a_file_has_at_most_a_mebibyte(rt: HostRuntime) {
+    let alloc = rt.alloc();
+    for (size, wanted) in [
         (1_048_575, b"error: session NotYet manifest\n".as_slice()),
         (1_048_576, b"error: yaml TooLarge\n"),
-    ];
-    for (size, wanted) in cases {
-        let mut session = b"file m.yml\n|".to_vec(alloc)?;
-        for _ in 0..size {
-            session.push(b'x')?;
-        }
-        session.extend_from_slice(b"\n-d dep deploy m.yml\n")?;
-        let (status, written) = run_session(&rt, alloc, &[], &session, WHOLE, WHOLE);
-        assert_eq!(rt; status, 1);
-        assert_eq!(rt; written.as_slice(), wanted);
+    ] {
+        let session = deploy_of(&rt, alloc, size);
+        assert!(rt; ends_so(&rt, alloc, session.as_slice(), 1, wanted));
     }
-    Ok(())
 }

@@ -1,6 +1,7 @@
 //! Inputs and outputs that come in pieces, and that fail.
 use crate::session::{Device, FIRST, FIRST_OUTPUT, WHOLE, run_session};
 use bosh_base::Text;
+use std::slice;
 
 #[test]
 fn pieces_do_not_matter(rt: HostRuntime) {
@@ -67,19 +68,24 @@ fn a_failed_output_ends_the_session_with_a_front(rt: HostRuntime) {
 }
 
 #[test]
-fn words_are_refused_before_anything_is_read(rt: HostRuntime) -> Result<(), std::test::Fail> {
+fn words_are_refused_before_anything_is_read(rt: HostRuntime) {
     let alloc = rt.alloc();
-    let words = vec![in alloc; Text::from(b"--help".to_vec(alloc)?)]?;
+    let word = Text::from(b"--help".to_vec(alloc).expect(&rt, "memory"));
     let usage = b"usage: boshd [--threads=N]\n".as_slice();
-    let (status, written) = run_session(&rt, alloc, &words, FIRST, WHOLE, WHOLE);
-    assert_eq!(rt; status, 2);
-    assert_eq!(rt; written.as_slice(), usage);
     let failing = Device {
         piece: 5,
         fail: Some(2),
     };
-    let (status, written) = run_session(&rt, alloc, &words, FIRST, WHOLE, failing);
-    assert_eq!(rt; status, 2);
-    assert_eq!(rt; written.as_slice(), b"usage".as_slice());
-    Ok(())
+    for (output, wanted) in [(WHOLE, usage), (failing, b"usage")] {
+        let (status, written) = run_session(
+            &rt,
+            alloc,
+            slice::from_ref(&word),
+            FIRST,
+            WHOLE,
+            output,
+        );
+        assert_eq!(rt; status, 2);
+        assert_eq!(rt; written.as_slice(), wanted);
+    }
 }

@@ -7,7 +7,6 @@ use std::alloc::Global;
 use std::io::{Error, ErrorKind, Read, Write};
 use std::process::Abort;
 use std::rt::Files;
-use std::test::Fail;
 use std::{fs, io};
 
 /// Takes once, and gives the front of the buffer.
@@ -56,15 +55,14 @@ fn answers_folder<S: Shelf>(
 }
 
 #[test]
-fn pieces_come_in_turn_and_one_call_fails(rt: HostRuntime) -> Result<(), Fail> {
-    let mut source = MemSource::new(b"abc".to_vec(rt.alloc())?, 2, Some(2));
+fn pieces_come_in_turn_and_one_call_fails(rt: HostRuntime) {
+    let mut source = MemSource::new(b"abc".to_vec(rt.alloc()).expect(&rt, "memory"), 2, Some(2));
     let front = takes(&rt, &mut source, Taken::Bytes(2));
     assert_eq!(rt; front, b'a');
     takes(&rt, &mut source, Taken::Failed);
     let rest = takes(&rt, &mut source, Taken::Bytes(1));
     assert_eq!(rt; rest, b'c');
     takes(&rt, &mut source, Taken::End);
-    Ok(())
 }
 
 #[test]
@@ -135,15 +133,14 @@ fn has_copy(alloc: Global, list: &Bodies) -> bool {
 }
 
 #[test]
-fn a_keeper_keeps_bodies(rt: HostRuntime) -> Result<(), Fail> {
+fn a_keeper_keeps_bodies(rt: HostRuntime) {
     let alloc = rt.alloc();
-    let one = b"one".to_vec(alloc)?;
+    let one = b"one".to_vec(alloc).expect(&rt, "the system");
     let mut list = Bodies::new(alloc);
     let pushed = list.push(one).is_ok();
     assert!(rt; pushed && has_copy(alloc, &list));
     let mut keeper = MemKeeper::new(alloc);
     assert!(rt; put_and_spoil(alloc, &mut keeper, &list));
-    Ok(())
 }
 
 fn add_three(shelf: &mut MemShelf) -> Result<(), ShelfFault> {
@@ -265,9 +262,9 @@ fn make_files<R: Files>(rt: &R) -> io::Result<()> {
 }
 
 #[test]
-fn the_folder_is_reached(rt: HostRuntime) -> Result<(), Fail> {
+fn the_folder_is_reached(rt: HostRuntime) {
     let alloc = rt.alloc();
-    make_files(&rt)?;
+    make_files(&rt).expect(&rt, "the system");
     let mut shelf = FolderShelf::new(&rt);
     let found = holds(alloc, &mut shelf, b"shelf/d/b", b"2")
         && lists(alloc, &mut shelf, b"shelf", b"shelf/a") == 2;
@@ -280,8 +277,7 @@ fn the_folder_is_reached(rt: HostRuntime) -> Result<(), Fail> {
     ] {
         assert!(rt; answers_file(alloc, &mut shelf, outside, ShelfFault::Absent));
     }
-    fs::remove_dir_all(&rt, "shelf")?;
-    Ok(())
+    fs::remove_dir_all(&rt, "shelf").expect(&rt, "the system");
 }
 
 fn is_absent<S: Shelf>(alloc: Global, shelf: &mut S, path: &[u8]) -> bool {
@@ -309,9 +305,9 @@ fn make_links<R: Files>(rt: &R) -> io::Result<()> {
 }
 
 #[test]
-fn what_a_link_leads_to_is_absent(rt: HostRuntime) -> Result<(), Fail> {
+fn what_a_link_leads_to_is_absent(rt: HostRuntime) {
     let alloc = rt.alloc();
-    make_links(&rt)?;
+    make_links(&rt).expect(&rt, "the system");
     let mut shelf = FolderShelf::new(&rt);
     for path in [
         b"linked/file".as_slice(),
@@ -323,8 +319,7 @@ fn what_a_link_leads_to_is_absent(rt: HostRuntime) -> Result<(), Fail> {
         assert!(rt; is_absent(alloc, &mut shelf, path));
     }
     assert!(rt; has_one_file(alloc, &mut shelf));
-    remove_links(&rt)?;
-    Ok(())
+    remove_links(&rt).expect(&rt, "the system");
 }
 
 fn make_folders<R: Files>(rt: &R, alloc: Global) -> io::Result<()> {
@@ -337,13 +332,12 @@ fn make_folders<R: Files>(rt: &R, alloc: Global) -> io::Result<()> {
 }
 
 #[test]
-fn folders_without_files_can_be_too_many(rt: HostRuntime) -> Result<(), Fail> {
+fn folders_without_files_can_be_too_many(rt: HostRuntime) {
     let alloc = rt.alloc();
-    make_folders(&rt, alloc)?;
+    make_folders(&rt, alloc).expect(&rt, "the system");
     let mut shelf = FolderShelf::new(&rt);
     assert!(rt; answers_folder(alloc, &mut shelf, b"empty", ShelfFault::Absent));
-    fs::create_dir(&rt, "empty/0")?;
+    fs::create_dir(&rt, "empty/0").expect(&rt, "the system");
     assert!(rt; answers_folder(alloc, &mut shelf, b"empty", ShelfFault::TooLarge));
-    fs::remove_dir_all(&rt, "empty")?;
-    Ok(())
+    fs::remove_dir_all(&rt, "empty").expect(&rt, "the system");
 }
