@@ -1,5 +1,5 @@
 ghost use Rattle.std.specs.Prelude.{◌≡◌, IfOk, IfErr, IsTrue};
-ghost use Rattle.bosh_agent.specs.Agent.{acted, agent_answer, can_act, contents_in, disks_acted, disks_after, has_disks, machine_after, told, HasDisks, IsFor};
+ghost use Rattle.bosh_agent.specs.Agent.{acted, agent_answer, can_act, contents_in, disks_acted, disks_after, has_disks, machine_after, told, vm_of, HasDisks, IsFor};
 ghost use Rattle.bosh_agent.specs.Change.{disks_changed, machine_changed, IsIn};
 ghost use Rattle.bosh_agent.specs.Compiled.{compiled};
 ghost use Rattle.bosh_agent.specs.Numbers.{with_number, without_number};
@@ -33,6 +33,26 @@ pub fn act(
     let change = change_of(alloc, machine, disks, call)?;
     change.carry(machine, disks);
     Ok(answer)
+}
+
+/// The machine whose agent a call is to.
+pub fn vm_of(call: &Call) -> Option<u64>
+    ensures { result ≡ vm_of call.now }
+{
+    match call {
+        Call::Ping { vm }
+        | Call::GetState { vm }
+        | Call::Apply { vm, .. }
+        | Call::Start { vm }
+        | Call::Drain { vm }
+        | Call::Stop { vm }
+        | Call::MountDisk { vm, .. }
+        | Call::UnmountDisk { vm, .. }
+        | Call::ListDisk { vm }
+        | Call::MigrateDisk { vm, .. }
+        | Call::CompilePackage { vm, .. } => Some(*vm),
+        _ => None,
+    }
 }
 
 /// Whether the agent can do the call: it is not silent, and the disks are where the call needs them.

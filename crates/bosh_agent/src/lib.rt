@@ -7,7 +7,7 @@ mod fault;
 mod numbered;
 mod numbers;
 
-pub use agent::{act, can_act, change_of, told};
+pub use agent::{act, can_act, change_of, told, vm_of};
 pub use change::{Change, put_contents};
 pub use fault::AgentFault;
 pub use numbered::{Disks, Numbered};

@@ -1,4 +1,4 @@
-ghost use Rattle.std.specs.Prelude.{◌≡◌, ◌+◌, ◌≤◌, ◌<◌, [], ◌∷◌, ◌++◌, length, Some, None, IfErr, OnOk};
+ghost use Rattle.std.specs.Prelude.{◌≡◌, ◌-◌, ◌^◌, ◌≤◌, ◌<◌, [], ◌∷◌, ◌++◌, length, take, None, OnErr, OnOk};
 ghost use Rattle.std.specs.Option.{option_copied};
 ghost use Rattle.bosh_agent.specs.Slots.{at, with_slot};
 
@@ -37,7 +37,8 @@ impl<T> Numbered<T> {
 
     /// How many were made.
     pub fn made(&self) -> u64
-        ensures { result ≡ length self.now }
+        ensures made { result ≡ length self.now }
+        ensures small { result < 2 ^ 63 }
     {
         self.slots.len() as u64
     }
@@ -54,23 +55,26 @@ impl<T> Numbered<T> {
             None => None,
         }
     }
-
-    /// Adds a thing, with the next number. It comes back where there is no memory for it.
-    pub fn push(&mut self, thing: T) -> Result<(), T>
-        ensures ok { OnOk result (self.new ≡ self.old ++ Some thing ∷ []) }
-        ensures given_back { IfErr result (λ back. (back ≡ thing) × (self.new ≡ self.old)) }
-    {
-        match self.slots.push(Some(thing)) {
-            Ok(()) => Ok(()),
-            Err(failed) => match failed.value {
-                Some(back) => Err(back),
-                None => unreachable!(),
-            },
-        }
-    }
 }
 
 impl<T: Drop> Numbered<T> {
+    /// Adds a slot, for the next number. Where there is no memory for it nothing changes.
+    pub fn push(&mut self, slot: Option<T>) -> Result<(), AgentFault>
+        ensures ok { OnOk result (self.new ≡ self.old ++ slot ∷ []) }
+        ensures memory { OnErr result (self.new ≡ self.old) }
+    {
+        self.slots.push(slot)?;
+        Ok(())
+    }
+
+    /// Takes the last slot away.
+    pub fn pop(&mut self)
+        requires { 1 ≤ length self.old }
+        ensures { self.new ≡ take (length self.old - 1) self.old }
+    {
+        self.slots.truncate(self.slots.len() - 1);
+    }
+
     /// Puts a thing in the slot of a number, or empties the slot.
     pub fn set(&mut self, number: u64, thing: Option<T>)
         requires from_one { 1 ≤ number }
