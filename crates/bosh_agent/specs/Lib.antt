@@ -1,0 +1,5 @@
+pub mod Agent
+pub mod Change
+pub mod Compiled
+pub mod Numbers
+pub mod Slots
