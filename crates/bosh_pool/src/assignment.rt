@@ -89,7 +89,8 @@ fn first_spot(subnet: &Subnet, bands: &[Band], used: &BTreeSet<u32>) -> Spot
     }
 }
 
-// The closed bands of each subnet, and where the search in it begins.
+// The closed bands of each subnet, and where the search in it begins. Dear to prove, since both lists are alive at each
+// turn.
 fn start(
     alloc: Global,
     subnets: &[Subnet],
