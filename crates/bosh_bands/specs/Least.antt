@@ -10,7 +10,8 @@ first_of None other = other
 -- the least address below a number that passes a test
 unfoldable pub least_below : (Addr → Bool) → ℕ → Option Addr
 least_below test zero = None
-least_below test (suc n) = first_of (least_below test n) (if test (record { 0 = n }) then Some (record { 0 = n }) else None)
+least_below test (suc n) =
+    first_of (least_below test n) (if test (record { 0 = n }) then Some (record { 0 = n }) else None)
 
 -- the least address that passes a test
 unfoldable pub least : (Addr → Bool) → Option Addr

@@ -47,7 +47,8 @@ fn list_at<T: FromField>(alloc: Global, holder: &Node, key: &[u8]) -> Result<Seq
 // The reserved and the static addresses.
 fn bands(alloc: Global, node: &Node) -> Result<(Seq<Band>, Seq<Band>), FieldFault>
     ensures { IsAnswer result
-        (both (list_at a_band (codes "reserved") (tree_of node.now)) (list_at a_band (codes "static") (tree_of node.now))) }
+        (both (list_at a_band (codes "reserved") (tree_of node.now))
+        (list_at a_band (codes "static") (tree_of node.now))) }
 {
     let reserved = list_at(alloc, node, b"reserved")?;
     Ok((reserved, list_at(alloc, node, b"static")?))

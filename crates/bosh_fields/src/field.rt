@@ -52,7 +52,8 @@ pub fn required_both<A: FromField, B: FromField>(
     second_key: &[u8],
 ) -> Result<(A, B), FieldFault>
     ensures { IsAnswer result
-        (both (required A.kind first_key.now (tree_of holder.now)) (required B.kind second_key.now (tree_of holder.now))) }
+        (both (required A.kind first_key.now (tree_of holder.now))
+        (required B.kind second_key.now (tree_of holder.now))) }
 {
     let first = required(alloc, holder, first_key)?;
     Ok((first, required(alloc, holder, second_key)?))

@@ -1,4 +1,5 @@
-//! The fields of a mapping: the values at its keys, each of a kind, or the first fault in the order in which they are read.
+//! The fields of a mapping: the values at its keys, each of a kind, or the first fault in the order in which they are
+//! read.
 #![tactic(auto)]
 
 mod addr;

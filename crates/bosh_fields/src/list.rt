@@ -34,7 +34,8 @@ pub(crate) fn items_up_to<'a>(
     key: &[u8],
     node: &'a Node,
 ) -> Result<&'a [Node], FieldFault>
-    ensures { IsAnswerSeen (λ nodes. trees_of (map tree_of nodes.now)) result (items_up_to most key.now (tree_of node.now)) }
+    ensures { IsAnswerSeen (λ nodes. trees_of (map tree_of nodes.now)) result
+        (items_up_to most key.now (tree_of node.now)) }
 {
     let nodes = items(alloc, key, node)?;
     if nodes.len() <= most {

@@ -1,3 +1,4 @@
+pub mod AssignedLemmas
 pub mod AssignmentLemmas
 pub mod SearchLemmas
 pub mod SpotLemmas

@@ -46,7 +46,8 @@ owner_in addr helds = option_map owner_of (find (holds addr) helds)
 
 -- whoever has it beside the instance
 abbrev pub other_owner : Inst → Addr → List Held → Option Owner
-other_owner inst addr helds = option_map owner_of (find (λ held. holds addr held && not (is_owner inst held.owner)) helds)
+other_owner inst addr helds =
+    option_map owner_of (find (λ held. holds addr held && not (is_owner inst held.owner)) helds)
 
 abbrev pub is_given : Addr → Option Addr → Bool
 is_given addr None = false

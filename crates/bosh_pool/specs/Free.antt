@@ -11,7 +11,8 @@ use Rattle.bosh_pool.specs.declared.spot.Spot.{Spot}
 
 -- the subnet gives the address to whoever asks for any
 abbrev pub is_open : Subnet → Addr → Bool
-is_open subnet addr = is_within addr subnet.range && (not (is_reserved subnet addr) && not (is_in_some addr subnet.fixed))
+is_open subnet addr =
+    is_within addr subnet.range && (not (is_reserved subnet addr) && not (is_in_some addr subnet.fixed))
 
 -- the number of the address is in a set
 abbrev pub is_used : BTreeSet ℕ → Addr → Bool
@@ -31,7 +32,8 @@ NoneBelow subnet used next = (addr : Addr) → addr.0 < next → is_free subnet 
 
 -- the bands are those that the subnet gives to nobody or to those alone that ask for them by number
 abbrev pub AreClosed : Subnet → List Band → Type 0
-AreClosed subnet bands = (addr : Addr) → is_in_some addr bands ≡ (is_reserved subnet addr || is_in_some addr subnet.fixed)
+AreClosed subnet bands =
+    (addr : Addr) → is_in_some addr bands ≡ (is_reserved subnet addr || is_in_some addr subnet.fixed)
 
 -- a search may go on from a spot: no address before it is free
 pub record IsReady (subnet : Subnet) (bands : List Band) (used : BTreeSet ℕ) (spot : Spot) : Type 0 where

@@ -1,4 +1,5 @@
 pub mod Answer
+pub mod Assigned
 pub mod Assignment
 pub mod Fixed
 pub mod Free

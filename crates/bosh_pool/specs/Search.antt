@@ -36,7 +36,8 @@ lesser (Some a) None = Some a
 lesser (Some a) (Some b) = Some (if nat_le a.0 b.0 then a else b)
 
 -- the search may go on from its spot in each subnet, of which these are the closed bands
-pub record AreReady (subnets : List Subnet) (bands : List (List Band)) (used : BTreeSet ℕ) (spots : List Spot) : Type 0 where
+pub record AreReady (subnets : List Subnet) (bands : List (List Band)) (used : BTreeSet ℕ) (spots : List Spot)
+    : Type 0 where
   pub bands_count : length bands ≡ length subnets
   pub spots_count : length spots ≡ length subnets
   pub each :

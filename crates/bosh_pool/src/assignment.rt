@@ -40,7 +40,8 @@ fn note_held(helds: &[Held], used: &mut BTreeSet<u32>) -> Result<(), AllocError>
 }
 
 fn note_own(own: &[Option<Addr>], used: &mut BTreeSet<u32>) -> Result<(), AllocError>
-    ensures { OnOk result ((addr : Addr) → is_used used.new addr ≡ (is_used used.old addr || list_any (is_given addr) own.now)) }
+    ensures { OnOk result ((addr : Addr) → is_used used.new addr
+        ≡ (is_used used.old addr || list_any (is_given addr) own.now)) }
 {
     for addr in own {
         if let Some(addr) = *addr {
@@ -89,7 +90,8 @@ fn first_spot(subnet: &Subnet, bands: &[Band], used: &BTreeSet<u32>) -> Spot
     }
 }
 
-// The closed bands of each subnet, and where the search in it begins.
+// The closed bands of each subnet, and where the search in it begins. Dear to prove, since both lists are alive at each
+// turn.
 fn start(
     alloc: Global,
     subnets: &[Subnet],

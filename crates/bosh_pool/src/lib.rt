@@ -5,10 +5,12 @@ mod assignment;
 mod fault;
 mod fixed;
 mod kept;
+mod laws;
 mod search;
 mod spot;
 mod want;
 
 pub use assignment::assign;
 pub use fault::PoolFault;
+pub use laws::what_is_given_is_assigned;
 pub use want::Want;
