@@ -1,0 +1,2 @@
+mod EmptyLemmas
+mod FieldLemmas

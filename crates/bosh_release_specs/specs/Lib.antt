@@ -1,0 +1,3 @@
+pub mod JobSpec
+pub mod Names
+pub mod PackageSpec

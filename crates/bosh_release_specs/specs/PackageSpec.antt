@@ -1,0 +1,41 @@
+-- What the spec of a package says, and the name of a release (bosh.io, "Packages", "Package specification").
+use Rattle.std.specs.Prelude.{ℕ, Bool, true, false, List, [], Option, Some, None, Result, Ok, Err, codes, if◌then◌else◌}
+use Rattle.bosh_fields.specs.Answer.{◌>>=◌}
+use Rattle.bosh_fields.specs.Field.{required, value_at}
+use Rattle.bosh_fields.specs.Kind.{Kind, a_mapping, a_name, a_text}
+use Rattle.bosh_fields.specs.declared.fault.FieldFault.{FieldFault}
+use Rattle.bosh_fields.specs.declared.fault.FieldFault.TheVariants.{Unsupported}
+use Rattle.bosh_release_specs.specs.JobSpec.{list_at}
+use Rattle.bosh_release_specs.specs.declared.package_file.PackageDescription.{PackageDescription}
+use Rattle.bosh_yaml.specs.Tree.{Tree, text, list, map as mapping, no_trees, no_fields}
+
+-- nothing stands there, or an empty text, list or mapping
+abbrev pub is_empty : Option Tree → Bool
+is_empty None = true
+is_empty (Some (text [])) = true
+is_empty (Some (list no_trees)) = true
+is_empty (Some (mapping no_fields)) = true
+is_empty (Some t) = false
+
+-- files that are left out are not offered
+unfoldable pub nothing_at : List ℕ → Tree → Result Bool FieldFault
+nothing_at key t = if is_empty (value_at key t) then Ok true else Err (Unsupported key)
+
+abbrev pub a_package_spec : Kind PackageDescription
+a_package_spec key t = do
+  item ← a_mapping key t
+  name ← required a_name (codes "name") item
+  dependencies ← list_at a_name (codes "dependencies") item
+  files ← list_at a_text (codes "files") item
+  none ← nothing_at (codes "excluded_files") item
+  Ok (record { name = name; dependencies = dependencies; files = files })
+
+-- a release is named by `name`, or by `final_name` where that is absent
+abbrev pub named_by : Option Tree → Tree → Result (List ℕ) FieldFault
+named_by (Some t) item = a_name (codes "name") t
+named_by None item = required a_name (codes "final_name") item
+
+abbrev pub a_release : Kind (List ℕ)
+a_release key t = do
+  item ← a_mapping key t
+  named_by (value_at (codes "name") item) item
