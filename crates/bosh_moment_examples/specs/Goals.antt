@@ -14,6 +14,7 @@ use Rattle.bosh_base.specs.declared.task.TaskKind.{TaskKind}
 use Rattle.bosh_base.specs.declared.task.TaskKind.TheVariants as kinds
 use Rattle.bosh_history.specs.Moments.{Moment}
 use Rattle.bosh_history.specs.Sound.{is_sound_goal}
+use Rattle.bosh_history_examples.specs.Links.{links, offer_withdrawn_goal}
 use Rattle.bosh_history_examples.specs.Migrated.{migrated}
 use Rattle.bosh_history_examples.specs.Scenes.{Builder, History, opening, part, sourced}
 use Rattle.bosh_history_examples.specs.Values.{digest, goal, group, joint, no_jobs, plain, row, tie}
@@ -107,3 +108,9 @@ handed_on built =
     (opening 2 kinds.Deploy (Some (codes "dep")) (Some (of_rows (web_at 1 10 ∷ []))) (web 1 ∷ []) (web 0 ∷ []) []
     sourced)
     ∷ []
+
+-- A deployment is deployed, and then deployed anew without its offer; that is not done yet.
+abbrev pub withdrawn : History
+withdrawn built =
+    part 1 14 (links built)
+    ++ Note (opening 2 kinds.Deploy (Some (codes "shop")) (Some offer_withdrawn_goal) [] [] [] sourced) ∷ []

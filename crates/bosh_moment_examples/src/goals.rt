@@ -7,10 +7,10 @@ ghost use Rattle.bosh_history_examples.specs.Scenes.{prepared, with_release};
 ghost use Rattle.bosh_history_examples.specs.Swept.{swept};
 ghost use Rattle.bosh_history_examples.specs.Together.{together};
 ghost use Rattle.bosh_history_examples.specs.Two.{two};
-ghost use Rattle.bosh_history_examples.specs.Values.{disk, goal, group, inst, no_jobs, plain, row, slot, web, work_p, z1};
+ghost use Rattle.bosh_history_examples.specs.Values.{disk, goal, group, inst, no_jobs, plain, row, slot, web, with_j, work_p, z1};
 ghost use Rattle.bosh_moment_examples.specs.Goals.{both, both_as_they_are, fresh_after, handed_on, in_state};
 ghost use Rattle.bosh_moment_examples.specs.Goals.{nothing_wanted, of_keys, of_other_type, of_plans, of_rows, of_slots};
-ghost use Rattle.bosh_moment_examples.specs.Goals.{of_tie, one, second_at, tie_to, web_at, work_q, work_r};
+ghost use Rattle.bosh_moment_examples.specs.Goals.{of_tie, one, second_at, tie_to, web_at, withdrawn, work_q, work_r};
 ghost use Rattle.bosh_moment_examples.specs.Goals.{IsSoundGoal, IsUnsoundGoal};
 ghost use Rattle.bosh_moment_examples.specs.Moves.{none};
 
@@ -85,6 +85,7 @@ pub fn goals_of_unsound_keys_and_ties()
     ensures tie_to_none { IsUnsoundGoal prepared 0 none Deploy (of_tie (tie_to (codes "shop"))) }
     ensures tie_of_other_type { IsUnsoundGoal with_release 13 links Deploy
         (of_tie (of_other_type (tie_to (codes "shop")))) }
+    ensures tie_that_is_withdrawn { IsUnsoundGoal with_release 15 withdrawn Deploy (of_tie (tie_to (codes "shop"))) }
     ensures tie_to_one_not_done { IsUnsoundGoal with_release 11 links Deploy (of_tie (tie_to (codes "shop"))) }
 {}
 
@@ -129,6 +130,16 @@ pub fn goals_of_other_tasks_are_unsound()
     ensures deletion_with_rows { IsUnsoundGoal prepared 25 two DeleteDeployment both_as_they_are }
     ensures deletion_with_slots { IsUnsoundGoal prepared 25 two DeleteDeployment
         (goal (codes "dep") [] [] [] (slot z1 12 ∷ []) [] []) }
+    ensures other_spec { IsUnsoundGoal prepared 25 two (Recreate (web 0))
+        (both (row (web 0) (plain z1 10) with_j None Running 6) (second_at 11)) }
+    ensures other_canaries { IsUnsoundGoal prepared 25 two (Recreate (web 0))
+        (goal (codes "dep") (web_at 0 10 ∷ second_at 11 ∷ []) (group (codes "web") 2 1 ∷ []) [] [] [] []) }
+    ensures other_stage { IsUnsoundGoal prepared 25 two (Recreate (web 0))
+        (goal (codes "dep") (web_at 0 10 ∷ second_at 11 ∷ []) (record one { stage = 1 } ∷ []) [] [] [] []) }
+    ensures deletion_with_keys { IsUnsoundGoal prepared 25 two DeleteDeployment
+        (goal (codes "dep") [] [] (work_p ∷ []) (slot z1 12 ∷ []) [] []) }
+    ensures deletion_with_offers { IsUnsoundGoal with_release 14 links DeleteDeployment
+        (goal (codes "shop") [] [] [] [] [] links_g1.offers) }
     ensures deletion_with_ties { IsUnsoundGoal with_release 27 links DeleteDeployment
         (goal (codes "app") [] [] [] [] (tie_to (codes "shop") ∷ []) []) }
 {}
