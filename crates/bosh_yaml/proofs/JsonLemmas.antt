@@ -1,5 +1,5 @@
 -- The node of JSON data, member by member, and how deep it nests.
-use Rattle.std.proofs.Common.{◌≡◌, ℕ, ◌-◌, max, Bool, true, false, ◌&&◌, ◌||◌, List, [], ◌∷◌, ◌++◌, Result, Ok, Err, nat_lt, if◌then◌else◌, string_bytes, append_assoc, refl, ap, sym, ◌∙◌, arith}
+use Rattle.std.proofs.Common.{◌≡◌, ℕ, max, Bool, true, false, ◌&&◌, ◌||◌, List, [], ◌∷◌, ◌++◌, Result, Ok, Err, nat_lt, if◌then◌else◌, string_bytes, append_assoc, refl, ap, sym, ◌∙◌, arith}
 use Rattle.std.specs.Str.{bytes_eq}
 use Rattle.std.proofs.Common.{map, subst}
 use Rattle.std.specs.String.{string_cmp}
@@ -19,7 +19,6 @@ use Rattle.bosh_yaml.specs.declared.fault.ReadFault.TheVariants.{Syntax, Repeate
 use Rattle.bosh_yaml.specs.Json.{has_integers, integers_or, json_data, json_events, members_have_integers}
 use Rattle.bosh_yaml.specs.Keys.{has_key}
 use Rattle.bosh_yaml.specs.Limits.{depth}
-use Rattle.bosh_yaml.specs.Nodes.{Keys}
 use Rattle.bosh_yaml.specs.Reading.{integers_only, json_reading}
 use Rattle.bosh_yaml.specs.Result.{Refuses}
 use Rattle.bosh_yaml.specs.Spelling.{json_members, json_tree}

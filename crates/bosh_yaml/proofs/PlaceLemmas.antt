@@ -31,13 +31,17 @@ Pair = List ℕ × Tree
 abbrev Noted : Type 0
 Noted = List ℕ → Option ℕ
 
+-- each other key keeps its place
+abbrev pub Keeps : Noted → Noted → List ℕ → Type 0
+Keeps place next key = (other : List ℕ) (at : ℕ) → bytes_eq key other ≡ false → place other ≡ Some at → next other ≡ Some at
+
 -- ---- one more key
 
-placed_others : (place next : Noted) (key : List ℕ) (at : ℕ) (ps : List Pair) → ((other : List ℕ) → bytes_eq key other ≡ false → next other ≡ place other) → has_key key ps ≡ false → ArePlaced place at ps → ArePlaced next at ps
+placed_others : (place next : Noted) (key : List ℕ) (at : ℕ) (ps : List Pair) → Keeps place next key → has_key key ps ≡ false → ArePlaced place at ps → ArePlaced next at ps
 placed_others place next key at [] same new h = tt
 placed_others place next key at (p ∷ ps) same new h =
     let parts = or_parts (bytes_eq p.0 key) (has_key key ps) new in
-    (same p.0 (bytes_eq_flips p.0 key parts.0) ∙ h.0, placed_others place next key (suc at) ps same parts.1 h.1)
+    (same p.0 at (bytes_eq_flips p.0 key parts.0) h.0, placed_others place next key (suc at) ps same parts.1 h.1)
 
 placed_push : (place : Noted) (at : ℕ) (ps : List Pair) (p : Pair) → ArePlaced place at ps → place p.0 ≡ Some (at + length ps) → ArePlaced place at (ps ++ p ∷ [])
 placed_push place at [] p h n = let g : at + 0 ≡ at = omega arith in (n ∙ ap (λ k. Some k) g, tt)
@@ -60,7 +64,7 @@ drop_long (suc n) [] p h = absurd (omega arith)
 drop_long (suc n) (q ∷ ps) p h = let more = drop_long n ps p (omega arith) in (more.0, omega (arith, more.1))
 
 -- the places of a map stay noted where a new key has noted its own
-pub placed_noted : (n : ℕ) (place next : Noted) (ps : List Pair) (p : Pair) → ((other : List ℕ) → bytes_eq p.0 other ≡ false → next other ≡ place other) → (n ≤ length ps → next p.0 ≡ Some (length ps)) → has_key p.0 ps ≡ false → ArePlaced place n (drop n ps) → ArePlaced next n (drop n ps) × ArePlaced next n (drop n (ps ++ p ∷ []))
+pub placed_noted : (n : ℕ) (place next : Noted) (ps : List Pair) (p : Pair) → Keeps place next p.0 → (n ≤ length ps → next p.0 ≡ Some (length ps)) → has_key p.0 ps ≡ false → ArePlaced place n (drop n ps) → ArePlaced next n (drop n ps) × ArePlaced next n (drop n (ps ++ p ∷ []))
 placed_noted n place next ps p same noted new h = (kept, by (nat_lt (length ps) n) refl)
   where
     kept : ArePlaced next n (drop n ps)
@@ -73,7 +77,7 @@ placed_noted n place next ps p same noted new h = (kept, by (nat_lt (length ps) 
         let d = drop_long n ps p long in
         rw d.0 (placed_push next n (drop n ps) p kept (noted long ∙ ap (λ k. Some k) (sym d.1)))
 
-pub placed_still : (n : ℕ) (place next : Noted) (ps : List Pair) (key : List ℕ) → ((other : List ℕ) → bytes_eq key other ≡ false → next other ≡ place other) → has_key key ps ≡ false → ArePlaced place n (drop n ps) → ArePlaced next n (drop n ps)
+pub placed_still : (n : ℕ) (place next : Noted) (ps : List Pair) (key : List ℕ) → Keeps place next key → has_key key ps ≡ false → ArePlaced place n (drop n ps) → ArePlaced next n (drop n ps)
 placed_still n place next ps key same new h = placed_others place next key n (drop n ps) same (has_none_behind n key ps new) h
 
 -- one note, as a map of keys tells it
@@ -256,14 +260,14 @@ on_ok : {A : Type 0} {E : Type 0} (P : Type 0) (r : Result A E) → is_err r ≡
 on_ok P (Ok x) e h = h
 on_ok P (Err x) e h = absurd (cc)
 
-pub noted_still : (places next : Places) (key : List ℕ) (es : List Entry) → ((other : List ℕ) → bytes_eq key other ≡ false → place_in next other ≡ place_in places other) → has_key key (map pair_of es) ≡ false → IsNoted places 8 (map pair_of es) → IsNoted next 8 (map pair_of es)
+pub noted_still : (places next : Places) (key : List ℕ) (es : List Entry) → Keeps (place_in places) (place_in next) key → has_key key (map pair_of es) ≡ false → IsNoted places 8 (map pair_of es) → IsNoted next 8 (map pair_of es)
 noted_still places next key es same new h = record { noted = placed_still 8 (place_in places) (place_in next) (map pair_of es) key same new h.noted }
 
 length_pairs : (es : List Entry) → length (map pair_of es) ≡ length es
 length_pairs [] = refl
 length_pairs (e ∷ es) = ap (λ n. suc n) (length_pairs es)
 
-pub noted_pushed : {A : Type 0} {E : Type 0} (added : Bool) (places next : Places) (at : ℕ) (es : List Entry) (e : Entry) (r : Result A E) → ((other : List ℕ) → bytes_eq e.0 other ≡ false → place_in next other ≡ place_in places other) → is_err r ≡ false → OnOk r (8 ≤ at → place_in next e.0 ≡ Some at) → at ≡ length es → has_key e.0 (map pair_of es) ≡ false → IsNoted places 8 (map pair_of es) → IsNoted next 8 (map pair_of (cond added (es ++ e ∷ []) es))
+pub noted_pushed : {A : Type 0} {E : Type 0} (added : Bool) (places next : Places) (at : ℕ) (es : List Entry) (e : Entry) (r : Result A E) → Keeps (place_in places) (place_in next) e.0 → is_err r ≡ false → OnOk r (8 ≤ at → place_in next e.0 ≡ Some at) → at ≡ length es → has_key e.0 (map pair_of es) ≡ false → IsNoted places 8 (map pair_of es) → IsNoted next 8 (map pair_of (cond added (es ++ e ∷ []) es))
 noted_pushed added places next at es e r same ok noted a new h =
     let n : at ≡ length (map pair_of es) = a ∙ sym (length_pairs es) in
     let here : 8 ≤ length (map pair_of es) → place_in next e.0 ≡ Some (length (map pair_of es)) = subst (λ k. 8 ≤ k → place_in next e.0 ≡ Some k) n (on_ok (8 ≤ at → place_in next e.0 ≡ Some at) r ok noted) in

@@ -2,7 +2,7 @@
 use Rattle.std.proofs.Common.{◌≡◌, ◌≢◌, ◌<◌, ◌≤◌, ℕ, zero, suc, ◌++◌, ◌∷◌, [], List, Some, None, length, take, drop, get_or, append_assoc, sym, ap, ◌∙◌, refl, arith}
 use Rattle.std.specs.Char.{encode_utf8}
 use Rattle.bosh_yaml.specs.Quotes.{Quoted, after_text, single_quoted, double_quoted, double_escaped, double_unicode, after_character, character, four_hex}
-use Rattle.std.proofs.Common.{◌+◌, ◌-◌, Bool, true, ◌||◌, ◌==◌}
+use Rattle.std.proofs.Common.{◌+◌, ◌-◌, true, ◌||◌, ◌==◌}
 use Rattle.std.proofs.lemmas.Bool.{eqb-true, eq-eqb}
 use Rattle.std.proofs.lemmas.Bool.Decides.{nat_tests}
 use Rattle.memchr.specs.Find.{is_byte, is_byte2, NoneBefore, Nowhere, Passes}

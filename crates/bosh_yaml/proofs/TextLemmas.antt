@@ -1,5 +1,7 @@
 -- The test for UTF-8 says what it means.
 use Rattle.std.proofs.Common.{◌≡◌, ℕ, Bool, true, false, List, Ok, refl}
+use Rattle.std.proofs.Math.Logic.{∥∥₁_elim}
+use Rattle.std.specs.Coded.{Coded-set, coded_bool}
 use Rattle.std.specs.Str.{IsUtf8, is_utf8}
 use Rattle.std.proofs.lemmas.Str.{IsUtf8-from_is_utf8, is_utf8-from_IsUtf8}
 use Rattle.bosh_yaml.specs.Word.{text_of, refused}
@@ -23,3 +25,7 @@ pub is_utf8-false : (bs : List ℕ) → (IsUtf8 bs → ⊥) → is_utf8 bs ≡ f
 is_utf8-false bs h = is_not (is_utf8 bs) (λ e. h (IsUtf8-from_is_utf8 bs e))
 
 pub ruleset tests_text = (is_utf8-true, is_utf8-false)
+
+-- the bytes of a string are UTF-8, as its test says
+pub utf8_of_string : (bs : List ℕ) → ∥ IsUtf8 bs ∥₁ → IsUtf8 bs
+utf8_of_string bs h = IsUtf8-from_is_utf8 bs (∥∥₁_elim h (Coded-set coded_bool (is_utf8 bs) true) (is_utf8-from_IsUtf8 bs))

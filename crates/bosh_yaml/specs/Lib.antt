@@ -3,6 +3,7 @@ pub mod Code
 pub mod View
 pub mod Depth
 pub mod Keys
+pub mod Hash
 pub mod Scalar
 pub mod Lines
 pub mod Bare

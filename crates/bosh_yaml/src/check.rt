@@ -7,6 +7,7 @@ ghost use Rattle.bosh_yaml.specs.Seen.{keys_of_set, line_or_else};
 ghost use Rattle.bosh_yaml.specs.Nodes.{nesting as nests, open_after as opened, repeated};
 
 use crate::event::Event;
+use crate::hash::hash_of;
 use crate::text::Str;
 use std::alloc::{AllocError, Global};
 use std::collections::{BTreeSet, VecDeque};
@@ -44,7 +45,7 @@ pub(crate) fn nesting(events: &[Event]) -> usize
 fn take_event<'a>(
     alloc: Global,
     event: &'a Event,
-    seen: &mut VecDeque<BTreeSet<&'a [u8]>>,
+    seen: &mut VecDeque<BTreeSet<(u64, &'a [u8])>>,
 ) -> Result<Option<u32>, AllocError>
     ensures { IfOk result (λ found. (rest : List Event) → repeated (map keys_of_set seen.old.items) (event.now ∷ rest) ≡ line_or_else found (repeated (map keys_of_set seen.new.items) rest)) }
 {
@@ -67,14 +68,15 @@ fn take_event<'a>(
 fn take_key<'a>(
     line: u32,
     key: &'a Str,
-    seen: &mut VecDeque<BTreeSet<&'a [u8]>>,
+    seen: &mut VecDeque<BTreeSet<(u64, &'a [u8])>>,
 ) -> Result<Option<u32>, AllocError>
     ensures { IfOk result (λ found. (rest : List Event) → repeated (map keys_of_set seen.old.items) (Key line key.now ∷ rest) ≡ line_or_else found (repeated (map keys_of_set seen.new.items) rest)) }
 {
     let Some(mut keys) = seen.pop_front() else {
         return Ok(None);
     };
-    let added = keys.insert(key.as_bytes())?;
+    let bytes = key.as_bytes();
+    let added = keys.insert((hash_of(bytes), bytes))?;
     seen.push_front(keys)?;
     Ok(if added { None } else { Some(line) })
 }

@@ -46,12 +46,6 @@ fn as_text(bytes: &[u8]) -> Option<&str>
     }
 }
 
-fn text_of(alloc: Global, text: &String) -> Result<Str, AllocError>
-    ensures { IfOk result (λ s. s ≡ string_bytes text.now) }
-{
-    Str::from_utf8(alloc, text.as_str().as_bytes())
-}
-
 // Whether lists and maps nest deeper than this.
 #[cycle(depth)]
 pub(crate) fn is_deeper(most: usize, value: &Value) -> bool
@@ -88,30 +82,30 @@ fn has_deeper_member(most: usize, members: &Map<String, Value>) -> bool
     false
 }
 
-/// The node of a value whose numbers are integers within 64 bits.
+/// The node of a value whose numbers are integers within 64 bits. Its texts are not copied.
 #[cycle(json)]
-pub(crate) fn node_of(alloc: Global, value: &Value) -> Result<Node, ReadFault>
-    ensures { Gives tree_of result (integers_or (has_integers (view value.now)) (json_tree (view value.now))) }
+pub(crate) fn node_of(alloc: Global, value: Value) -> Result<Node, ReadFault>
+    ensures { Gives tree_of result (integers_or (has_integers (view value)) (json_tree (view value))) }
 {
     match value {
         Value::Null => Ok(Node::Null),
-        Value::Bool(b) => Ok(Node::Bool(*b)),
+        Value::Bool(b) => Ok(Node::Bool(b)),
         Value::Number(n) => match n.as_i64() {
             Some(n) => Ok(Node::Int(n)),
             None => Err(ReadFault::Number),
         },
-        Value::String(text) => Ok(Node::Text(text_of(alloc, text)?)),
+        Value::String(text) => Ok(Node::Text(Str::from_string(text))),
         Value::Array(items) => Ok(Node::List(items_of(alloc, items)?)),
         Value::Object(members) => Ok(Node::Map(pairs_of(alloc, members)?)),
     }
 }
 
 #[cycle(json)]
-fn items_of(alloc: Global, items: &Vec<Value>) -> Result<Items, ReadFault>
-    ensures { let ds = items_view items.now.items in
+fn items_of(alloc: Global, items: Vec<Value>) -> Result<Items, ReadFault>
+    ensures { let ds = items_view items.items in
         Gives (λ ts. ts) result (integers_or (items_have_integers ds) (json_items ds)) }
 {
-    let mut nodes = Items::new(alloc);
+    let mut nodes = Items::with_capacity(alloc, items.len())?;
     for item in items {
         let node = node_of(alloc, item)?;
         if nodes.push(node).is_err() {
@@ -122,30 +116,24 @@ fn items_of(alloc: Global, items: &Vec<Value>) -> Result<Items, ReadFault>
 }
 
 #[cycle(json)]
-fn pairs_of(alloc: Global, members: &Map<String, Value>) -> Result<Pairs, ReadFault>
-    ensures { let ms = members_view members.now.entries in
+fn pairs_of(alloc: Global, members: Map<String, Value>) -> Result<Pairs, ReadFault>
+    ensures { let ms = members_view members.entries in
         Gives (λ ps. ps) result (integers_or (members_have_integers ms) (json_members ms)) }
 {
-    let mut pairs = Pairs::new(alloc);
-    for (key, member) in members.iter() {
+    let mut pairs = Pairs::with_capacity(alloc, members.len())?;
+    for (key, member) in members {
         let node = node_of(alloc, member)?;
-        push_member(alloc, key, node, &mut pairs)?;
+        push_member(key, node, &mut pairs)?;
     }
     Ok(pairs)
 }
 
 // Adds a key and its value.
-fn push_member(
-    alloc: Global,
-    key: &String,
-    value: Node,
-    pairs: &mut Pairs,
-) -> Result<(), AllocError>
-    requires { has_key (string_bytes key.now) pairs.old ≡ false }
-    ensures { OnOk result (pairs.new ≡ pairs.old ++ (string_bytes key.now, tree_of value) ∷ []) }
+fn push_member(key: String, value: Node, pairs: &mut Pairs) -> Result<(), AllocError>
+    requires { has_key (string_bytes key) pairs.old ≡ false }
+    ensures { OnOk result (pairs.new ≡ pairs.old ++ (string_bytes key, tree_of value) ∷ []) }
 {
-    let key = text_of(alloc, key)?;
-    match pairs.push(key, value) {
+    match pairs.push(Str::from_string(key), value) {
         Ok(()) => Ok(()),
         Err(_) => Err(AllocError),
     }

@@ -11,6 +11,7 @@ mod copied;
 mod event;
 mod fault;
 mod flow;
+mod hash;
 mod json_value;
 mod laws;
 mod line;

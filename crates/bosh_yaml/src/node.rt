@@ -8,7 +8,7 @@ ghost use Rattle.bosh_yaml.specs.View.{tree_of, pair_of};
 use crate::copied::{Copied, CopyFault};
 use crate::places::{FEW, Places};
 use crate::text::Str;
-use std::alloc::Global;
+use std::alloc::{AllocError, Global};
 use std::marker::Model;
 
 /// What a text says.
@@ -59,6 +59,15 @@ impl Items {
         Items {
             nodes: Vec::new(alloc),
         }
+    }
+
+    /// An empty list with room for so many nodes.
+    pub fn with_capacity(alloc: Global, nodes: usize) -> Result<Items, AllocError>
+        ensures { IfOk result (λ items. items ≡ []) }
+    {
+        Ok(Items {
+            nodes: Vec::with_capacity(alloc, nodes)?,
+        })
     }
 
     pub fn len(&self) -> usize
@@ -140,8 +149,18 @@ impl Pairs {
     {
         Pairs {
             entries: Vec::new(alloc),
-            places: Places::new(alloc),
+            places: Places::new(),
         }
+    }
+
+    /// An empty map with room for so many keys.
+    pub fn with_capacity(alloc: Global, keys: usize) -> Result<Pairs, AllocError>
+        ensures { IfOk result (λ pairs. pairs ≡ []) }
+    {
+        Ok(Pairs {
+            entries: Vec::with_capacity(alloc, keys)?,
+            places: Places::new(),
+        })
     }
 
     pub fn len(&self) -> usize

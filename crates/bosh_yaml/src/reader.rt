@@ -52,7 +52,7 @@ fn read_json(alloc: Global, text: &[u8]) -> Result<Node, ReadFault>
     if is_deeper(MAX_DEPTH, &value) {
         return Err(ReadFault::TooDeep);
     }
-    json_value::node_of(alloc, &value)
+    json_value::node_of(alloc, value)
 }
 
 // The node of events, unless a key stands twice in its mapping, or lists and maps nest too deep.

@@ -1,6 +1,6 @@
 //! Text: bytes that are UTF-8.
 
-ghost use Rattle.std.specs.Prelude.{◌≡◌, ◌==◌, ◌↔◌, IfOk, IfSome, IsSome, OnOk, length};
+ghost use Rattle.std.specs.Prelude.{◌≡◌, ◌==◌, ◌↔◌, IfOk, IfSome, IsSome, OnOk, length, string_bytes};
 ghost use Rattle.std.specs.Str.{IsUtf8};
 ghost use Rattle.bosh_yaml.specs.declared.text.OfFault.TheVariants.{Memory};
 
@@ -77,6 +77,15 @@ impl Str {
     {
         let bytes = Vec::from_slice(alloc, bytes)?;
         Ok(Str { bytes })
+    }
+
+    /// The text that a string is, which is not copied.
+    pub(crate) fn from_string(text: String) -> Str
+        ensures { result ≡ string_bytes text }
+    {
+        Str {
+            bytes: text.into_bytes(),
+        }
     }
 
     /// How many bytes the text has.

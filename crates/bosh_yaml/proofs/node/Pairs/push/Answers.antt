@@ -1,4 +1,4 @@
-use Rattle.std.proofs.Common.{◌∙◌, ap, arith, length, sym, false, ◌≡◌}
+use Rattle.std.proofs.Common.{◌∙◌, ap, arith, length, sym, ◌≡◌}
 use Rattle.std.specs.Result.{is_ok}
 use Rattle.bosh_yaml.specs.Keys.{has_key}
 use Rattle.bosh_yaml.proofs.KeyLemmas.{HasDistinctKeys-pushed}
