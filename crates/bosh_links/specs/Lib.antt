@@ -1,2 +1,3 @@
+pub mod Candidate
 pub mod Links
 pub mod Table

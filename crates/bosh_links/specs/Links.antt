@@ -40,15 +40,18 @@ abbrev pub outcome : List Provider → Consumer → Result (Option Tie) LinkFaul
 outcome ps c = outcome_from ps c c.from
 
 -- one consumer's answer before those of the others: the first fault decides
-abbrev pub joined : Result (Option Tie) LinkFault → Result (List Tie) LinkFault → Result (List Tie) LinkFault
+abbrev pub joined : {F : Type 0} → Result (Option Tie) F → Result (List Tie) F → Result (List Tie) F
 joined (Err fault) others = Err fault
 joined (Ok tie) (Err fault) = Err fault
 joined (Ok tie) (Ok ties) = Ok (option_to_list tie ++ ties)
 
 -- the ties of all consumers, in their order, or the fault of the first that has one
+abbrev pub all_tied : {C F : Type 0} → (C → Result (Option Tie) F) → List C → Result (List Tie) F
+all_tied comes_to [] = Ok []
+all_tied comes_to (c ∷ cs) = joined (comes_to c) (all_tied comes_to cs)
+
 abbrev pub resolution : List Provider → List Consumer → Result (List Tie) LinkFault
-resolution ps [] = Ok []
-resolution ps (c ∷ cs) = joined (outcome ps c) (resolution ps cs)
+resolution ps = all_tied (outcome ps)
 
 -- a call's answer is the one that the rules give, or want of memory
 abbrev pub IsAnswer : {T : Type 0} → Result T LinkFault → Result T LinkFault → Type 0

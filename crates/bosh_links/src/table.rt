@@ -1,13 +1,15 @@
-//! Providers by a text that they have.
-ghost use Rattle.std.specs.Prelude.{◌≡◌, ◌∷◌, [], ◌++◌, take, IfOk, IsOkUnless};
+//! Candidates by a text that they have.
+ghost use Rattle.std.specs.Prelude.{◌≡◌, ◌∷◌, [], ◌++◌, map, take, IfOk, IsOkUnless};
+ghost use Rattle.bosh_links.specs.Candidate.{seen};
 ghost use Rattle.bosh_links.specs.Table.{key_of, listed, IsTable};
 ghost use Rattle.bosh_links.specs.declared.fault.LinkFault.TheVariants.{Memory};
 
-use crate::{LinkFault, Provider};
+use crate::LinkFault;
+use crate::candidate::Candidate;
 use std::alloc::Global;
 use std::collections::BTreeMap;
 
-/// Which text of a provider a table goes by.
+/// Which text of a candidate a table goes by.
 #[derive(Clone, Copy)]
 pub(crate) enum By {
     Kind,
@@ -15,49 +17,49 @@ pub(crate) enum By {
 }
 
 impl By {
-    fn key(self, provider: &Provider) -> &[u8]
-        ensures { result.now ≡ key_of self provider.now }
+    fn key(self, candidate: Candidate<'_>) -> &[u8]
+        ensures { result.now ≡ key_of self (seen candidate.entry) }
     {
         match self {
-            By::Kind => provider.kind.as_slice(),
-            By::PublicName => provider.public_name.as_slice(),
+            By::Kind => candidate.kind.as_slice(),
+            By::PublicName => candidate.public_name.as_slice(),
         }
     }
 }
 
-/// The providers with one text: one, or the first two of several.
+/// The candidates with one text: one, or the first two of several.
 #[derive(Clone, Copy)]
 pub(crate) enum Found<'a> {
-    One(&'a Provider),
-    Several(&'a Provider, &'a Provider),
+    One(Candidate<'a>),
+    Several(Candidate<'a>, Candidate<'a>),
 }
 
-// What is found after one more provider.
-fn with<'a>(found: Option<Found<'a>>, provider: &'a Provider) -> Found<'a>
-    ensures { listed (Some result) ≡ take 2 (listed found.entry ++ provider.now ∷ []) }
+// What is found after one more candidate.
+fn with<'a>(found: Option<Found<'a>>, candidate: Candidate<'a>) -> Found<'a>
+    ensures { listed (Some result) ≡ take 2 (listed found.entry ++ seen candidate.entry ∷ []) }
 {
     match found {
-        None => Found::One(provider),
-        Some(Found::One(first)) => Found::Several(first, provider),
+        None => Found::One(candidate),
+        Some(Found::One(first)) => Found::Several(first, candidate),
         Some(several) => several,
     }
 }
 
 pub(crate) type Table<'a> = BTreeMap<&'a [u8], Found<'a>>;
 
-/// The table of these providers.
+/// The table of these candidates.
 pub(crate) fn table_of<'a>(
     alloc: Global,
     by: By,
-    providers: &'a [Provider],
+    candidates: &[Candidate<'a>],
 ) -> Result<Table<'a>, LinkFault>
-    ensures ok { IfOk result (IsTable by providers.now) }
+    ensures ok { IfOk result (IsTable by (map seen candidates.now)) }
     ensures err { IsOkUnless result Memory }
 {
     let mut table = BTreeMap::new(alloc);
-    for provider in providers {
-        let key = by.key(provider);
-        let found = with(table.get(key).copied(), provider);
+    for candidate in candidates {
+        let key = by.key(*candidate);
+        let found = with(table.get(key).copied(), *candidate);
         table.insert(key, found)?;
     }
     Ok(table)

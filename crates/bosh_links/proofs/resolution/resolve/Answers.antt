@@ -1,10 +1,10 @@
 -- One more consumer is answered.
-use Rattle.std.proofs.Common.{◌≡◌, ◌+◌, ◌⊎◌, [], ◌++◌, drop, ap, sym, ◌∙◌, Ok, Err, arith, rules, inl, inr, append-nil}
+use Rattle.std.proofs.Common.{◌≡◌, ◌⊎◌, [], ◌++◌, drop, ap, sym, ◌∙◌, Ok, Err, arith, rules, inl, inr, append-nil}
 use Rattle.std.specs.Option.{option_to_list}
 use Rattle.std.proofs.lemmas.Grind.{common_steps}
-use Rattle.bosh_links.specs.Links.{outcome, resolution, joined}
+use Rattle.bosh_links.specs.Links.{outcome, resolution}
 use Rattle.bosh_links.specs.declared.fault.LinkFault.TheVariants.{Memory}
-use Rattle.bosh_links.proofs.LinksLemmas.{after, after-joined, resolution-next}
+use Rattle.bosh_links.proofs.LinksLemmas.{after, all_tied-more, all_tied-refused}
 use Rattle.bosh_links.proofs.resolution.resolve.Goals as goal
 use Rattle.bosh_links.proofs.resolution.resolve.Goals.{in-Some+in_ok-push, in_default}
 
@@ -13,29 +13,23 @@ returns-in_err-tie c =
     let ps = c.args.providers.now in
     let cs = c.args.consumers.now in
     let fault = c.in_err-tie.field-0.0 in
-    let others = resolution ps (drop (c.loop-consumer.consumer-index + 1) cs) in
-    let next = resolution-next ps cs c.loop-consumer.consumer-index c.consumer-item.result c.loop-consumer-test.true c.consumer-item.is in
-    let first : outcome ps c.consumer-item.result ≡ Err fault → resolution ps cs ≡ Err fault =
-    λ told. c.loop-consumer.invariant ∙ ap (after c.loop-consumer.ties.items) (next ∙ ap (λ o. joined o others) told) in
+    let tables = c.in_ok-candidates.ensures.ok in
+    let refused = all_tied-refused (outcome ps) cs c.loop-consumer.consumer-index c.consumer-item.result c.loop-consumer.ties.items fault c.loop-consumer-test.true c.consumer-item.is c.loop-consumer.invariant in
     let told : (fault ≡ Memory) ⊎ (resolution ps cs ≡ Err fault) =
-    elim (c.in_err-tie.ensures ps c.in_ok-by_kind.ensures.ok c.in_ok-by_name.ensures.ok) [ inl m ↦ inl m | inr t ↦ inr (first t) ] in
+    elim (c.in_err-tie.ensures ps tables) [ inl m ↦ inl m | inr t ↦ inr (refused t) ] in
     search (rules, told)
 
 pub loop-consumer-preserved : goal.loop-consumer-preserved
 loop-consumer-preserved c =
     let ps = c.args.providers.now in
-    let cs = c.args.consumers.now in
-    let i = c.loop-consumer.consumer-index in
-    let next = resolution-next ps cs i c.consumer-item.result c.loop-consumer-test.true c.consumer-item.is in
-    let told : outcome ps c.consumer-item.result ≡ Ok c.in_ok-tie.field-0 = c.in_ok-tie.ensures ps c.in_ok-by_kind.ensures.ok c.in_ok-by_name.ensures.ok in
-    let grown : c.match-branch-4.ties.items ≡ c.loop-consumer.ties.items ++ option_to_list c.in_ok-tie.field-0 =
-    elim c.match-branch-4.branch [
+    let tables = c.in_ok-candidates.ensures.ok in
+    let told : outcome ps c.consumer-item.result ≡ Ok c.in_ok-tie.field-0 = c.in_ok-tie.ensures ps tables in
+    let grown : c.match-branch-3.ties.items ≡ c.loop-consumer.ties.items ++ option_to_list c.in_ok-tie.field-0 =
+    elim c.match-branch-3.branch [
       | in-Some+in_ok-push w ↦ ap (λ ties. ties.items) w.ties-is ∙ (w.in_ok-push.ensures.items ∙ ap (λ tie. c.loop-consumer.ties.items ++ option_to_list tie) (sym w.in-Some.is))
       | in_default w ↦ ap (λ ties. ties.items) w.ties-is ∙ (sym (append-nil c.loop-consumer.ties.items) ∙ ap (λ tie. c.loop-consumer.ties.items ++ option_to_list tie) (sym w.in_default.is))
     ] in
-    (c.loop-consumer.invariant ∙ ap (after c.loop-consumer.ties.items) (next ∙ ap (λ o. joined o (resolution ps (drop (i + 1) cs))) told))
-    ∙ (after-joined c.loop-consumer.ties.items c.in_ok-tie.field-0 (resolution ps (drop (i + 1) cs))
-    ∙ ap (λ ties. after ties (resolution ps (drop (i + 1) cs))) (sym grown))
+    all_tied-more (outcome ps) c.args.consumers.now c.loop-consumer.consumer-index c.consumer-item.result c.loop-consumer.ties.items c.match-branch-3.ties.items c.in_ok-tie.field-0 c.loop-consumer-test.true c.consumer-item.is c.loop-consumer.invariant told grown
 
 pub returns : goal.returns
 returns c =
