@@ -2,8 +2,8 @@ ghost use Rattle.std.specs.Prelude.{◌≡◌, ◌<◌, IfOk, length, map};
 ghost use Rattle.std.specs.Option.{option_map};
 ghost use Rattle.bosh_yaml.specs.Tree.{trees_of};
 ghost use Rattle.bosh_yaml.specs.View.{tree_of};
-ghost use Rattle.bosh_manifest.specs.Bare.{bare_manifest, group_of, only_group, only_item};
-ghost use Rattle.bosh_manifest.specs.Reading.{Reads};
+ghost use Rattle.first_manifest.specs.Bare.{bare_manifest, group_of, only_group, only_item};
+ghost use Rattle.first_manifest.specs.Reading.{Reads};
 
 use crate::ManFault;
 use crate::field::{count_at, items_at, name_at, zones_at};

@@ -3,7 +3,7 @@ use Rattle.std.specs.Prelude.{ℕ, ℤ, pos, negsuc, List, [], ◌∷◌, Option
 use Rattle.bosh_base.specs.Name.{is_name}
 use Rattle.bosh_yaml.specs.Keys.{found}
 use Rattle.bosh_yaml.specs.Tree.{Tree, Trees, null, boolean, integer, text, list, map, no_trees, tree}
-use Rattle.bosh_manifest.specs.Reading.{◌>>=◌}
+use Rattle.first_manifest.specs.Reading.{◌>>=◌}
 
 -- the name that a text is
 abbrev pub name_of : Tree → Option (List ℕ)

@@ -2,8 +2,8 @@
 use Rattle.std.specs.Prelude.{◌≡◌, Option, Some, None, Result, Ok, Err}
 use Rattle.bosh_base.specs.declared.name.OfFault.{OfFault}
 use Rattle.bosh_base.specs.declared.name.OfFault.TheVariants as of
-use Rattle.bosh_manifest.specs.declared.fault.ManFault.{ManFault}
-use Rattle.bosh_manifest.specs.declared.fault.ManFault.TheVariants.{NotBare, Memory}
+use Rattle.first_manifest.specs.declared.fault.ManFault.{ManFault}
+use Rattle.first_manifest.specs.declared.fault.ManFault.TheVariants.{NotBare, Memory}
 
 -- the next step, where there is a value so far
 infixl 10 ◌>>=◌

@@ -3,8 +3,8 @@ ghost use Rattle.std.specs.Prelude.{◌≡◌, ◌<◌, IfOk, length, map};
 ghost use Rattle.std.specs.Option.{option_map};
 ghost use Rattle.bosh_yaml.specs.Tree.{trees_of};
 ghost use Rattle.bosh_yaml.specs.View.{tree_of};
-ghost use Rattle.bosh_manifest.specs.Field.{count_at, count_of, instances_of, items_at, items_of, name_at, name_of, names_of, zones_at};
-ghost use Rattle.bosh_manifest.specs.Reading.{Reads};
+ghost use Rattle.first_manifest.specs.Field.{count_at, count_of, instances_of, items_at, items_of, name_at, name_of, names_of, zones_at};
+ghost use Rattle.first_manifest.specs.Reading.{Reads};
 
 use crate::ManFault;
 use bosh_base::{Name, Seq};

@@ -1,6 +1,6 @@
 ghost use Rattle.std.specs.Prelude.{◌≡◌};
-ghost use Rattle.bosh_manifest.specs.Reading.{fault_of};
-ghost use Rattle.bosh_manifest.specs.declared.fault.ManFault.TheVariants.{Memory};
+ghost use Rattle.first_manifest.specs.Reading.{fault_of};
+ghost use Rattle.first_manifest.specs.declared.fault.ManFault.TheVariants.{Memory};
 
 use bosh_base::OfFault;
 use std::alloc::{AllocError, AllocFailed};

@@ -2,8 +2,8 @@ use Rattle.std.proofs.Common.{◌≡◌, ℕ, List, ◌++◌, Option, Some, None
 use Rattle.bosh_yaml.specs.Tree.{trees_of}
 use Rattle.bosh_yaml.specs.View.{tree_of}
 use Rattle.bosh_yaml.specs.declared.node.Node.{Node}
-use Rattle.bosh_manifest.specs.Field.{names_of}
-use Rattle.bosh_manifest.proofs.field.names_of.Given as goal
+use Rattle.first_manifest.specs.Field.{names_of}
+use Rattle.first_manifest.proofs.field.names_of.Given as goal
 
 -- names behind those that were read before
 abbrev pub with_front : List (List ℕ) → Option (List (List ℕ)) → Option (List (List ℕ))

@@ -2,10 +2,10 @@
 use Rattle.std.specs.Prelude.{ℕ, List, Option, Some, None, codes, if◌then◌else◌}
 use Rattle.std.specs.Str.{bytes_eq}
 use Rattle.bosh_yaml.specs.Tree.{Tree, Trees, no_trees, tree}
-use Rattle.bosh_manifest.specs.declared.bare.BareGroup.{BareGroup}
-use Rattle.bosh_manifest.specs.declared.bare.BareManifest.{BareManifest}
-use Rattle.bosh_manifest.specs.Field.{count_at, items_at, name_at, zones_at}
-use Rattle.bosh_manifest.specs.Reading.{◌>>=◌}
+use Rattle.first_manifest.specs.declared.bare.BareGroup.{BareGroup}
+use Rattle.first_manifest.specs.declared.bare.BareManifest.{BareManifest}
+use Rattle.first_manifest.specs.Field.{count_at, items_at, name_at, zones_at}
+use Rattle.first_manifest.specs.Reading.{◌>>=◌}
 
 -- a mapping with `instances`, `name`, `vm_type` and `azs`
 abbrev pub group_of : Tree → Option BareGroup

@@ -2,8 +2,8 @@ use Rattle.std.proofs.Common.{◌≡◌, ◌≤◌, List, [], ◌∷◌, None, l
 use Rattle.bosh_yaml.specs.Tree.{trees_of}
 use Rattle.bosh_yaml.specs.View.{tree_of}
 use Rattle.bosh_yaml.specs.declared.node.Node.{Node}
-use Rattle.bosh_manifest.specs.Bare.{only_item}
-use Rattle.bosh_manifest.proofs.bare.only_item.Goals as goal
+use Rattle.first_manifest.specs.Bare.{only_item}
+use Rattle.first_manifest.proofs.bare.only_item.Goals as goal
 
 -- a list of several items has no only one
 several : (nodes : List Node) → 2 ≤ length nodes → only_item (trees_of (map tree_of nodes)) ≡ None
