@@ -4,7 +4,7 @@ use Rattle.std.specs.BTreeSet.{Updates}
 use Rattle.std.specs.Cmp.Lexicographic.{slice_cmp}
 use Rattle.std.specs.Ordering.{nat_cmp}
 use Rattle.bosh_fields.proofs.DistinctLemmas.{HasNames-more}
-use Rattle.bosh_fields.proofs.distinct.note.Goals as goal
+use Rattle.bosh_fields.proofs.distinct.note_name.Goals as goal
 
 pub returns-then-branch-clause-noted : goal.returns-then-branch-clause-noted
 returns-then-branch-clause-noted c = λ before has.
