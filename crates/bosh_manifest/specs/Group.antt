@@ -1,5 +1,5 @@
 -- The instance groups of a deployment (bosh.io, "Deployment manifest": `instance_groups`, in this project's profile).
-use Rattle.std.specs.Prelude.{ℕ, Bool, true, ◌||◌, List, Option, Result, Ok, codes}
+use Rattle.std.specs.Prelude.{ℕ, Bool, ◌||◌, List, Option, Result, Ok, codes}
 use Rattle.bosh_yaml.specs.Tree.{Tree}
 use Rattle.bosh_fields.specs.Answer.{◌>>=◌, both}
 use Rattle.bosh_fields.specs.Distinct.{a_distinct_list}
@@ -56,20 +56,24 @@ abbrev pub contents : Common → Tree → Result ((List NetUse × List JobUse) �
 contents common t =
     both (both (group_networks t) (group_jobs common.name t)) (both (group_disk t) (update_of common.update t))
 
+abbrev pub group_of :
+    List ℕ → ℕ → List (List ℕ) × (List ℕ × List ℕ) → (List NetUse × List JobUse) × (Option DiskUse × Update) → Group
+group_of name instances placed held = record {
+  name = name;
+  instances = instances;
+  azs = placed.0;
+  vm_type = placed.1.0;
+  stemcell = placed.1.1;
+  networks = held.0.0;
+  jobs = held.0.1;
+  disk = held.1.0;
+  update = held.1.1;
+}
+
 -- a group of at most 256 instances
 abbrev pub a_group : Common → List ℕ → Tree → Result Group FieldFault
 a_group common name t = do
   instances ← required (a_number 0 256) (codes "instances") t
   placed ← place t
   held ← contents common t
-  Ok (record {
-    name = name;
-    instances = instances;
-    azs = placed.0;
-    vm_type = placed.1.0;
-    stemcell = placed.1.1;
-    networks = held.0.0;
-    jobs = held.0.1;
-    disk = held.1.0;
-    update = held.1.1;
-  })
+  Ok (group_of name instances placed held)

@@ -1,7 +1,7 @@
 -- The manifest of a deployment, key by key (bosh.io, "Deployment manifest", in this project's profile).
-use Rattle.std.specs.Prelude.{ℕ, Bool, true, List, Result, Ok, Err, codes, nat_le, sum_by, if◌then◌else◌}
+use Rattle.std.specs.Prelude.{ℕ, Bool, List, Result, Ok, Err, codes, nat_le, sum_by, if◌then◌else◌}
 use Rattle.bosh_yaml.specs.Tree.{Tree}
-use Rattle.bosh_fields.specs.Answer.{◌>>=◌, both}
+use Rattle.bosh_fields.specs.Answer.{◌>>=◌}
 use Rattle.bosh_fields.specs.Field.{required}
 use Rattle.bosh_fields.specs.declared.fault.FieldFault.{FieldFault}
 use Rattle.bosh_fields.specs.declared.fault.FieldFault.TheVariants.{Limit}
@@ -9,10 +9,9 @@ use Rattle.bosh_manifest_parts.specs.Named.{named}
 use Rattle.bosh_manifest_parts.specs.Source.{sources}
 use Rattle.bosh_manifest_parts.specs.Unoffered.{nothing_at}
 use Rattle.bosh_update.specs.Update.{an_update}
-use Rattle.bosh_update.specs.declared.update.Update.{Update}
 use Rattle.bosh_manifest.specs.declared.group.Common.{Common}
 use Rattle.bosh_manifest.specs.declared.group.Group.{Group}
-use Rattle.bosh_manifest.specs.declared.manifest.Manifest.{Manifest}
+use Rattle.bosh_manifest.specs.declared.manifest.Contents.{Contents}
 use Rattle.bosh_manifest.specs.Group.{a_group}
 
 -- a deployment asks for nothing that is not offered
@@ -48,7 +47,7 @@ groups name t = do
   offered_groups (record { name = name; update = update }) t
 
 -- what follows the name
-abbrev pub a_manifest : List ℕ → Tree → Result Manifest FieldFault
+abbrev pub a_manifest : List ℕ → Tree → Result Contents FieldFault
 a_manifest name t = do
   used ← sources t
   read ← groups name t

@@ -26,7 +26,7 @@ fn named(alloc: Global, name: Name, node: &Node, deployment: &Name) -> Result<Ma
     ensures { IsAnswer result (named deployment.now (Ok name) (tree_of node.now)) }
 {
     if name == *deployment {
-        Ok(read_manifest(alloc, name, node)?)
+        Ok(Manifest::of(read_manifest(alloc, name, node)?))
     } else {
         differs(alloc, &name)
     }

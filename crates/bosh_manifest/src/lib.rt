@@ -1,12 +1,14 @@
 //! Deployment manifests.
 #![tactic(auto)]
 
+mod checked;
 mod checking;
 mod fault;
 mod group;
 mod manifest;
 
+pub use checked::Manifest;
 pub use checking::check;
 pub use fault::ManFault;
 pub use group::Group;
-pub use manifest::Manifest;
+pub use manifest::Contents;

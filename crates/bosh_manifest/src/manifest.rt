@@ -18,9 +18,9 @@ const MAX_GROUPS: usize = 64;
 // The most instances of a deployment.
 const MAX_INSTANCES: u64 = 512;
 
-/// A checked manifest.
+/// What a manifest says.
 #[derive(Drop)]
-pub struct Manifest {
+pub struct Contents {
     /// Of the deployment.
     pub name: Name,
     pub releases: Seq<ReleaseUse>,
@@ -94,12 +94,12 @@ fn groups(alloc: Global, name: &Name, node: &Node) -> Result<Seq<Group>, FieldFa
 }
 
 /// What follows the name of a manifest.
-pub(crate) fn read_manifest(alloc: Global, name: Name, node: &Node) -> Result<Manifest, FieldFault>
+pub(crate) fn read_manifest(alloc: Global, name: Name, node: &Node) -> Result<Contents, FieldFault>
     ensures { IsAnswer result (a_manifest name (tree_of node.now)) }
 {
     let (releases, stemcells) = sources(alloc, node)?;
     let groups = groups(alloc, &name, node)?;
-    Ok(Manifest {
+    Ok(Contents {
         name,
         releases,
         stemcells,

@@ -1,5 +1,5 @@
 -- The links of a mapping, one after another.
-use Rattle.std.proofs.Common.{◌≡◌, ℕ, ◌+◌, ◌<◌, List, [], ◌∷◌, ◌++◌, Option, Some, None, Result, Ok, Err, length, get_or, drop, map, refl, sym, ap, ◌∙◌, add-one, append-nil, append_assoc, drop-cons}
+use Rattle.std.proofs.Common.{◌≡◌, ℕ, ◌+◌, ◌<◌, List, [], ◌∷◌, ◌++◌, Option, Some, None, Result, Ok, Err, length, get_or, drop, map, refl, sym, ap, add-one, append-nil, append_assoc, drop-cons}
 use Rattle.bosh_yaml.specs.Tree.{Tree, Fields, fields_of}
 use Rattle.bosh_yaml.specs.View.{pair_of, tree_of}
 use Rattle.bosh_yaml.specs.declared.node.Node.{Node}

@@ -4,7 +4,7 @@ use Rattle.std.specs.Str.{bytes_eq}
 use Rattle.bosh_yaml.specs.Tree.{Tree, Fields, null, text, map, no_fields, field}
 use Rattle.bosh_fields.specs.Answer.{◌>>=◌, both}
 use Rattle.bosh_fields.specs.Field.{optional, value_at}
-use Rattle.bosh_fields.specs.Kind.{Kind, a_flag, a_mapping, a_name, a_text}
+use Rattle.bosh_fields.specs.Kind.{a_flag, a_mapping, a_name, a_text}
 use Rattle.bosh_fields.specs.declared.fault.FieldFault.{FieldFault}
 use Rattle.bosh_fields.specs.declared.fault.FieldFault.TheVariants.{WrongKind}
 use Rattle.bosh_manifest_parts.specs.Unoffered.{is_text}

@@ -1,5 +1,5 @@
 -- The releases and stemcells that a deployment uses (bosh.io, "Deployment manifest": `releases` and `stemcells`).
-use Rattle.std.specs.Prelude.{ℕ, Bool, true, List, Option, Some, None, Result, Ok, Err, codes, if◌then◌else◌}
+use Rattle.std.specs.Prelude.{ℕ, List, Option, Some, None, Result, Ok, Err, codes, if◌then◌else◌}
 use Rattle.std.specs.Fmt.{signed_decimal}
 use Rattle.std.specs.Str.{bytes_eq}
 use Rattle.bosh_base.specs.Version.{is_version}

@@ -1,7 +1,7 @@
 -- Keys that would ask for what is not offered (this project's profile).
-use Rattle.std.specs.Prelude.{ℕ, Bool, true, false, ◌||◌, List, [], Option, Some, None, Result, Ok, Err, codes, if◌then◌else◌}
+use Rattle.std.specs.Prelude.{ℕ, Bool, true, false, List, [], Option, Some, None, Result, Ok, Err, if◌then◌else◌}
 use Rattle.std.specs.Str.{bytes_eq}
-use Rattle.bosh_yaml.specs.Tree.{Tree, null, boolean, integer, text, list, map, no_trees, tree, no_fields, field}
+use Rattle.bosh_yaml.specs.Tree.{Tree, text, list, map, no_trees, no_fields}
 use Rattle.bosh_fields.specs.Field.{value_at}
 use Rattle.bosh_fields.specs.declared.fault.FieldFault.{FieldFault}
 use Rattle.bosh_fields.specs.declared.fault.FieldFault.TheVariants.{Unsupported}

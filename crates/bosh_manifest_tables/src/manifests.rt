@@ -3,7 +3,7 @@ use crate::groups::push_groups;
 use crate::refusals::of_manifest;
 use bosh_base::{Name, Seq, Text};
 use bosh_cases::{CaseFault, Outcome, pair, push_parts};
-use bosh_manifest::{ManFault, Manifest, check};
+use bosh_manifest::{Contents, ManFault, Manifest, check};
 use bosh_manifest_parts::{ReleaseUse, StemcellUse};
 use bosh_yaml::{Node, read};
 use std::alloc::{AllocError, Global};
@@ -32,7 +32,7 @@ fn push_stemcells(text: &mut Vec<u8>, stemcells: &Seq<StemcellUse>) -> Result<()
     Ok(())
 }
 
-fn shown(alloc: Global, manifest: &Manifest) -> Result<Vec<u8>, AllocError> {
+fn shown(alloc: Global, manifest: &Contents) -> Result<Vec<u8>, AllocError> {
     let mut text = Vec::new(alloc);
     push_parts(&mut text, &[manifest.name.as_bytes(), b"\n"])?;
     push_releases(&mut text, &manifest.releases)?;
@@ -54,7 +54,7 @@ fn answer(
 pub(crate) fn checked(alloc: Global, given: &Node) -> Result<Outcome, CaseFault> {
     let (deployment, text): (Name, Text) = pair(alloc, given)?;
     match answer(alloc, &deployment, &text)? {
-        Ok(manifest) => Ok(Outcome::bytes(shown(alloc, &manifest)?)),
+        Ok(manifest) => Ok(Outcome::bytes(shown(alloc, manifest.contents())?)),
         Err(fault) => of_manifest(alloc, &fault),
     }
 }

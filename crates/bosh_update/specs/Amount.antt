@@ -3,7 +3,7 @@ use Rattle.std.specs.Prelude.{ℕ, ℤ, pos, negsuc, ◌+◌, ◌-◌, ◌*◌, 
 use Rattle.std.specs.Str.{bytes_eq}
 use Rattle.bosh_base.specs.declared.count.Count.{Count}
 use Rattle.bosh_base.specs.declared.count.Count.TheVariants.{Whole, Percent}
-use Rattle.bosh_yaml.specs.Tree.{Tree, integer, text}
+use Rattle.bosh_yaml.specs.Tree.{integer, text}
 use Rattle.bosh_fields.specs.Kind.{Kind}
 use Rattle.bosh_fields.specs.declared.fault.FieldFault.{FieldFault}
 use Rattle.bosh_fields.specs.declared.fault.FieldFault.TheVariants.{WrongKind, Malformed, Limit}

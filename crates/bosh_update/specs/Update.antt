@@ -1,5 +1,5 @@
 -- How instances are updated (bosh.io, "Deployment manifest": `update`, of the deployment and of a group).
-use Rattle.std.specs.Prelude.{ℕ, Bool, true, List, Option, Some, None, Result, Ok, Err, codes, unwrap_or, if◌then◌else◌}
+use Rattle.std.specs.Prelude.{Bool, true, Option, Some, None, Result, Ok, Err, codes, unwrap_or, if◌then◌else◌}
 use Rattle.std.specs.Str.{bytes_eq}
 use Rattle.bosh_base.specs.declared.count.Count.{Count}
 use Rattle.bosh_yaml.specs.Tree.{Tree}

@@ -1,11 +1,10 @@
 -- How long an update is watched (bosh.io, "Deployment manifest": `canary_watch_time` and `update_watch_time`).
-use Rattle.std.specs.Prelude.{ℕ, Bool, false, ◌+◌, ◌==◌, ◌&&◌, nat_le, List, Option, Some, None, Result, Ok, Err, length, position, take, drop, if◌then◌else◌}
+use Rattle.std.specs.Prelude.{ℕ, Bool, false, ◌+◌, ◌==◌, ◌&&◌, nat_le, List, Option, Some, None, Ok, Err, length, position, take, drop, if◌then◌else◌}
 use Rattle.std.specs.Char.{is_ascii_digit}
 use Rattle.std.specs.List.{list_all}
 use Rattle.std.specs.Str.Parse.{digits_value}
-use Rattle.bosh_yaml.specs.Tree.{Tree, integer, text}
+use Rattle.bosh_yaml.specs.Tree.{integer, text}
 use Rattle.bosh_fields.specs.Kind.{Kind}
-use Rattle.bosh_fields.specs.declared.fault.FieldFault.{FieldFault}
 use Rattle.bosh_fields.specs.declared.fault.FieldFault.TheVariants.{WrongKind, Malformed}
 use Rattle.bosh_update.specs.declared.watch_time.WatchTime.{WatchTime}
 use Rattle.bosh_update.specs.declared.watch_time.WatchTime.TheVariants.{Fixed, Between}

@@ -1,5 +1,5 @@
 -- Digits without leading zeros are compared.
-use Rattle.std.proofs.Common.{◌≡◌, length, nat_lt, ap, sym, ◌∙◌}
+use Rattle.std.proofs.Common.{length, nat_lt, ap, sym, ◌∙◌}
 use Rattle.std.specs.Cmp.Lexicographic.{slice_cmp}
 use Rattle.std.specs.Ordering.{nat_cmp, is_le}
 use Rattle.bosh_ip.specs.Bytes.{without_leading}
