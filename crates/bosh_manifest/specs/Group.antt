@@ -3,6 +3,7 @@ use Rattle.std.specs.Prelude.{ℕ, Bool, ◌||◌, List, Option, Result, Ok, cod
 use Rattle.bosh_yaml.specs.Tree.{Tree}
 use Rattle.bosh_fields.specs.Answer.{◌>>=◌, both}
 use Rattle.bosh_fields.specs.Distinct.{a_distinct_list}
+use Rattle.bosh_fields.specs.Empty.{is_empty, nothing_at, unless_asked}
 use Rattle.bosh_fields.specs.Field.{required, value_at}
 use Rattle.bosh_fields.specs.Kind.{a_name}
 use Rattle.bosh_fields.specs.List.{unlimited}
@@ -12,7 +13,7 @@ use Rattle.bosh_manifest_parts.specs.Disk.{group_disk}
 use Rattle.bosh_manifest_parts.specs.Job.{group_jobs}
 use Rattle.bosh_manifest_parts.specs.Named.{some_items}
 use Rattle.bosh_manifest_parts.specs.Network.{group_networks}
-use Rattle.bosh_manifest_parts.specs.Unoffered.{is_empty, is_text, nothing_at, unless_asked}
+use Rattle.bosh_manifest_parts.specs.Unoffered.{is_text}
 use Rattle.bosh_update.specs.Update.{group_update}
 use Rattle.bosh_manifest_parts.specs.declared.disk.DiskUse.{DiskUse}
 use Rattle.bosh_manifest_parts.specs.declared.job.JobUse.{JobUse}

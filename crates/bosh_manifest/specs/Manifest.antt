@@ -2,12 +2,12 @@
 use Rattle.std.specs.Prelude.{ℕ, Bool, List, Result, Ok, Err, codes, nat_le, sum_by, if◌then◌else◌}
 use Rattle.bosh_yaml.specs.Tree.{Tree}
 use Rattle.bosh_fields.specs.Answer.{◌>>=◌}
+use Rattle.bosh_fields.specs.Empty.{nothing_at}
 use Rattle.bosh_fields.specs.Field.{required}
 use Rattle.bosh_fields.specs.declared.fault.FieldFault.{FieldFault}
 use Rattle.bosh_fields.specs.declared.fault.FieldFault.TheVariants.{Limit}
 use Rattle.bosh_manifest_parts.specs.Named.{named}
 use Rattle.bosh_manifest_parts.specs.Source.{sources}
-use Rattle.bosh_manifest_parts.specs.Unoffered.{nothing_at}
 use Rattle.bosh_update.specs.Update.{an_update}
 use Rattle.bosh_manifest.specs.declared.group.Common.{Common}
 use Rattle.bosh_manifest.specs.declared.group.Group.{Group}

@@ -11,10 +11,12 @@ ghost use Rattle.bosh_manifest_parts.specs.Network.{group_networks};
 ghost use Rattle.bosh_manifest.specs.Group.{contents, offered, place, service, update_of, zones};
 
 use bosh_base::{Name, Seq};
-use bosh_fields::{Distinct, FieldFault, Number, UNLIMITED, required, required_both, value_at};
+use bosh_fields::{
+    Distinct, FieldFault, Number, UNLIMITED, check_nothing, is_empty, required, required_both,
+    unless_asked, value_at,
+};
 use bosh_manifest_parts::{
-    DiskUse, JobUse, Member, NetUse, check_nothing, group_disk, group_jobs, group_networks,
-    is_empty, is_text, some_items, unless_asked,
+    DiskUse, JobUse, Member, NetUse, group_disk, group_jobs, group_networks, is_text, some_items,
 };
 use bosh_update::{Update, group_update};
 use bosh_yaml::Node;
@@ -131,6 +133,7 @@ impl Member for Group {
 
     ghost item = { a_group };
 
+    // Dear to prove: the name and the place are alive where what the group holds may be refused.
     fn item(alloc: Global, common: &Common, name: Name, node: &Node) -> Result<Self, FieldFault> {
         let instances = required::<Number<0, 256>>(alloc, node, b"instances")?.value();
         let (azs, (vm_type, stemcell)) = place(alloc, node)?;

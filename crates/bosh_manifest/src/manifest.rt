@@ -7,8 +7,8 @@ ghost use Rattle.bosh_manifest.specs.Manifest.{a_manifest, all_groups, few_insta
 use crate::Group;
 use crate::group::Common;
 use bosh_base::{Copyable, Name, Seq};
-use bosh_fields::{FieldFault, limit, required};
-use bosh_manifest_parts::{ReleaseUse, StemcellUse, check_nothing, required_members, sources};
+use bosh_fields::{FieldFault, check_nothing, limit, required};
+use bosh_manifest_parts::{ReleaseUse, StemcellUse, required_members, sources};
 use bosh_yaml::Node;
 use std::alloc::Global;
 

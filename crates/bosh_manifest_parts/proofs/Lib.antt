@@ -1,3 +1,2 @@
-mod EmptyLemmas
 mod LinkLemmas
 mod MemberLemmas

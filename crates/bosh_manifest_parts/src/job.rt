@@ -100,6 +100,7 @@ impl Member for JobUse {
 
     ghost item = { a_job };
 
+    // Dear to prove: the name, the release and the properties are alive where a link may be refused.
     fn item(alloc: Global, own: &Name, name: Name, node: &Node) -> Result<Self, FieldFault> {
         let (release, properties) = release_and_properties(alloc, node)?;
         let (provides, consumes) = links(alloc, own, node)?;

@@ -16,4 +16,4 @@ pub use link::{Consume, Offering, Origin, Provide};
 pub use member::{Member, required_members, some_items};
 pub use network::{NetUse, group_networks};
 pub use source::{ReleaseUse, StemcellUse, sources};
-pub use unoffered::{check_nothing, is_empty, is_text, unless_asked};
+pub use unoffered::is_text;

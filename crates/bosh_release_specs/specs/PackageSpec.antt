@@ -1,25 +1,13 @@
 -- What the spec of a package says, and the name of a release (bosh.io, "Packages", "Package specification").
-use Rattle.std.specs.Prelude.{ℕ, Bool, true, false, List, [], Option, Some, None, Result, Ok, Err, codes, if◌then◌else◌}
+use Rattle.std.specs.Prelude.{ℕ, List, Option, Some, None, Result, Ok, codes}
 use Rattle.bosh_fields.specs.Answer.{◌>>=◌}
+use Rattle.bosh_fields.specs.Empty.{nothing_at}
 use Rattle.bosh_fields.specs.Field.{required, value_at}
 use Rattle.bosh_fields.specs.Kind.{Kind, a_mapping, a_name, a_text}
 use Rattle.bosh_fields.specs.declared.fault.FieldFault.{FieldFault}
-use Rattle.bosh_fields.specs.declared.fault.FieldFault.TheVariants.{Unsupported}
 use Rattle.bosh_release_specs.specs.JobSpec.{list_at}
 use Rattle.bosh_release_specs.specs.declared.package_file.PackageDescription.{PackageDescription}
-use Rattle.bosh_yaml.specs.Tree.{Tree, text, list, map as mapping, no_trees, no_fields}
-
--- nothing stands there, or an empty text, list or mapping
-abbrev pub is_empty : Option Tree → Bool
-is_empty None = true
-is_empty (Some (text [])) = true
-is_empty (Some (list no_trees)) = true
-is_empty (Some (mapping no_fields)) = true
-is_empty (Some t) = false
-
--- files that are left out are not offered
-unfoldable pub nothing_at : List ℕ → Tree → Result Bool FieldFault
-nothing_at key t = if is_empty (value_at key t) then Ok true else Err (Unsupported key)
+use Rattle.bosh_yaml.specs.Tree.{Tree}
 
 abbrev pub a_package_spec : Kind PackageDescription
 a_package_spec key t = do

@@ -3,7 +3,7 @@ use Rattle.std.proofs.Common.{◌≡◌, ℕ, ◌≤◌, false, Some, List, [], 
 use Rattle.bosh_yaml.specs.Tree.{fields_of, list, map as map_of, trees_of}
 use Rattle.bosh_yaml.specs.View.{pair_of, tree_of}
 use Rattle.bosh_yaml.specs.declared.node.Node.{Node}
-use Rattle.bosh_manifest_parts.specs.Unoffered.{is_empty}
+use Rattle.bosh_fields.specs.Empty.{is_empty}
 
 pub some_items :
     (nodes : List Node) → 1 ≤ length nodes → is_empty (Some (list (trees_of (map tree_of nodes)))) ≡ false
