@@ -1,8 +1,8 @@
-ghost use Rattle.std.specs.Prelude.{[]};
+ghost use Rattle.std.specs.Prelude.{[], true};
 ghost use Rattle.bosh_yaml.specs.View.{tree_of};
-ghost use Rattle.bosh_fields.specs.Answer.{IsAnswer};
+ghost use Rattle.bosh_fields.specs.Answer.{IsAnswer, IsAnswerSeen};
 ghost use Rattle.bosh_release_specs.specs.JobSpec.{list_at};
-ghost use Rattle.bosh_release_specs.specs.PackageSpec.{a_package_spec, a_release};
+ghost use Rattle.bosh_release_specs.specs.PackageSpec.{a_package_spec, a_release, nothing_excluded};
 
 use bosh_base::{Name, Seq, Text};
 use bosh_fields::{
@@ -35,6 +35,14 @@ pub(crate) fn list_at<T: FromField>(
     }
 }
 
+// Refuses files that are left out.
+#[tactic(auto, unfolding(crate::specs::PackageSpec::nothing_excluded))]
+fn check_excluded(alloc: Global, node: &Node) -> Result<(), FieldFault>
+    ensures { IsAnswerSeen (λ _. true) result (nothing_excluded (tree_of node.now)) }
+{
+    check_nothing(alloc, node, b"excluded_files")
+}
+
 /// What the spec of a package says, which is a mapping with `name`, and perhaps `dependencies` and `files`. The fault
 /// names the key (bosh.io, "Packages", "Package specification").
 // Dear to prove: the parts that were read are alive wherever the next one may be refused.
@@ -45,7 +53,7 @@ pub fn package_spec(alloc: Global, node: &Node) -> Result<PackageDescription, Fi
     let name = required(alloc, node, b"name")?;
     let dependencies = list_at(alloc, node, b"dependencies")?;
     let files = list_at(alloc, node, b"files")?;
-    check_nothing(alloc, node, b"excluded_files")?;
+    check_excluded(alloc, node)?;
     Ok(PackageDescription {
         name,
         dependencies,
