@@ -1,6 +1,7 @@
 pub mod Address
 pub mod Answer
 pub mod Distinct
+pub mod Empty
 pub mod Field
 pub mod Kind
 pub mod List

@@ -62,8 +62,8 @@ pub fn item_name(
     required(alloc, node, name_key)
 }
 
-// Notes a name that was not there before, and refuses another.
-fn note(alloc: Global, name: &Name, seen: &mut BTreeSet<Name>) -> Result<(), FieldFault>
+/// Notes a name that was not seen before, and refuses another.
+pub fn note_name(alloc: Global, name: &Name, seen: &mut BTreeSet<Name>) -> Result<(), FieldFault>
     ensures new { (before : List (List ℕ)) → HasNames before seen.old
         → IsAnswerSeen (λ _. name.now) result (new_name before name.now) }
     ensures noted { (before : List (List ℕ)) → HasNames before seen.old
@@ -89,7 +89,7 @@ fn fresh_name<T: NamedItem>(
         → IfOk result (λ name. HasNames (name ∷ before) seen.new) }
 {
     let name = T::name(alloc, key, node)?;
-    note(alloc, &name, seen)?;
+    note_name(alloc, &name, seen)?;
     Ok(name)
 }
 

@@ -4,6 +4,7 @@
 
 mod addr;
 mod distinct;
+mod empty;
 mod fault;
 mod field;
 mod kind;
@@ -11,9 +12,10 @@ mod list;
 mod number;
 
 pub use addr::spelled;
-pub use distinct::{Distinct, NamedItem, check_mapping, item_name};
+pub use distinct::{Distinct, NamedItem, check_mapping, item_name, note_name};
+pub use empty::{check_nothing, is_empty, unless_asked};
 pub use fault::{FieldFault, limit, malformed, missing, repeated, unsupported, wrong_kind};
 pub use field::{optional, required, required_both, value_at};
 pub use kind::FromField;
-pub use list::{List, UNLIMITED};
+pub use list::{List, UNLIMITED, items_up_to};
 pub use number::Number;

@@ -28,7 +28,7 @@ fn items<'a>(alloc: Global, key: &[u8], node: &'a Node) -> Result<&'a [Node], Fi
 
 /// The items of a list that has no more than the most.
 #[tactic(auto, using(crate::proofs::ListLemmas::count_trees))]
-pub(crate) fn items_up_to<'a>(
+pub fn items_up_to<'a>(
     alloc: Global,
     most: usize,
     key: &[u8],

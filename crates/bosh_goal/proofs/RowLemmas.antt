@@ -2,7 +2,7 @@
 use Rattle.std.proofs.Common.{◌≡◌, ℕ, ◌<◌, length, get_or, arith}
 use Rattle.std.proofs.lemmas.List.FromFn.{get_or-map-range_with_len, length-map-range_with_len}
 use Rattle.bosh_base.specs.declared.goal.GoalRow.{GoalRow}
-use Rattle.bosh_manifest.specs.declared.bare.BareManifest.{BareManifest}
+use Rattle.first_manifest.specs.declared.bare.BareManifest.{BareManifest}
 use Rattle.bosh_goal.specs.Bare.{bare_row, bare_rows}
 
 pub length-bare_rows : (asked : BareManifest) → length (bare_rows asked) ≡ asked.group.instances

@@ -8,8 +8,8 @@ use Rattle.bosh_base.specs.declared.inst.Inst.{Inst}
 use Rattle.bosh_base.specs.declared.make.Make.{Make}
 use Rattle.bosh_base.specs.declared.spec.Spec.{Spec}
 use Rattle.bosh_base.specs.declared.state.State.TheVariants.{Stopped}
-use Rattle.bosh_manifest.specs.declared.bare.BareGroup.{BareGroup}
-use Rattle.bosh_manifest.specs.declared.bare.BareManifest.{BareManifest}
+use Rattle.first_manifest.specs.declared.bare.BareGroup.{BareGroup}
+use Rattle.first_manifest.specs.declared.bare.BareManifest.{BareManifest}
 
 -- an instance of the group
 abbrev pub inst_of : BareManifest → ℕ → Inst

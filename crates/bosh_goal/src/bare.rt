@@ -3,7 +3,7 @@ ghost use Rattle.bosh_goal.specs.Bare.{bare_goal, bare_make, bare_plan, bare_row
 
 use crate::GoalFault;
 use bosh_base::{Copyable, Goal, GoalRow, GroupPlan, Inst, Make, Name, Seq, Spec, State, Text};
-use bosh_manifest::{BareGroup, BareManifest};
+use first_manifest::{BareGroup, BareManifest};
 use std::alloc::Global;
 
 /// The goal of a manifest of bare machines: a stopped machine for each instance, which take the zones of the

@@ -2,7 +2,7 @@ ghost use Rattle.std.specs.Prelude.{◌≡◌, ◌≢◌, All, length};
 ghost use Rattle.std.specs.List.{AllPairs};
 ghost use Rattle.bosh_base.specs.declared.goal.GoalRow as row;
 ghost use Rattle.bosh_goal.specs.Bare.{bare_goal};
-ghost use Rattle.bosh_manifest.specs.declared.bare.BareManifest as manifest;
+ghost use Rattle.first_manifest.specs.declared.bare.BareManifest as manifest;
 
 /// The rows of the goal are as many as the manifest asks for, each of its deployment and group, and no two
 /// of one instance.

@@ -1,3 +1,5 @@
-pub mod Bare
-pub mod Field
-pub mod Reading
+pub mod Answer
+pub mod Check
+pub mod Group
+pub mod Manifest
+pub mod Sound

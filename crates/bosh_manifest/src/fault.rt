@@ -1,41 +1,44 @@
 ghost use Rattle.std.specs.Prelude.{◌≡◌};
-ghost use Rattle.bosh_manifest.specs.Reading.{fault_of};
+ghost use Rattle.bosh_manifest.specs.Answer.{fault_of};
 ghost use Rattle.bosh_manifest.specs.declared.fault.ManFault.TheVariants.{Memory};
 
-use bosh_base::OfFault;
-use std::alloc::{AllocError, AllocFailed};
+use bosh_base::Text;
+use bosh_fields::FieldFault;
 
-/// Why a node was not read as a manifest.
-#[derive(Clone, Copy, Debug, PartialEq, Eq)]
+/// Why a node is no manifest of a deployment. A key is that of the field at fault.
+#[derive(Drop)]
 pub enum ManFault {
-    /// It is no manifest of one group of bare machines for the deployment.
-    NotBare,
+    /// A required key is absent, a list that needs an item has none, or of several networks not exactly one has the
+    /// gateway among its defaults.
+    Missing { key: Text },
+    /// A value, or an item of a list, is of another kind than its key takes.
+    WrongKind { key: Text },
+    /// A name, or the alias of a stemcell, stands twice in one list.
+    Repeated { name: Text },
+    /// The value asks for what is not offered.
+    Unsupported { key: Text },
+    /// A number of instances, a share or a watch time is none.
+    BadUpdate { key: Text },
+    /// A number is outside its bounds, or a list is too long.
+    Limit { key: Text },
+    /// The manifest is that of the deployment of this name.
+    NameDiffers { name: Text },
+    /// There is no memory for the answer.
     Memory,
 }
 
-impl From<AllocError> for ManFault {
-    ghost from_gives = { λ _ fault. fault ≡ Memory };
-
-    fn from(_: AllocError) -> Self {
-        ManFault::Memory
-    }
-}
-
-impl<T: Drop> From<AllocFailed<T>> for ManFault {
-    ghost from_gives = { λ _ fault. fault ≡ Memory };
-
-    fn from(_: AllocFailed<T>) -> Self {
-        ManFault::Memory
-    }
-}
-
-impl From<OfFault> for ManFault {
+impl From<FieldFault> for ManFault {
     ghost from_gives = { λ given fault. fault ≡ fault_of given };
 
-    fn from(fault: OfFault) -> Self {
+    fn from(fault: FieldFault) -> Self {
         match fault {
-            OfFault::NotOne => ManFault::NotBare,
-            OfFault::Memory => ManFault::Memory,
+            FieldFault::Missing { key } => ManFault::Missing { key },
+            FieldFault::WrongKind { key } => ManFault::WrongKind { key },
+            FieldFault::Repeated { name } => ManFault::Repeated { name },
+            FieldFault::Malformed { key } => ManFault::BadUpdate { key },
+            FieldFault::Unsupported { key } => ManFault::Unsupported { key },
+            FieldFault::Limit { key } => ManFault::Limit { key },
+            FieldFault::Memory => ManFault::Memory,
         }
     }
 }

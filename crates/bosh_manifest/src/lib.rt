@@ -1,9 +1,14 @@
-//! Deployment manifests: so far those of one group of bare machines.
+//! Deployment manifests.
 #![tactic(auto)]
 
-mod bare;
+mod checked;
+mod checking;
 mod fault;
-mod field;
+mod group;
+mod manifest;
 
-pub use bare::{BareGroup, BareManifest, read_bare};
+pub use checked::Manifest;
+pub use checking::check;
 pub use fault::ManFault;
+pub use group::Group;
+pub use manifest::Contents;

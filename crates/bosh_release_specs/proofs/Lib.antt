@@ -1,2 +1,1 @@
-mod EmptyLemmas
 mod FieldLemmas

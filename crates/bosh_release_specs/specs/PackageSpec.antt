@@ -1,25 +1,17 @@
 -- What the spec of a package says, and the name of a release (bosh.io, "Packages", "Package specification").
-use Rattle.std.specs.Prelude.{ℕ, Bool, true, false, List, [], Option, Some, None, Result, Ok, Err, codes, if◌then◌else◌}
+use Rattle.std.specs.Prelude.{ℕ, Bool, List, Option, Some, None, Result, Ok, codes}
 use Rattle.bosh_fields.specs.Answer.{◌>>=◌}
+use Rattle.bosh_fields.specs.Empty.{nothing_at}
 use Rattle.bosh_fields.specs.Field.{required, value_at}
 use Rattle.bosh_fields.specs.Kind.{Kind, a_mapping, a_name, a_text}
 use Rattle.bosh_fields.specs.declared.fault.FieldFault.{FieldFault}
-use Rattle.bosh_fields.specs.declared.fault.FieldFault.TheVariants.{Unsupported}
 use Rattle.bosh_release_specs.specs.JobSpec.{list_at}
 use Rattle.bosh_release_specs.specs.declared.package_file.PackageDescription.{PackageDescription}
-use Rattle.bosh_yaml.specs.Tree.{Tree, text, list, map as mapping, no_trees, no_fields}
-
--- nothing stands there, or an empty text, list or mapping
-abbrev pub is_empty : Option Tree → Bool
-is_empty None = true
-is_empty (Some (text [])) = true
-is_empty (Some (list no_trees)) = true
-is_empty (Some (mapping no_fields)) = true
-is_empty (Some t) = false
+use Rattle.bosh_yaml.specs.Tree.{Tree}
 
 -- files that are left out are not offered
-unfoldable pub nothing_at : List ℕ → Tree → Result Bool FieldFault
-nothing_at key t = if is_empty (value_at key t) then Ok true else Err (Unsupported key)
+unfoldable pub nothing_excluded : Tree → Result Bool FieldFault
+nothing_excluded t = nothing_at (codes "excluded_files") t
 
 abbrev pub a_package_spec : Kind PackageDescription
 a_package_spec key t = do
@@ -27,7 +19,7 @@ a_package_spec key t = do
   name ← required a_name (codes "name") item
   dependencies ← list_at a_name (codes "dependencies") item
   files ← list_at a_text (codes "files") item
-  none ← nothing_at (codes "excluded_files") item
+  none ← nothing_excluded item
   Ok (record { name = name; dependencies = dependencies; files = files })
 
 -- a release is named by `name`, or by `final_name` where that is absent

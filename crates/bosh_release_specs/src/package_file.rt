@@ -1,16 +1,14 @@
-ghost use Rattle.std.specs.Prelude.{◌≡◌, [], true, Some, map};
-ghost use Rattle.bosh_yaml.specs.Tree.{fields_of, list, map as map_of, text, trees_of};
-ghost use Rattle.std.specs.Option.{option_map};
-ghost use Rattle.bosh_yaml.specs.View.{pair_of, tree_of};
+ghost use Rattle.std.specs.Prelude.{[], true};
+ghost use Rattle.bosh_yaml.specs.View.{tree_of};
 ghost use Rattle.bosh_fields.specs.Answer.{IsAnswer, IsAnswerSeen};
 ghost use Rattle.bosh_release_specs.specs.JobSpec.{list_at};
-ghost use Rattle.bosh_release_specs.specs.PackageSpec.{a_package_spec, a_release, is_empty, nothing_at};
+ghost use Rattle.bosh_release_specs.specs.PackageSpec.{a_package_spec, a_release, nothing_excluded};
 
 use bosh_base::{Name, Seq, Text};
 use bosh_fields::{
-    FieldFault, FromField, check_mapping, optional, required, unsupported, value_at,
+    FieldFault, FromField, check_mapping, check_nothing, optional, required, value_at,
 };
-use bosh_yaml::{Node, Str};
+use bosh_yaml::Node;
 use std::alloc::Global;
 
 /// What the spec of a package says.
@@ -37,57 +35,12 @@ pub(crate) fn list_at<T: FromField>(
     }
 }
 
-#[tactic(auto, using(crate::proofs::EmptyLemmas::some_items))]
-fn has_no_items(items: &[Node]) -> bool
-    ensures { result ≡ is_empty (Some (list (trees_of (map tree_of items.now)))) }
+// Refuses files that are left out.
+#[tactic(auto, unfolding(crate::specs::PackageSpec::nothing_excluded))]
+fn check_excluded(alloc: Global, node: &Node) -> Result<(), FieldFault>
+    ensures { IsAnswerSeen (λ _. true) result (nothing_excluded (tree_of node.now)) }
 {
-    match items {
-        [] => true,
-        [_, ..] => false,
-    }
-}
-
-#[tactic(auto, using(crate::proofs::EmptyLemmas::some_fields))]
-fn has_no_fields(fields: &[(Str, Node)]) -> bool
-    ensures { result ≡ is_empty (Some (map_of (fields_of (map pair_of fields.now)))) }
-{
-    match fields {
-        [] => true,
-        [_, ..] => false,
-    }
-}
-
-fn has_no_bytes(bytes: &[u8]) -> bool
-    ensures { result ≡ is_empty (Some (text bytes.now)) }
-{
-    match bytes {
-        [] => true,
-        [_, ..] => false,
-    }
-}
-
-fn is_empty(node: Option<&Node>) -> bool
-    ensures { result ≡ is_empty (option_map (λ n. tree_of n.now) node.entry) }
-{
-    match node {
-        None => true,
-        Some(Node::Text(text)) => has_no_bytes(text.as_bytes()),
-        Some(Node::List(items)) => has_no_items(items.as_slice()),
-        Some(Node::Map(pairs)) => has_no_fields(pairs.as_slice()),
-        Some(_) => false,
-    }
-}
-
-// Refuses what stands at a key.
-#[tactic(auto, unfolding(crate::specs::PackageSpec::nothing_at))]
-fn nothing_at(alloc: Global, holder: &Node, key: &[u8]) -> Result<(), FieldFault>
-    ensures { IsAnswerSeen (λ _. true) result (nothing_at key.now (tree_of holder.now)) }
-{
-    if is_empty(value_at(holder, key)) {
-        Ok(())
-    } else {
-        unsupported(alloc, key)
-    }
+    check_nothing(alloc, node, b"excluded_files")
 }
 
 /// What the spec of a package says, which is a mapping with `name`, and perhaps `dependencies` and `files`. The fault
@@ -100,7 +53,7 @@ pub fn package_spec(alloc: Global, node: &Node) -> Result<PackageDescription, Fi
     let name = required(alloc, node, b"name")?;
     let dependencies = list_at(alloc, node, b"dependencies")?;
     let files = list_at(alloc, node, b"files")?;
-    nothing_at(alloc, node, b"excluded_files")?;
+    check_excluded(alloc, node)?;
     Ok(PackageDescription {
         name,
         dependencies,

@@ -2,8 +2,8 @@
 use bosh_base::{Goal, GoalRow, GroupPlan, Inst, Name, State, Text};
 use bosh_cases::{CaseFault, Outcome, joined, pair};
 use bosh_goal::{GoalFault, bare_goal};
-use bosh_manifest::{BareManifest, ManFault, read_bare};
 use bosh_yaml::{Node, read};
+use first_manifest::{BareManifest, ManFault, read_bare};
 use std::alloc::{AllocError, Global};
 
 // The manifest of a deployment: its name, and the text.

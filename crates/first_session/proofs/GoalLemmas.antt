@@ -16,8 +16,8 @@ use Rattle.first_history.specs.Goals as goals
 use Rattle.first_history.specs.Goals.{IsSound}
 use Rattle.first_history.specs.Records.{goal_of}
 use Rattle.first_history.specs.Same.{same_inst}
-use Rattle.bosh_manifest.specs.Bare.{bare_manifest}
-use Rattle.bosh_manifest.specs.declared.bare.BareManifest.{BareManifest}
+use Rattle.first_manifest.specs.Bare.{bare_manifest}
+use Rattle.first_manifest.specs.declared.bare.BareManifest.{BareManifest}
 use Rattle.bosh_yaml.specs.Tree.{Tree}
 use Rattle.first_session.proofs.NameLemmas.{named}
 use Rattle.first_session.specs.Asks.{IsAsk}

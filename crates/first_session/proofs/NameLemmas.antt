@@ -3,10 +3,10 @@ use Rattle.std.proofs.Common.{◌≡◌, ℕ, Bool, true, false, Option, Some, N
 use Rattle.std.specs.Prelude.{if◌then◌else◌}
 use Rattle.std.specs.Str.{bytes_eq}
 use Rattle.std.proofs.lemmas.Slice.Eq.{bytes_eq-Decides}
-use Rattle.bosh_manifest.specs.Bare.{bare_manifest, only_group}
-use Rattle.bosh_manifest.specs.Field.{name_at}
-use Rattle.bosh_manifest.specs.Reading.{◌>>=◌}
-use Rattle.bosh_manifest.specs.declared.bare.BareManifest.{BareManifest}
+use Rattle.first_manifest.specs.Bare.{bare_manifest, only_group}
+use Rattle.first_manifest.specs.Field.{name_at}
+use Rattle.first_manifest.specs.Reading.{◌>>=◌}
+use Rattle.first_manifest.specs.declared.bare.BareManifest.{BareManifest}
 use Rattle.bosh_yaml.specs.Tree.{Tree}
 
 -- a value that a step reads, after a value before it

@@ -14,7 +14,7 @@ use Rattle.first_crew.specs.Work.{IsFull, IsWork}
 use Rattle.bosh_goal.specs.Bare.{bare_goal}
 use Rattle.first_history.specs.Moves.{nothing, durable, is_halted}
 use Rattle.first_history.specs.Records.{goal_of, is_task_open}
-use Rattle.bosh_manifest.specs.declared.bare.BareManifest.{BareManifest}
+use Rattle.first_manifest.specs.declared.bare.BareManifest.{BareManifest}
 use Rattle.first_session.specs.Files.{file_of}
 use Rattle.first_session.specs.Manifests.{manifest_of_text}
 use Rattle.first_session.specs.Refusals.{full, not_yet, reply_of, stopped}

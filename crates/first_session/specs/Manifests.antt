@@ -4,10 +4,10 @@ use Rattle.std.specs.Option.{ok_or, option_or}
 use Rattle.std.specs.Result.{result_map_both}
 use Rattle.std.specs.Str.{bytes_eq}
 use Rattle.bosh_lines.specs.declared.variable.Variable.{Variable}
-use Rattle.bosh_manifest.specs.Bare.{bare_manifest}
-use Rattle.bosh_manifest.specs.declared.bare.BareManifest.{BareManifest}
-use Rattle.bosh_manifest.specs.declared.fault.ManFault.{ManFault}
-use Rattle.bosh_manifest.specs.declared.fault.ManFault.TheVariants as form
+use Rattle.first_manifest.specs.Bare.{bare_manifest}
+use Rattle.first_manifest.specs.declared.bare.BareManifest.{BareManifest}
+use Rattle.first_manifest.specs.declared.fault.ManFault.{ManFault}
+use Rattle.first_manifest.specs.declared.fault.ManFault.TheVariants as form
 use Rattle.bosh_vars.specs.Filled.{Values, filled, value_if}
 use Rattle.bosh_vars.specs.declared.fault.VarsFault.{VarsFault}
 use Rattle.bosh_vars.specs.declared.fault.VarsFault.TheVariants as vars

@@ -2,9 +2,9 @@ ghost use Rattle.std.specs.Prelude.{◌≡◌};
 ghost use Rattle.first_session.specs.Manifests.{of_filling, of_form, of_reading};
 ghost use Rattle.first_session.specs.declared.text_fault.TextFault.TheVariants.{Memory};
 
-use bosh_manifest::ManFault;
 use bosh_vars::VarsFault;
 use bosh_yaml::{CopyFault, ReadFault};
+use first_manifest::ManFault;
 use std::alloc::{AllocError, AllocFailed};
 
 /// Why the text of a file is no manifest of a deployment.

@@ -1,0 +1,4 @@
+pub mod GroupLemmas
+pub mod ReadingLemmas
+pub mod SoundLemmas
+pub mod UpdateLemmas

@@ -1,0 +1,3 @@
+pub mod Amount
+pub mod Update
+pub mod WatchTime
