@@ -1,6 +1,6 @@
 use Rattle.std.proofs.Common.{sym, ◌∙◌}
 use Rattle.bosh_inventory.proofs.PutLemmas.{invariant-put, on_ok}
-use Rattle.bosh_inventory.proofs.inventory.Inventory.put.Goals as goal
+use Rattle.bosh_inventory.proofs.inventory.Inventory.put_change.Goals as goal
 
 pub invariant_of-self : goal.invariant_of-self
 invariant_of-self g c =

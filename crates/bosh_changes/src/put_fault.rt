@@ -1,5 +1,5 @@
 ghost use Rattle.std.specs.Prelude.{◌≡◌};
-ghost use Rattle.bosh_inventory.specs.declared.put_fault.PutFault.TheVariants.{Memory};
+ghost use Rattle.bosh_changes.specs.declared.put_fault.PutFault.TheVariants.{Memory};
 
 use bosh_agent::AgentFault;
 use std::alloc::AllocError;

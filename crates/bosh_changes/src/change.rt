@@ -2,9 +2,9 @@ ghost use Rattle.std.specs.Prelude.{◌≡◌};
 ghost use Rattle.std.specs.Option.{option_map};
 ghost use Rattle.bosh_agent.specs.Change.{IsMade};
 ghost use Rattle.bosh_agent.specs.Slots.{at, with_slot};
-ghost use Rattle.bosh_inventory.specs.Changes.{changed, holding, IsFitting};
+ghost use Rattle.bosh_changes.specs.Changes.{changed, holding, IsFitting};
 
-use crate::inventory::Tables;
+use crate::Tables;
 use bosh_agent::{Change as AgentChange, Numbered, put_contents};
 use bosh_base::{Machine, Seq, Text};
 
@@ -38,7 +38,7 @@ pub enum Change {
 
 impl Change {
     /// Makes the change. It takes no memory.
-    pub(crate) fn carry(self, tables: &mut Tables)
+    pub fn carry(self, tables: &mut Tables)
         requires { IsFitting self tables.old }
         ensures { tables.new ≡ changed tables.old self }
     {

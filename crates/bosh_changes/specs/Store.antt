@@ -1,7 +1,7 @@
 -- What it does to a store of bodies that a body is put at its end.
 use Rattle.std.specs.Prelude.{◌≡◌, ◌⊎◌, ℕ, Bool, true, false, List, [], ◌∷◌, ◌++◌, Option, Some, IfSome, Result, Ok, Err}
-use Rattle.bosh_inventory.specs.declared.put_fault.PutFault.{PutFault}
-use Rattle.bosh_inventory.specs.declared.put_fault.PutFault.TheVariants.{StoreFailed, Memory}
+use Rattle.bosh_changes.specs.declared.put_fault.PutFault.{PutFault}
+use Rattle.bosh_changes.specs.declared.put_fault.PutFault.TheVariants.{StoreFailed, Memory}
 use Rattle.bosh_ports.specs.Faults.{Rose}
 
 -- A body stands at the end of the bodies, where the store tells them. A store that fails is broken, with the bodies

@@ -1,5 +1,5 @@
 ghost use Rattle.std.specs.Prelude.{◌≡◌, IsFalse};
-ghost use Rattle.bosh_inventory.specs.Store.{Appends};
+ghost use Rattle.bosh_changes.specs.Store.{Appends};
 ghost use Rattle.bosh_ports.specs.Faults.{NeverFalls};
 
 use crate::PutFault;
