@@ -1,0 +1,5 @@
+pub mod DoesLemmas
+pub mod FateLemmas
+pub mod LawLemmas
+pub mod LoadingLemmas
+pub mod ReadLemmas

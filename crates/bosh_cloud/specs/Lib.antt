@@ -1,0 +1,7 @@
+pub mod CloudView
+pub mod Fates
+pub mod Faults
+pub mod Loading
+pub mod Notes
+pub mod Performs
+pub mod Reads
