@@ -3,3 +3,4 @@ pub mod FateLemmas
 pub mod LawLemmas
 pub mod LoadingLemmas
 pub mod ReadLemmas
+pub mod RunLemmas

@@ -5,3 +5,4 @@ pub mod Loading
 pub mod Notes
 pub mod Performs
 pub mod Reads
+pub mod Runs

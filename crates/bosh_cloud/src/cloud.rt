@@ -1,6 +1,7 @@
 ghost use Rattle.std.specs.Prelude.{◌≡◌, ◌≤◌, [], ◌∷◌, ◌++◌, IfErr, OnOk};
 ghost use Rattle.std.specs.List.{filter_map};
 ghost use Rattle.bosh_base.specs.Cloud.{disk_of, disks, disks_created, is_disk_there, is_vm_there, machine_of, machines, vms_created};
+ghost use Rattle.bosh_cloud.specs.Loading.{IsKept};
 ghost use Rattle.bosh_inventory.specs.Rows.{slots};
 ghost use Rattle.bosh_ports.specs.Faults.{count_with};
 
@@ -55,6 +56,7 @@ impl<L: Keeper> SimCloud<L> {
           dooms = self.old.dooms ++ record { method = method; owner = owner; calls = k; fate = fate } ∷ [];
         }) }
         ensures memory { IfErr result (λ fault. (fault ≡ CloudFault.Memory) × (self.new ≡ self.old)) }
+        ensures kept { IsKept L.bodies self.old → IsKept L.bodies self.new }
     {
         self.dooms.push(Doom {
             method,

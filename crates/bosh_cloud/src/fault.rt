@@ -4,7 +4,7 @@ ghost use Rattle.bosh_cloud.specs.declared.fault.CloudFault.TheVariants.{Memory}
 
 use bosh_changes::InventoryFault;
 use bosh_ports::KeepFault;
-use std::alloc::{AllocError, AllocFailed};
+use std::alloc::AllocFailed;
 
 /// Why the cloud did not do what it was asked.
 #[derive(Clone, Copy, Debug, PartialEq, Eq)]
@@ -16,14 +16,6 @@ pub enum CloudFault {
     /// Its store failed before, and the cloud was not reloaded since.
     Broken,
     Memory,
-}
-
-impl From<AllocError> for CloudFault {
-    ghost from_gives = { λ _ fault. fault ≡ Memory };
-
-    fn from(_: AllocError) -> Self {
-        CloudFault::Memory
-    }
 }
 
 impl<T: Drop> From<AllocFailed<T>> for CloudFault {

@@ -13,4 +13,4 @@ mod perform;
 pub use cloud::SimCloud;
 pub use fate::{Doom, Fate};
 pub use fault::CloudFault;
-pub use laws::{what_is_kept_is_loaded, what_is_loaded_is_kept};
+pub use laws::{what_is_kept_is_loaded, what_is_loaded_is_kept, what_was_done_is_loaded};
