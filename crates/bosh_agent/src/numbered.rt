@@ -35,6 +35,13 @@ impl<T> Numbered<T> {
         }
     }
 
+    /// A slot for each number, in order.
+    pub fn slots(&self) -> &[Option<T>]
+        ensures { result.now ≡ self.now }
+    {
+        self.slots.as_slice()
+    }
+
     /// How many were made.
     pub fn made(&self) -> u64
         ensures made { result ≡ length self.now }

@@ -21,7 +21,7 @@ use Rattle.bosh_inventory.proofs.AgentLemmas.{IsMachine, IsMachine-found, held_a
 use Rattle.bosh_base.specs.CallStep.{is_movable}
 use Rattle.bosh_inventory.proofs.ActLemmas.{some_same, sure}
 use Rattle.bosh_inventory.proofs.MoveLemmas.{Moves, is_holder-moved, is_holder-apart, AreTables-moved}
-use Rattle.bosh_inventory.specs.Changes.{holding}
+use Rattle.bosh_changes.specs.Changes.{holding}
 
 -- ---- a disk that may be moved
 

@@ -27,8 +27,8 @@ use Rattle.bosh_inventory.proofs.NumberLemmas.{has-filter}
 use Rattle.bosh_inventory.specs.Changes.{IsActing, LeadsBy}
 use Rattle.bosh_inventory.specs.Orderly.{AreOrderly}
 use Rattle.bosh_inventory.specs.Rows.{AreTables}
-use Rattle.bosh_inventory.specs.declared.change.Change.TheVariants.{Acted}
-use Rattle.bosh_inventory.specs.declared.inventory.Tables.{Tables}
+use Rattle.bosh_changes.specs.declared.change.Change.TheVariants.{Acted}
+use Rattle.bosh_changes.specs.declared.tables.Tables.{Tables}
 use Rattle.bosh_inventory.proofs.LeadLemmas.{PairBy, there_vm}
 
 pair-acted : (xs : List Entry) (before : Tables) → AreTables xs before.vms before.disks before.holders →

@@ -1,8 +1,9 @@
 -- What the tables say of a number.
 use Prim.Native.Nat.{zero, suc}
-use Rattle.std.proofs.Common.{◌≡◌, ℕ, ◌≤◌, ◌<◌, Bool, true, false, Option, Some, None, List, refl, sym, ◌∙◌, ap, arith, subst, inl, inr, Bor}
+use Rattle.std.proofs.Common.{◌≡◌, ℕ, ◌≤◌, ◌<◌, Bool, true, false, Option, Some, None, List, [], ◌∷◌, refl, sym, ◌∙◌, ap, arith, subst, inl, inr, Bor}
 use Rattle.std.specs.Option.{option_copied, option_and_then}
-use Rattle.std.specs.Prelude.{◌&&◌, is_some, length}
+use Rattle.std.specs.Prelude.{◌&&◌, is_some, length, map}
+use Rattle.std.specs.List.{cons_option, filter_map}
 use Rattle.bosh_agent.specs.Slots.{at}
 use Rattle.bosh_base.specs.Cloud.{when, vms_created, is_vm_there, machine_of, disks_created, is_disk_there, disk_of, present, holder_of, is_disk_mounted, attached_to}
 use Rattle.bosh_base.specs.declared.entry.Entry.{Entry}
@@ -119,3 +120,9 @@ vms_made xs vms volumes holders tables = ap length tables.all_vms ∙ length-slo
 pub disks_made : (xs : List Entry) (vms : List (Option Machine)) (volumes : List (Option Disk))
     (holders : List (Option ℕ)) → AreTables xs vms volumes holders → length volumes ≡ disks_created xs
 disks_made xs vms volumes holders tables = ap length tables.all_disks ∙ length-slots (disk_of xs) (disks_created xs)
+
+-- what is there, of the slots
+pub filter_map-slots : {T : Type 0} (row : ℕ → Option T) (numbers : List ℕ) →
+    filter_map (λ slot. slot) (map row numbers) ≡ filter_map row numbers
+filter_map-slots row [] = refl
+filter_map-slots row (n ∷ numbers) = ap (cons_option (row n)) (filter_map-slots row numbers)

@@ -21,7 +21,7 @@ use Rattle.bosh_inventory.proofs.AgentLemmas.{IsMachine, IsMachine-found, ActsOn
 use Rattle.bosh_base.specs.declared.entry.Entry.TheVariants.{Lost, Write}
 use Rattle.bosh_base.specs.declared.entry.Write as write
 use Rattle.bosh_inventory.proofs.ActLemmas.{with_parts, sure, spec_then, running_then, drained_then, silent_then}
-use Rattle.bosh_inventory.specs.Changes.{silenced}
+use Rattle.bosh_changes.specs.Changes.{silenced}
 
 pub AreTables-silenced : (xs : List Entry) (vm : ℕ) (m : Machine) (vms : List (Option Machine))
     (volumes : List (Option Disk)) (holders : List (Option ℕ)) →

@@ -22,7 +22,7 @@ use Rattle.bosh_inventory.specs.Orderly.{IsOrderlyDisk, AreOrderly, last_holder}
 use Rattle.bosh_inventory.specs.Rows.{slots, AreTables}
 use Rattle.bosh_inventory.proofs.AgentLemmas.{IsMachine, IsMachine-found}
 use Rattle.bosh_inventory.proofs.ActLemmas.{with_parts, sure, spec_then, running_then, drained_then, silent_then}
-use Rattle.bosh_inventory.specs.Changes.{holding}
+use Rattle.bosh_changes.specs.Changes.{holding}
 
 -- an entry makes `holder` the last holder of disk d, which shows mounted on no machine before or after
 pub record Moves (xs : List Entry) (x : Entry) (vm d : ℕ) (holder : Option ℕ) : Type 0 where

@@ -1,6 +1,6 @@
 pub mod Orderly
 pub mod Rows
-pub mod Store
 pub mod Changes
 pub mod Happens
 pub mod Made
+pub mod Steps

@@ -1,6 +1,6 @@
 -- A machine and a disk as they are made: a machine has no spec and no disks, and does not run; a disk is empty
 -- (bosh.io, "CPI API v1", create_vm and create_disk).
-use Rattle.std.specs.Prelude.{◌≡◌, ℕ, ◌+◌, false, None, Some, List, [], ◌∷◌, ◌++◌}
+use Rattle.std.specs.Prelude.{◌≡◌, ℕ, ◌+◌, false, None, Some, List, []}
 use Rattle.bosh_base.specs.Cloud.{disks_created, make_of, vms_created, want_of}
 use Rattle.bosh_base.specs.declared.disk_want.DiskWant.{DiskWant}
 use Rattle.bosh_base.specs.declared.entry.Effect as effect
@@ -9,7 +9,6 @@ use Rattle.bosh_base.specs.declared.entry.Entry.TheVariants.{Effect}
 use Rattle.bosh_base.specs.declared.machine.Disk.{Disk}
 use Rattle.bosh_base.specs.declared.machine.Machine.{Machine}
 use Rattle.bosh_base.specs.declared.make.Make.{Make}
-use Rattle.bosh_inventory.specs.declared.inventory.Tables.{Tables}
 
 -- machine v, of this creation and this make
 abbrev pub new_machine : ℕ → effect.Effect → Make → Machine
@@ -30,13 +29,6 @@ new_machine v creation make = record {
 -- disk d, of this creation and as it is wanted
 abbrev pub new_disk : ℕ → effect.Effect → DiskWant → Disk
 new_disk d creation want = record { disk = d; tag = creation.n; owner = creation.owner; want = want; contents = [] }
-
--- the tables with one disk more, which no machine has
-abbrev pub with_disk : Tables → Disk → Tables
-with_disk tables disk = record tables {
-  disks = tables.disks ++ Some disk ∷ [];
-  holders = tables.holders ++ None ∷ [];
-}
 
 -- the entry is the creation of this machine, the next one
 pub record MakesVm (before : List Entry) (entry : Entry) (machine : Machine) : Type 0 where

@@ -2,13 +2,16 @@ ghost use Rattle.std.specs.Prelude.{◌≡◌, ◌+◌, true, ◌&&◌, ◌==◌
 ghost use Rattle.std.specs.Option.{option_map};
 ghost use Rattle.bosh_agent.specs.Agent.{agent_answer, vm_of};
 ghost use Rattle.bosh_agent.specs.Compiled.{compiled};
-ghost use Rattle.bosh_base.specs.CallStep.{answer_of, found_disk, found_vm, has_number, is_movable, unless_gone, yes_or_no};
+ghost use Rattle.bosh_base.specs.Call.{method_of};
+ghost use Rattle.bosh_base.specs.CallStep.{answer_of, found_disk, found_vm, has_number, is_gone, is_movable, takes_effect, unless_gone, yes_or_no};
 ghost use Rattle.bosh_base.specs.Cloud.{attached_to, disk_creation, disks_created, holder_of, is_disk_there, is_vm_there, vm_creation, vms_created};
+ghost use Rattle.bosh_base.specs.Method.{is_changing};
+ghost use Rattle.bosh_inventory.specs.Happens.{happens};
 
-use crate::InventoryFault;
 use crate::inventory::Inventory;
 use bosh_agent::{can_act, told, vm_of};
-use bosh_base::{Answer, Call, Copyable, Machine};
+use bosh_base::{Answer, Call, Copyable, Entry, Machine};
+use bosh_changes::InventoryFault;
 use std::alloc::Global;
 
 impl Inventory {
@@ -32,10 +35,29 @@ impl Inventory {
         }
     }
 
+    /// Whether an entry may come next: an effect of a call that changes the cloud and is not answered that something
+    /// is gone, a write to a disk that is there, or a loss of a machine that is there.
+    pub fn may_happen(&self, alloc: Global, entry: &Entry) -> Result<bool, InventoryFault>
+        ensures { IfOk result (λ test. test ≡ happens self.now entry.now) }
+    {
+        match entry {
+            Entry::Effect(effect) => self.takes_effect(alloc, &effect.call),
+            Entry::Write(write) => Ok(self.has_disk(write.disk)),
+            Entry::Lost(loss) => Ok(self.has_vm(loss.vm)),
+            _ => Ok(false),
+        }
+    }
+
+    fn takes_effect(&self, alloc: Global, call: &Call) -> Result<bool, InventoryFault>
+        ensures { IfOk result (λ test. test ≡ takes_effect compiled self.now call.now) }
+    {
+        let answer = self.answer(alloc, call)?;
+        Ok(changes_by(call, &answer))
+    }
+
     fn next_vm(&self) -> Answer
         ensures { result ≡ Answer.Cid (vms_created self.now + 1) }
     {
-        let _ = &self.effects;
         Answer::Cid(self.tables.vms.made() + 1)
     }
 
@@ -45,7 +67,6 @@ impl Inventory {
         if !self.has_vm(vm) {
             return Answer::Gone;
         }
-        let _ = &self.effects;
         Answer::Cid(self.tables.disks.made() + 1)
     }
 
@@ -67,7 +88,6 @@ impl Inventory {
         ensures { IfOk result (λ answer.
             answer ≡ unless_gone (is_vm_there self.now vm) (Answer.Disks (attached_to self.now vm))) }
     {
-        let _ = &self.effects;
         match self.machine(vm) {
             Some(machine) => Ok(Answer::Disks(machine.attached.copy(alloc)?)),
             None => Ok(Answer::Gone),
@@ -78,6 +98,7 @@ impl Inventory {
         requires { is_some (vm_of call.now) ≡ true }
         ensures { IfOk result (λ answer. answer ≡ answer_of compiled self.now call.now) }
     {
+        // A field that is looked at lets the prover know that the tables are those of what was done.
         let _ = &self.effects;
         let Some(vm) = vm_of(call) else {
             unreachable!();
@@ -96,6 +117,13 @@ fn answer_by(alloc: Global, machine: &Machine, call: &Call) -> Result<Answer, In
         return Ok(Answer::Gone);
     }
     Ok(told(alloc, machine, call)?)
+}
+
+/// Whether a call changes something that answers so.
+pub fn changes_by(call: &Call, answer: &Answer) -> bool
+    ensures { result ≡ (is_changing (method_of call.now) && not (is_gone answer.now)) }
+{
+    call.method().is_changing() && !matches!(answer, Answer::Gone)
 }
 
 fn yes_or_no(test: bool) -> Answer

@@ -9,7 +9,6 @@ impl Inventory {
     pub fn found_vm(&self, agent: u64) -> Option<u64>
         ensures { result ≡ found_vm self.now agent }
     {
-        let _ = &self.effects;
         for vm in 1..self.tables.vms.made() + 1 {
             if self.has_agent(vm, agent) {
                 return Some(vm);
@@ -21,7 +20,6 @@ impl Inventory {
     fn has_agent(&self, vm: u64, agent: u64) -> bool
         ensures { result ≡ (is_vm_there self.now vm && has_number agent (vm_creation self.now vm)) }
     {
-        let _ = &self.effects;
         match self.machine(vm) {
             Some(machine) => machine.agent == agent,
             None => false,
@@ -32,7 +30,6 @@ impl Inventory {
     pub fn found_disk(&self, tag: u64) -> Option<u64>
         ensures { result ≡ found_disk self.now tag }
     {
-        let _ = &self.effects;
         for disk in 1..self.tables.disks.made() + 1 {
             if self.has_tag(disk, tag) {
                 return Some(disk);
@@ -44,7 +41,6 @@ impl Inventory {
     fn has_tag(&self, disk: u64, tag: u64) -> bool
         ensures { result ≡ (is_disk_there self.now disk && has_number tag (disk_creation self.now disk)) }
     {
-        let _ = &self.effects;
         match self.disk(disk) {
             Some(disk) => disk.tag == tag,
             None => false,

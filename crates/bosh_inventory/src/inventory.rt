@@ -1,21 +1,15 @@
 ghost use Rattle.std.specs.Prelude.{◌≡◌, [], is_some, IsTrue, Some};
+ghost use Rattle.std.specs.List.{filter_map};
 ghost use Rattle.std.specs.Option.{option_copied};
-ghost use Rattle.bosh_base.specs.Cloud.{disk_of, holder_of, is_disk_mounted, is_disk_there, is_vm_there, machine_of, present};
+ghost use Rattle.bosh_base.specs.Cloud.{disk_of, disks, disks_created, holder_of, is_disk_mounted, is_disk_there, is_vm_there, machine_of, machines, present, vms_created};
 ghost use Rattle.bosh_base.specs.CallStep.{is_movable};
+ghost use Rattle.bosh_inventory.specs.Rows.{slots};
 
-use bosh_agent::{Disks, Numbered, has};
+use bosh_agent::has;
 use bosh_base::{Disk, Entry, Machine};
+use bosh_changes::Tables;
 use std::alloc::Global;
 use std::marker::Model;
-
-/// What is there, by number.
-#[derive(Drop)]
-pub struct Tables {
-    pub(crate) vms: Numbered<Machine>,
-    pub(crate) disks: Disks,
-    /// By disk: the machine of its last attach, where no detach came later. That machine may be gone.
-    pub(crate) holders: Numbered<u64>,
-}
 
 /// What was done to a cloud, in order, with tables of what is there. It is seen as what was done.
 #[derive(Drop)]
@@ -46,11 +40,7 @@ impl Inventory {
     {
         Inventory {
             effects: Vec::new(alloc),
-            tables: Tables {
-                vms: Numbered::new(alloc),
-                disks: Numbered::new(alloc),
-                holders: Numbered::new(alloc),
-            },
+            tables: Tables::new(alloc),
         }
     }
 
@@ -59,6 +49,22 @@ impl Inventory {
         ensures { result.now ≡ self.now }
     {
         self.effects.as_slice()
+    }
+
+    /// The machines by number: a slot for each that was made, which is empty where it is gone.
+    pub fn machines(&self) -> &[Option<Machine>]
+        ensures slots { result.now ≡ slots (machine_of self.now) (vms_created self.now) }
+        ensures there { filter_map (λ slot. slot) result.now ≡ machines self.now }
+    {
+        self.tables.vms.slots()
+    }
+
+    /// The disks by number, as `machines` has the machines.
+    pub fn disks(&self) -> &[Option<Disk>]
+        ensures slots { result.now ≡ slots (disk_of self.now) (disks_created self.now) }
+        ensures there { filter_map (λ slot. slot) result.now ≡ disks self.now }
+    {
+        self.tables.disks.slots()
     }
 
     /// A machine, where it is there.
@@ -123,6 +129,7 @@ impl Inventory {
         requires { holder_of self.now disk ≡ Some vm }
         ensures { result ≡ is_disk_mounted self.now disk }
     {
+        // A field that is looked at lets the prover know that the tables are those of what was done.
         let _ = &self.effects;
         match self.machine(vm) {
             Some(machine) => has(&machine.mounted, disk),

@@ -2,17 +2,14 @@
 //! come the answers to the calls of a cloud provider interface and of agents, and what each call changes.
 #![tactic(auto)]
 
+mod add;
 mod answers;
-mod change;
-mod fault;
 mod find;
 mod inventory;
 mod plan;
 mod put;
-mod put_fault;
-mod store;
+mod step;
 
-pub use change::Change;
-pub use fault::InventoryFault;
-pub use inventory::{Inventory, Tables};
-pub use put_fault::PutFault;
+pub use answers::changes_by;
+pub use inventory::Inventory;
+pub use step::Step;

@@ -7,11 +7,10 @@ ghost use Rattle.bosh_base.specs.Cloud.{creates_disk, creates_vm, is_disk_there,
 ghost use Rattle.bosh_base.specs.declared.entry.Effect as effect;
 ghost use Rattle.bosh_inventory.specs.Changes.{IsActing, Leads, LeadsBy};
 
-use crate::InventoryFault;
-use crate::change::Change;
 use crate::inventory::Inventory;
 use bosh_agent::{change_of, vm_of, with_number, without_number};
 use bosh_base::{Call, Copyable, Entry, Text};
+use bosh_changes::{Change, InventoryFault};
 use std::alloc::Global;
 
 impl Inventory {
@@ -39,7 +38,6 @@ impl Inventory {
         requires movable { IsTrue (is_movable self.now vm disk) }
         ensures { IfOk result (λ change. LeadsBy self.now (Call.AttachDisk vm disk) change) }
     {
-        let _ = &self.effects;
         match self.machine(vm) {
             Some(machine) => Ok(Change::Moved {
                 vm,
@@ -56,7 +54,6 @@ impl Inventory {
         requires movable { IsTrue (is_movable self.now vm disk) }
         ensures { IfOk result (λ change. LeadsBy self.now (Call.DetachDisk vm disk) change) }
     {
-        let _ = &self.effects;
         match self.machine(vm) {
             Some(machine) => Ok(Change::Moved {
                 vm,
@@ -73,7 +70,6 @@ impl Inventory {
         requires effect { IsTrue (takes_effect compiled self.now call.now) }
         ensures { IfOk result (λ change. LeadsBy self.now call.now change) }
     {
-        let _ = &self.effects;
         match self.machine(vm) {
             Some(machine) => Ok(Change::Acted {
                 vm,
@@ -93,7 +89,6 @@ impl Inventory {
         requires { IsTrue (is_disk_there self.now disk) }
         ensures { IfOk result (λ it. Leads self.now (Entry.Write (record { disk = disk; text = text.now })) it) }
     {
-        let _ = &self.effects;
         Ok(Change::Written {
             disk,
             text: text.copy(alloc)?,
@@ -105,7 +100,6 @@ impl Inventory {
         requires { IsTrue (is_vm_there self.now vm) }
         ensures { Leads self.now (Entry.Lost (record { vm = vm; whole = whole })) result }
     {
-        let _ = &self.effects;
         if whole {
             Change::NoVm(vm)
         } else {

@@ -1,0 +1,8 @@
+pub mod CloudView
+pub mod Fates
+pub mod Faults
+pub mod Loading
+pub mod Notes
+pub mod Performs
+pub mod Reads
+pub mod Runs

@@ -1,0 +1,40 @@
+-- What the bodies of a store say that was done to a cloud (this project's profile).
+use Rattle.std.specs.Prelude.{◌≡◌, ◌⊎◌, ℕ, Bool, true, false, if◌then◌else◌, List, [], ◌∷◌, ◌++◌, length, fold, Option, Some, None, Result, Ok, Err}
+use Rattle.std.specs.Option.{option_and_then}
+use Rattle.bosh_base.specs.declared.entry.Entry.{Entry}
+use Rattle.bosh_cloud.specs.CloudView.{CloudView}
+use Rattle.bosh_entry.specs.Body.{entry_of}
+use Rattle.bosh_inventory.specs.Happens.{happens}
+
+-- what a body says that was done, after what was done before: the entry that it spells, where that may be done then
+abbrev pub happening : List Entry → List ℕ → Option Entry
+happening before body = option_and_then (λ entry. if happens before entry then Some entry else None) (entry_of body)
+
+-- what was done with it, or the place of a body that says nothing
+abbrev pub done_with : List Entry → Option Entry → Result (List Entry) ℕ
+done_with before (Some entry) = Ok (before ++ entry ∷ [])
+done_with before None = Err (length before)
+
+-- one body more
+abbrev pub with_body : Result (List Entry) ℕ → List ℕ → Result (List Entry) ℕ
+with_body (Ok before) body = done_with before (happening before body)
+with_body (Err place) body = Err place
+
+-- what the bodies say that was done, in order; or the place of the first that says nothing, counted from 0
+abbrev pub loaded : List (List ℕ) → Result (List Entry) ℕ
+loaded bodies = fold with_body (Ok []) bodies
+
+-- the bodies say that this was done; where the store has failed since, they may say one thing more
+abbrev pub Tell : List (List ℕ) → Bool → List Entry → Type 0
+Tell bodies false effects = loaded bodies ≡ Ok effects
+Tell bodies true effects =
+    (loaded bodies ≡ Ok effects) ⊎ ((entry : Entry) × (loaded bodies ≡ Ok (effects ++ entry ∷ [])))
+
+-- the store tells its bodies, and they say what was done
+abbrev pub TellsAll : Option (List (List ℕ)) → Bool → List Entry → Type 0
+TellsAll (Some bodies) is_stale effects = Tell bodies is_stale effects
+TellsAll None is_stale effects = ⊥
+
+-- a load of the cloud's store finds what was done to the cloud
+abbrev pub IsKept : {L : Type 0} → (L → Option (List (List ℕ))) → CloudView L → Type 0
+IsKept bodies cloud = TellsAll (bodies cloud.store) cloud.is_stale cloud.effects

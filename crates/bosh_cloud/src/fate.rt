@@ -1,0 +1,74 @@
+ghost use Rattle.std.specs.Prelude.{◌≡◌};
+ghost use Rattle.bosh_cloud.specs.Fates.{decided, fates_after, matches, met, nearer};
+
+use bosh_base::{Method, Owner};
+
+/// What becomes of a call that fails.
+#[derive(Clone, Copy, Debug, PartialEq, Eq)]
+pub enum Fate {
+    /// It has no effect.
+    Lose,
+    /// It has its effect.
+    Late,
+}
+
+/// A fate that waits for its call.
+#[derive(Drop)]
+pub struct Doom {
+    pub method: Method,
+    /// Whose calls it waits for, or everybody's.
+    pub owner: Option<Owner>,
+    /// How many matching calls from now on its call is: 1 is the next one, and 0 a call of the past.
+    pub calls: u64,
+    pub fate: Fate,
+}
+
+impl Doom {
+    /// Whether a call is one that it waits for.
+    pub(crate) fn matches(&self, method: Method, owner: &Owner) -> bool
+        ensures { result ≡ matches method owner.now self.now }
+    {
+        self.method == method
+            && match &self.owner {
+                Some(whose) => whose == owner,
+                None => true,
+            }
+    }
+}
+
+/// The fate that decides on a call: the first that was set of those whose call it is.
+pub(crate) fn decided(dooms: &[Doom], method: Method, owner: &Owner) -> Option<Fate>
+    ensures { result ≡ decided method owner.now dooms.now }
+{
+    dooms
+        .iter()
+        .find(|doom| doom.calls == 1 && doom.matches(method, owner))
+        .map(|doom| doom.fate)
+}
+
+/// How many fates a call meets.
+pub(crate) fn met(dooms: &[Doom], method: Method, owner: &Owner) -> usize
+    ensures { result ≡ met method owner.now dooms.now }
+{
+    dooms
+        .iter()
+        .filter(|doom| doom.calls == 1 && doom.matches(method, owner))
+        .count()
+}
+
+/// A call that matches brings fates nearer. Those that it meets are spent.
+pub(crate) fn come_nearer(dooms: &mut Vec<Doom>, method: Method, owner: &Owner)
+    ensures { dooms.new.items ≡ fates_after method owner.now dooms.old.items }
+{
+    for doom in dooms.iter_mut() {
+        near(doom, method, owner);
+    }
+}
+
+fn near(doom: &mut Doom, method: Method, owner: &Owner)
+    ensures { doom.new ≡ nearer method owner.now doom.old }
+{
+    if doom.matches(method, owner) {
+        doom.calls = doom.calls.saturating_sub(1);
+    }
+}
