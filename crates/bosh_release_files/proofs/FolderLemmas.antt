@@ -16,28 +16,28 @@ use Rattle.std.proofs.lemmas.List.Sums.{fold-append}
 use Rattle.std.proofs.lemmas.Map.Text.{is_eq-slice_cmp}
 use denote.Ref.{Bor}
 use Rattle.bosh_release_files.specs.Files.{by_path, bytes_at, entry_of, folder_after, folder_of_files, folders_below, in_order}
-use Rattle.bosh_release_files.specs.Sources.{entry_seen, with_name}
+use Rattle.bosh_release_files.specs.Sources.{entry_seen, seen, with_name}
 use Rattle.bosh_release_files.specs.declared.folder.File.{File}
 
 -- an entry that is put into a map is put among those that are seen
 pub seen-insert :
-    (es : List (Bor (List ℕ) × Bor (List ℕ))) (key value : Bor (List ℕ))
-    → map entry_seen (insert_entry (λ a b. slice_cmp nat_cmp a.now b.now) es key value)
-    ≡ insert_entry (slice_cmp nat_cmp) (map entry_seen es) key.now value.now
-seen-insert [] key value = refl
-seen-insert (e ∷ es) key value = at (seen-insert es key value) (slice_cmp nat_cmp key.now e.0.now)
+    {A B : Type 0} (view : A → B) (es : List (Bor (List ℕ) × A)) (key : Bor (List ℕ)) (value : A)
+    → map (seen view) (insert_entry (λ a b. slice_cmp nat_cmp a.now b.now) es key value)
+    ≡ insert_entry (slice_cmp nat_cmp) (map (seen view) es) key.now (view value)
+seen-insert view [] key value = refl
+seen-insert view (e ∷ es) key value = at (seen-insert view es key value) (slice_cmp nat_cmp key.now e.0.now)
   where
     at :
-        map entry_seen (insert_entry (λ a b. slice_cmp nat_cmp a.now b.now) es key value)
-        ≡ insert_entry (slice_cmp nat_cmp) (map entry_seen es) key.now value.now
+        map (seen view) (insert_entry (λ a b. slice_cmp nat_cmp a.now b.now) es key value)
+        ≡ insert_entry (slice_cmp nat_cmp) (map (seen view) es) key.now (view value)
         → (o : Ordering)
-        → map entry_seen (match_ordering o ((key, value) ∷ e ∷ es) ((e.0, value) ∷ es)
+        → map (seen view) (match_ordering o ((key, value) ∷ e ∷ es) ((e.0, value) ∷ es)
         (e ∷ insert_entry (λ a b. slice_cmp nat_cmp a.now b.now) es key value))
-        ≡ match_ordering o ((key.now, value.now) ∷ map entry_seen (e ∷ es)) ((e.0.now, value.now) ∷ map entry_seen es)
-        (entry_seen e ∷ insert_entry (slice_cmp nat_cmp) (map entry_seen es) key.now value.now)
+        ≡ match_ordering o ((key.now, view value) ∷ map (seen view) (e ∷ es)) ((e.0.now, view value) ∷ map (seen view) es)
+        (seen view e ∷ insert_entry (slice_cmp nat_cmp) (map (seen view) es) key.now (view value))
     at below Less = refl
     at below Equal = refl
-    at below Greater = ap (λ more. entry_seen e ∷ more) below
+    at below Greater = ap (λ more. seen view e ∷ more) below
 
 -- what is looked up in a map is looked up among what is seen
 pub seen-lookup :

@@ -1,3 +1,6 @@
 mod EachLemmas
 mod FolderLemmas
+mod IndexLemmas
+mod OrderLemmas
 mod PathLemmas
+mod SpanLemmas

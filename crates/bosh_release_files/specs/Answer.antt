@@ -1,5 +1,5 @@
 -- Steps that may end with a fault, one after another, and what a call answers where memory may run out.
-use Rattle.std.specs.Prelude.{◌≡◌, ◌⊎◌, List, [], ◌∷◌, Option, Some, None, Result, Ok, Err}
+use Rattle.std.specs.Prelude.{◌≡◌, ◌⊎◌, Bool, true, List, [], ◌∷◌, Option, Some, None, Result, Ok, Err}
 use Rattle.bosh_release_files.specs.declared.fault.ReleaseFault.{ReleaseFault}
 use Rattle.bosh_release_files.specs.declared.fault.ReleaseFault.TheVariants.{Memory}
 
@@ -16,6 +16,13 @@ each step (a ∷ more) = do
   first ← step a
   others ← each step more
   Ok (first ∷ others)
+
+-- a test for each of several, in their order, up to the first fault
+abbrev pub check_each : {A : Type 0} → (A → Result Bool ReleaseFault) → List A → Result Bool ReleaseFault
+check_each test [] = Ok true
+check_each test (a ∷ more) = do
+  passed ← test a
+  check_each test more
 
 -- the value, or a fault where there is none
 abbrev pub or_fault : {A : Type 0} → ReleaseFault → Option A → Result A ReleaseFault

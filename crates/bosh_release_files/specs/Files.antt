@@ -66,6 +66,10 @@ digest_after front file = option_map (λ path. (path, digest_of file.bytes)) (af
 abbrev pub stamped_by : List ℕ × Digest → Stamped
 stamped_by it = record { name = it.0; digest = it.1 }
 
+-- the digests of the files below a front, by their paths in order
+abbrev pub digests_below : List ℕ → List File → List (List ℕ × Digest)
+digests_below front files = by_path (filter_map (digest_after front) files)
+
 -- the files below a front by their paths in order, each with the digest of its bytes
 abbrev pub files_below : List ℕ → List File → List Stamped
-files_below front files = map stamped_by (by_path (filter_map (digest_after front) files))
+files_below front files = map stamped_by (digests_below front files)

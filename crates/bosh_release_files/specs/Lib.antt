@@ -2,3 +2,4 @@ pub mod Answer
 pub mod Files
 pub mod Pattern
 pub mod Sources
+pub mod Span

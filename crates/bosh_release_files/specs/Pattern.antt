@@ -5,7 +5,7 @@ use Rattle.std.specs.List.{list_any}
 use Rattle.std.specs.Option.{option_map}
 use Rattle.std.specs.Str.{bytes_eq}
 use Rattle.bosh_listing.specs.Listing.{Stamped}
-use Rattle.bosh_release_files.specs.Answer.{◌>>=◌, each, or_fault}
+use Rattle.bosh_release_files.specs.Answer.{◌>>=◌, check_each, each, or_fault}
 use Rattle.bosh_release_files.specs.Files.{after}
 use Rattle.bosh_release_files.specs.declared.fault.ReleaseFault.{ReleaseFault}
 use Rattle.bosh_release_files.specs.declared.fault.ReleaseFault.TheVariants as faults
@@ -95,7 +95,7 @@ check_match sources pattern =
 abbrev pub patterns : List Stamped → List (List ℕ) → Result (List Pattern) ReleaseFault
 patterns sources texts = do
   good ← each read_pattern texts
-  matched ← each (check_match sources) good
+  matched ← check_each (check_match sources) good
   Ok good
 
 -- some pattern takes the path

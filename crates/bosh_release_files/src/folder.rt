@@ -72,10 +72,13 @@ fn add_name(
     ensures added { OnOk result (names.new.keys ≡ with_name names.old.keys (option_map (λ name. name.now) name.entry)) }
     ensures err { IfErr result (λ fault. fault ≡ Memory) }
 {
-    if let Some(name) = name {
-        names.insert(text_of(alloc, name)?)?;
+    match name {
+        Some(name) => {
+            names.insert(text_of(alloc, name)?)?;
+            Ok(())
+        }
+        None => Ok(()),
     }
-    Ok(())
 }
 
 fn names_below(

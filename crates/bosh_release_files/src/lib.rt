@@ -5,9 +5,13 @@ mod fault;
 mod folder;
 mod path;
 mod pattern;
+mod sources;
+mod span;
+mod taking;
 
 pub use fault::{
     ReleaseFault, cycle, limit, malformed_spec, missing, name_differs, unknown_package,
 };
 pub use folder::{File, Folder, folders_below};
 pub use pattern::{Form, Pattern};
+pub use sources::Sources;

@@ -20,7 +20,7 @@ loop-file-preserved c =
     let path_is : path.now ≡ (get_or files i file).path = c.as_slice.ensures ∙ ap (λ f. f.path) c.file-item.is in
     let bytes_are : bytes.now ≡ (get_or files i file).bytes = c.as_slice-in-loop-file.ensures ∙ ap (λ f. f.bytes) c.file-item.is in
     ap (map entry_seen) c.in_ok-insert.ensures.entries
-    ∙ seen-insert table path bytes
+    ∙ seen-insert (λ it. it.now) table path bytes
     ∙ ap (λ es. put es path.now bytes.now) c.loop-file.invariant
     ∙ ap (λ p. put (Rattle.bosh_release_files.specs.Files.folder_of_files (Rattle.std.proofs.Common.take i files)) p bytes.now) path_is
     ∙ ap (λ b. put (Rattle.bosh_release_files.specs.Files.folder_of_files (Rattle.std.proofs.Common.take i files)) (get_or files i file).path b) bytes_are
