@@ -48,11 +48,11 @@ fn add_name(hasher: &mut Sha256, name: &Name)
     add_line(hasher, name.as_bytes());
 }
 
-fn add_digest(hasher: &mut Sha256, word: &[u8], bytes: &[u8])
-    ensures { (fed : List ℕ) → Holds256 hasher.old fed → Holds256 hasher.new (fed ++ line (digest_line word.now (digest_of bytes.now))) }
+fn add_digest(hasher: &mut Sha256, word: &[u8], digest: &Digest)
+    ensures { (fed : List ℕ) → Holds256 hasher.old fed → Holds256 hasher.new (fed ++ line (digest_line word.now digest.now)) }
 {
     hasher.update(word);
-    add_hex(hasher, &fingerprint(bytes));
+    add_hex(hasher, digest);
     hasher.update(b"\n");
 }
 
@@ -107,11 +107,11 @@ fn add_files_and_deps(hasher: &mut Sha256, files: &[Stamp<'_>], deps: &[Stamp<'_
     add_deps(hasher, deps);
 }
 
-/// The fingerprint of a package: of its name, its script `packaging`, its files by path, and the packages that it needs
-/// by name.
+/// The fingerprint of a package: of its name, the digest of its script `packaging`, its files by path, and the packages
+/// that it needs by name.
 pub fn package_fingerprint(
     name: &Name,
-    script: &[u8],
+    script: &Digest,
     files: &[Stamp<'_>],
     deps: &[Stamp<'_>],
 ) -> Digest
@@ -125,8 +125,8 @@ pub fn package_fingerprint(
     Digest(hasher.finalize())
 }
 
-/// The fingerprint of a job: of its name, its file `spec`, its file `monit`, and its templates by source.
-pub fn job_fingerprint(name: &Name, spec: &[u8], monit: &[u8], templates: &[Stamp<'_>]) -> Digest
+/// The fingerprint of a job: of its name, the digests of its files `spec` and `monit`, and its templates by source.
+pub fn job_fingerprint(name: &Name, spec: &Digest, monit: &Digest, templates: &[Stamp<'_>]) -> Digest
     ensures { result ≡ digest_of (job_text (job_of name.now spec.now monit.now templates.now)) }
 {
     let mut hasher = Sha256::new();
