@@ -1,6 +1,6 @@
-mod EachLemmas
+pub mod EachLemmas
 mod FolderLemmas
-mod IndexLemmas
-mod OrderLemmas
+pub mod IndexLemmas
+pub mod OrderLemmas
 mod PathLemmas
 mod SpanLemmas

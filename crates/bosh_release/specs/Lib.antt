@@ -1,0 +1,3 @@
+pub mod Draft
+pub mod Spec
+pub mod Table

@@ -1,0 +1,11 @@
+//! The release that the files of a folder spell.
+#![tactic(auto)]
+
+mod draft;
+mod drafted_package;
+mod job;
+mod needs;
+mod reading;
+mod required;
+
+pub use bosh_release_files::{File, ReleaseFault};
