@@ -1,1 +1,3 @@
+mod FitLemmas
+mod PrintLemmas
 mod TableLemmas

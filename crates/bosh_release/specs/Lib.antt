@@ -1,3 +1,5 @@
+pub mod Collected
 pub mod Draft
+pub mod Prints
 pub mod Spec
 pub mod Table

@@ -1,11 +1,14 @@
 //! The release that the files of a folder spell.
 #![tactic(auto)]
 
+mod collecting;
 mod draft;
 mod drafted_package;
 mod job;
 mod needs;
+mod prints;
 mod reading;
 mod required;
 
+pub use collecting::collect;
 pub use bosh_release_files::{File, ReleaseFault};
