@@ -146,6 +146,7 @@ module _ (sources : List Stamped) (packages : List PackageDraft) (graph : List (
     where
       kept : (needs : List ℕ) → All (Contains done) needs → All (Contains (done ++ q ∷ [])) needs
       kept needs all = All-weaker (Contains done) (Contains (done ++ q ∷ [])) (λ n c. Contains-append_left done (q ∷ []) n c) needs all
+
       unchanged :
           (Contains done q → ⊥) → (needs : List ℕ) → All (Contains done) needs
           → All (λ n. print_at (set prints q print) n ≡ print_at prints n) needs

@@ -79,6 +79,7 @@ among_more (first ∷ names) name q = at (among_more names name q) (bytes_eq q f
             ≡ cond {A = Option ℕ} t (Some (suc (length names))) None
         last true = refl
         last false = refl
+
     at :
         place_among (names ++ name ∷ []) q ≡ place_with (place_among names q) name (length names) q → (t : Bool)
         → cond {A = Option ℕ} t (Some 0) (option_map suc (place_among (names ++ name ∷ []) q))

@@ -51,9 +51,9 @@ print_of sources packages prints pack needs = digest_of (package_text (listing_o
 pub record ArePrints (sources : List Stamped) (packages : List PackageDraft) (graph : List (List ℕ)) (prints : List Digest) : Type 0 where
   pub same_length : length prints ≡ length packages
   pub each :
-    (place : ℕ) (d : PackageDraft) → place < length packages
-    → print_at prints place
-    ≡ print_of sources packages prints (slice_index_or packages place d) (needs_of graph place)
+      (place : ℕ) (d : PackageDraft) → place < length packages
+      → print_at prints place
+      ≡ print_of sources packages prints (slice_index_or packages place d) (needs_of graph place)
 
 -- ---- the release
 

@@ -17,5 +17,5 @@ pub record ArePrintsOf (sources : List Stamped) (packages : List PackageDraft) (
   pub same_length : length prints ≡ length packages
   pub closed : (place : ℕ) → Contains done place → All (Contains done) (needs_of graph place)
   pub each :
-    (place : ℕ) (d : PackageDraft) → Contains done place
-    → print_at prints place ≡ print_of sources packages prints (slice_index_or packages place d) (needs_of graph place)
+      (place : ℕ) (d : PackageDraft) → Contains done place
+      → print_at prints place ≡ print_of sources packages prints (slice_index_or packages place d) (needs_of graph place)

@@ -16,7 +16,9 @@ use bosh_release_order::{Order, order_of};
 use std::alloc::Global;
 
 const MAX_JOBS: usize = 256;
+
 const MAX_PACKAGES: usize = 256;
+
 const MAX_FILES: usize = 4096;
 
 fn check_limits(alloc: Global, files: &[File], draft: &Draft) -> Result<(), ReleaseFault>

@@ -46,11 +46,7 @@ fn each_job(
     Ok(Seq::from(jobs))
 }
 
-fn jobs_of(
-    alloc: Global,
-    folder: &Folder<'_>,
-    files: &[File],
-) -> Result<Seq<JobSpec>, ReleaseFault>
+fn jobs_of(alloc: Global, folder: &Folder<'_>, files: &[File]) -> Result<Seq<JobSpec>, ReleaseFault>
     ensures { IsAnswer result (jobs_of folder.now files.now) }
 {
     let names = folders_below(alloc, b"jobs/", files)?;

@@ -43,6 +43,7 @@ fn package_files<'a>(
 }
 
 /// The package of a folder in `packages/`.
+// Dear to prove: what the spec says is alive where the name differs, or a pattern is none.
 #[tactic(auto, unfolding(crate::specs::Draft::package_of))]
 pub(crate) fn package_of(
     alloc: Global,

@@ -74,10 +74,7 @@ fn templates_in(
     Ok(Seq::from(templates))
 }
 
-fn stamps_of<'a>(
-    alloc: Global,
-    templates: &'a [TemplateSpec],
-) -> Result<Vec<Stamp<'a>>, AllocError>
+fn stamps_of<'a>(alloc: Global, templates: &'a [TemplateSpec]) -> Result<Vec<Stamp<'a>>, AllocError>
     ensures { IfOk result (λ stamps. map stamp_seen stamps.items ≡ map stamped templates.now) }
 {
     let mut stamps = Vec::new(alloc);
@@ -139,6 +136,7 @@ fn job_files<'a>(
 }
 
 /// The job of a folder in `jobs/`.
+// Dear to prove: what the spec says is alive where a template is missing, or the name differs.
 #[tactic(auto, unfolding(crate::specs::Draft::job_of))]
 pub(crate) fn job_of(
     alloc: Global,

@@ -10,5 +10,5 @@ mod prints;
 mod reading;
 mod required;
 
-pub use collecting::collect;
 pub use bosh_release_files::{File, ReleaseFault};
+pub use collecting::collect;

@@ -14,11 +14,7 @@ use std::collections::BTreeMap;
 /// The place of each package by its name.
 type Table<'a> = BTreeMap<&'a [u8], usize>;
 
-fn add_place<'a>(
-    name: &'a [u8],
-    place: usize,
-    table: &mut Table<'a>,
-) -> Result<(), ReleaseFault>
+fn add_place<'a>(name: &'a [u8], place: usize, table: &mut Table<'a>) -> Result<(), ReleaseFault>
     ensures added { OnOk result ((q : List ℕ) → place_in table.new q ≡ place_with (place_in table.old q) name.now place q) }
     ensures err { IfErr result (λ fault. fault ≡ Memory) }
 {
@@ -50,11 +46,7 @@ fn place_of(alloc: Global, table: &Table<'_>, name: &Name) -> Result<usize, Rele
     }
 }
 
-fn places_of(
-    alloc: Global,
-    table: &Table<'_>,
-    needs: &[Name],
-) -> Result<Seq<usize>, ReleaseFault>
+fn places_of(alloc: Global, table: &Table<'_>, needs: &[Name]) -> Result<Seq<usize>, ReleaseFault>
     ensures { (names : List (List ℕ)) → IsTable names table.now → IsAnswer result (places_of names needs.now) }
 {
     let mut places = Vec::new(alloc);

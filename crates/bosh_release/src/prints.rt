@@ -117,7 +117,14 @@ fn print_at(
 {
     let packages = draft.packages.as_slice();
     let needs = &draft.needs.as_slice()[place];
-    print_of(alloc, sources, packages, prints, &packages[place], needs.as_slice())
+    print_of(
+        alloc,
+        sources,
+        packages,
+        prints,
+        &packages[place],
+        needs.as_slice(),
+    )
 }
 
 /// The fingerprints of all packages, each of which stands in the order after those that it needs.

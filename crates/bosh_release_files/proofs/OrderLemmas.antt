@@ -45,7 +45,7 @@ in_order-insert (e ∷ es) key value h = at (in_order-insert es key value h.1) (
         → IsInOrder (keys_of (match_ordering o ((key, value) ∷ e ∷ es) ((e.0, value) ∷ es) (e ∷ insert_entry compare es key value)))
     at below Less is = (
       All-cons (Follows key) e.0 (keys_of es) is
-      (All-weaker (Follows e.0) (Follows key) (λ later more. less_trans key e.0 later is more) (keys_of es) h.0),
+          (All-weaker (Follows e.0) (Follows key) (λ later more. less_trans key e.0 later is more) (keys_of es) h.0),
       h,
     )
     at below Equal is = h

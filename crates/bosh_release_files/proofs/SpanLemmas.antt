@@ -39,29 +39,29 @@ pub spanned :
     → IsSpan files (λ path. is_some (after front path)) span
 spanned files front span bound starts ends = record { within = bound; exact = at }
   where
-  at :
-    (place : ℕ) (d : Stamp) → place < length files
-    → is_some (after front (path_of (get_or files place d))) ≡ is_within span place
-  at place d within =
-    let path = path_of (get_or files place d) in
-    ⊎_elim
-    (λ (early : place < span.start).
-    let test : leb span.start place ≡ false = grind (arith, nat_tests) in
-    not_begins front path (starts.0 place d (omega arith) early) ∙ rw test refl)
-    (λ (late : span.start ≤ place).
-    let test : leb span.start place ≡ true = grind (arith, nat_tests) in
-    let behind : comes_before front path ≡ false = starts.1 place d late within in
-    ⊎_elim
-    (λ (low : place < span.end).
-    let other : ltb place span.end ≡ true = grind (arith, nat_tests) in
-    sym (apart (comes_before front path) (is_some (after front path)) behind)
-    ∙ ends.0 place d (omega arith) low ∙ rw (test, other) refl)
-    (λ (high : span.end ≤ place).
-    let other : ltb place span.end ≡ false = grind (arith, nat_tests) in
-    nothing_left (comes_before front path) (is_some (after front path)) (ends.1 place d high within)
-    ∙ rw (test, other) refl)
-    (cases_lt place span.end))
-    (cases_lt place span.start)
+    at :
+        (place : ℕ) (d : Stamp) → place < length files
+        → is_some (after front (path_of (get_or files place d))) ≡ is_within span place
+    at place d within =
+        let path = path_of (get_or files place d) in
+        ⊎_elim
+        (λ (early : place < span.start).
+        let test : leb span.start place ≡ false = grind (arith, nat_tests) in
+        not_begins front path (starts.0 place d (omega arith) early) ∙ rw test refl)
+        (λ (late : span.start ≤ place).
+        let test : leb span.start place ≡ true = grind (arith, nat_tests) in
+        let behind : comes_before front path ≡ false = starts.1 place d late within in
+        ⊎_elim
+        (λ (low : place < span.end).
+        let other : ltb place span.end ≡ true = grind (arith, nat_tests) in
+        sym (apart (comes_before front path) (is_some (after front path)) behind)
+        ∙ ends.0 place d (omega arith) low ∙ rw (test, other) refl)
+        (λ (high : span.end ≤ place).
+        let other : ltb place span.end ≡ false = grind (arith, nat_tests) in
+        nothing_left (comes_before front path) (is_some (after front path)) (ends.1 place d high within)
+        ∙ rw (test, other) refl)
+        (cases_lt place span.end))
+        (cases_lt place span.start)
 
 -- a span that has places has files that pass
 pub span_matches :

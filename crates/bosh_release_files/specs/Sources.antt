@@ -67,5 +67,5 @@ is_within span place = nat_le span.start place && nat_lt place span.end
 pub record IsSpan (files : List Stamp) (test : List ℕ → Bool) (span : Span) : Type 0 where
   pub within : span.end ≤ length files
   pub exact :
-    (place : ℕ) (d : Stamp) → place < length files
-    → test (path_of (slice_index_or files place d)) ≡ is_within span place
+      (place : ℕ) (d : Stamp) → place < length files
+      → test (path_of (slice_index_or files place d)) ≡ is_within span place

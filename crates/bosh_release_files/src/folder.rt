@@ -81,11 +81,7 @@ fn add_name(
     }
 }
 
-fn names_below(
-    alloc: Global,
-    front: &[u8],
-    files: &[File],
-) -> Result<BTreeSet<Text>, ReleaseFault>
+fn names_below(alloc: Global, front: &[u8], files: &[File]) -> Result<BTreeSet<Text>, ReleaseFault>
     ensures names { IfOk result (λ names. names.keys ≡ folders_below front.now files.now) }
     ensures err { IfErr result (λ fault. fault ≡ Memory) }
 {
@@ -97,11 +93,7 @@ fn names_below(
 }
 
 /// The names of the folders below a front, as `jobs/`, in order.
-pub fn folders_below(
-    alloc: Global,
-    front: &[u8],
-    files: &[File],
-) -> Result<Seq<Text>, ReleaseFault>
+pub fn folders_below(alloc: Global, front: &[u8], files: &[File]) -> Result<Seq<Text>, ReleaseFault>
     ensures names { IfOk result (λ names. names ≡ folders_below front.now files.now) }
     ensures err { IfErr result (λ fault. fault ≡ Memory) }
 {

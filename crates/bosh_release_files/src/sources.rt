@@ -101,10 +101,7 @@ fn stamps_of<'a>(
     Ok(files)
 }
 
-fn paths_of<'a>(
-    alloc: Global,
-    files: &[Stamp<'a>],
-) -> Result<BTreeSet<&'a [u8]>, ReleaseFault>
+fn paths_of<'a>(alloc: Global, files: &[Stamp<'a>]) -> Result<BTreeSet<&'a [u8]>, ReleaseFault>
     ensures paths { IfOk result (λ paths. (q : List ℕ) → has paths q ≡ list_any (λ file. bytes_eq q (path_of file)) files.now) }
     ensures err { IfErr result (λ fault. fault ≡ Memory) }
 {
@@ -133,10 +130,7 @@ pub(crate) fn add_text<'a>(
 }
 
 // The folders in which files lie.
-fn folders_of<'a>(
-    alloc: Global,
-    files: &[Stamp<'a>],
-) -> Result<BTreeSet<&'a [u8]>, ReleaseFault>
+fn folders_of<'a>(alloc: Global, files: &[Stamp<'a>]) -> Result<BTreeSet<&'a [u8]>, ReleaseFault>
     ensures folders { IfOk result (λ folders. (q : List ℕ) → has folders q ≡ list_any (λ file. lies_in q (path_of file)) files.now) }
     ensures err { IfErr result (λ fault. fault ≡ Memory) }
 {

@@ -35,11 +35,7 @@ fn is_taken(patterns: &[Pattern], path: &[u8]) -> bool
     patterns.iter().any(|pattern| takes(&pattern.form, path))
 }
 
-fn add_if<'a>(
-    test: bool,
-    file: Stamp<'a>,
-    files: &mut Vec<Stamp<'a>>,
-) -> Result<(), ReleaseFault>
+fn add_if<'a>(test: bool, file: Stamp<'a>, files: &mut Vec<Stamp<'a>>) -> Result<(), ReleaseFault>
     ensures added { OnOk result (map stamped files.new.items
         ≡ map stamped files.old.items ++ (if test then stamped file.entry ∷ [] else [])) }
     ensures err { IfErr result (λ fault. fault ≡ Memory) }

@@ -147,10 +147,12 @@ module _ (graph : Graph) (ranks sorted : List Ranked) (well : IsGraph graph)
   sorted_is_order = record {
     all = λ place low.
         let found = at_place place low in
-        let is = are.each place some_ranked low in
-        (found.0, (let n = length-map sorted (λ (it : Ranked). it.place) in let lt = found.1 in omega arith),
-        place-of found.0 place some_ranked found.1
-        ∙ ap (λ (r : Ranked). r.place) (get_or_default sorted found.0 some_ranked (get_or ranks place some_ranked) found.1 ∙ found.2) ∙ is.0);
+        let is = are.each place some_ranked low in (
+          found.0,
+          (let n = length-map sorted (λ (it : Ranked). it.place) in let lt = found.1 in omega arith),
+          place-of found.0 place some_ranked found.1
+              ∙ ap (λ (r : Ranked). r.place) (get_or_default sorted found.0 some_ranked (get_or ranks place some_ranked) found.1 ∙ found.2) ∙ is.0,
+        );
     within = All-map (λ place. place < length graph) (λ (it : Ranked). it.place) sorted
         (λ k d lt. (All-get_or (Fits graph) sorted k d lt sorted_fit).within);
     after = λ k d lt.
@@ -194,6 +196,7 @@ ranks_more graph ranks new n rank are is here = record {
   where
     it : Ranked
     it = record { rank = rank; place = n }
+
     at : (k : ℕ) (d : Ranked) → k < n + 1 → ((get_or new k d).place ≡ k) × IsRank graph k (get_or new k d).rank
     at k d lt =
         subst (λ rs. ((get_or rs k d).place ≡ k) × IsRank graph k (get_or rs k d).rank) (sym is)

@@ -63,12 +63,14 @@ notes_new need found work within new = record {
         (λ (it : place ≡ need). subst (IsFound (set found need true)) (sym it) (get_or-set_same found need true false within))
         (λ (other : place ≡ need → ⊥). get_or-set_other found need place true false other ∙ h)
         (cases_eq place need)
+
     either : (place : ℕ) → IsFound (set found need true) place → IsFound found place ⊎ (place ≡ need)
     either place h =
         ⊎_elim
         (λ (it : place ≡ need). inr it)
         (λ (other : place ≡ need → ⊥). inl (sym (get_or-set_other found need place true false other) ∙ h))
         (cases_eq place need)
+
     turns : work_left (set found need true) (work ++ need ∷ []) ≤ work_left found work
     turns =
         let sums = sum_by-set turns_of found need true false within in
@@ -129,6 +131,7 @@ search_start graph place found0 found work well within start notes = record {
         (λ (high : length graph ≤ o).
         get_or_past (replicate (length graph) false) o false (let e = length-replicate (length graph) false in omega arith))
         (cases_lt o (length graph))
+
     unfound : (o : ℕ) → IsFound found0 o → ⊥
     unfound o h =
         let no : true ≡ false = sym h ∙ ap (λ (f : List Bool). get_or f o false) start ∙ never o in
@@ -175,12 +178,16 @@ search_turn graph place at found0 found work0 work1 work well s popped notes = r
   where
     kept : (other : ℕ) → Contains work1 other → Contains work0 other
     kept other c = subst (λ ws. Contains ws other) (sym popped) (Contains-append_left work1 (at ∷ []) other c)
+
     at_work : Contains work0 at
     at_work = subst (λ ws. Contains ws at) (sym popped) (Contains-push work1 at)
+
     at_found : IsFound found0 at
     at_found = s.work_found at at_work
+
     at_within : at < length graph
     at_within = All-contains (λ o. o < length graph) work0 at s.work_within at_work
+
     needs_within : All (λ o. o < length graph) (needs_of graph at)
     needs_within = All-get_or (λ needs. All (λ o. o < length graph) needs) graph at [] at_within well
 

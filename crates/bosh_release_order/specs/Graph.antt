@@ -34,4 +34,4 @@ pub record IsOrder (graph : Graph) (places : List ℕ) : Type 0 where
   pub all : (place : ℕ) → place < length graph → Contains places place
   pub within : All (λ place. place < length graph) places
   pub after :
-    (k d : ℕ) → k < length places → All (Contains (take k places)) (needs_of graph (slice_index_or places k d))
+      (k d : ℕ) → k < length places → All (Contains (take k places)) (needs_of graph (slice_index_or places k d))

@@ -57,8 +57,8 @@ IsRankAt graph place None = Reaches graph place place
 pub record AreRanks (graph : Graph) (ranks : List Ranked) (n : ℕ) : Type 0 where
   pub same_length : length ranks ≡ n
   pub each :
-    (k : ℕ) (d : Ranked) → k < n
-    → ((slice_index_or ranks k d).place ≡ k) × IsRank graph k (slice_index_or ranks k d).rank
+      (k : ℕ) (d : Ranked) → k < n
+      → ((slice_index_or ranks k d).place ≡ k) × IsRank graph k (slice_index_or ranks k d).rank
 
 abbrev pub IsRanked : Graph → Ranking → Type 0
 IsRanked graph (rankings.Whole ranks) = AreRanks graph ranks (length graph)

@@ -6,11 +6,7 @@ ghost use Rattle.bosh_release_order.specs.Search.{IsReach, Notes};
 use bosh_base::Seq;
 use std::alloc::{AllocError, Global};
 
-fn note_one(
-    need: usize,
-    found: &mut Vec<bool>,
-    work: &mut Vec<usize>,
-) -> Result<(), AllocError>
+fn note_one(need: usize, found: &mut Vec<bool>, work: &mut Vec<usize>) -> Result<(), AllocError>
     requires { need < length found.old.items }
     ensures { OnOk result (Notes (need ∷ []) found.old.items work.old.items found.new.items work.new.items) }
 {
@@ -22,11 +18,7 @@ fn note_one(
     Ok(())
 }
 
-fn note(
-    needs: &[usize],
-    found: &mut Vec<bool>,
-    work: &mut Vec<usize>,
-) -> Result<(), AllocError>
+fn note(needs: &[usize], found: &mut Vec<bool>, work: &mut Vec<usize>) -> Result<(), AllocError>
     requires { All (λ need. need < length found.old.items) needs.now }
     ensures { OnOk result (Notes needs.now found.old.items work.old.items found.new.items work.new.items) }
 {
