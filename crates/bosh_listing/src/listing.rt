@@ -126,7 +126,12 @@ pub fn package_fingerprint(
 }
 
 /// The fingerprint of a job: of its name, the digests of its files `spec` and `monit`, and its templates by source.
-pub fn job_fingerprint(name: &Name, spec: &Digest, monit: &Digest, templates: &[Stamp<'_>]) -> Digest
+pub fn job_fingerprint(
+    name: &Name,
+    spec: &Digest,
+    monit: &Digest,
+    templates: &[Stamp<'_>],
+) -> Digest
     ensures { result ≡ digest_of (job_text (job_of name.now spec.now monit.now templates.now)) }
 {
     let mut hasher = Sha256::new();

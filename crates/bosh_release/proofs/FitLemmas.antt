@@ -1,17 +1,17 @@
 -- A draft's needs are packages; and the specs of its packages.
-use Rattle.std.proofs.Common.{◌≡◌, ◌⊎◌, ⊎_elim, ◌∙◌, ap, refl, sym, subst, arith, ℕ, zero, suc, ◌+◌, ◌<◌, ◌≤◌, Bool, true, false, cond, List, [], ◌∷◌, ◌++◌, Option, Some, None, Result, Ok, Err, length, get_or, take, map, add-one}
+use Rattle.std.proofs.Common.{◌≡◌, ◌⊎◌, ⊎_elim, ◌∙◌, ap, refl, sym, subst, arith, ℕ, zero, suc, ◌+◌, ◌<◌, ◌≤◌, Bool, true, false, cond, List, [], ◌∷◌, ◌++◌, Option, Some, None, Result, Ok, Err, length, get_or, take, add-one}
 use Rattle.std.specs.List.{All, Contains}
 use Rattle.std.specs.Option.{option_map}
 use Rattle.std.specs.Str.{bytes_eq}
 use Rattle.std.proofs.lemmas.Bool.{cases_lt}
 use Rattle.std.proofs.lemmas.List.{get_or_past, length-map}
-use Rattle.std.proofs.lemmas.List.Elements.{All-cons, All-nil, All-weaker}
+use Rattle.std.proofs.lemmas.List.Elements.{All-cons, All-nil}
 use Rattle.bosh_base.specs.declared.digest.Digest.{Digest}
 use Rattle.bosh_base.specs.declared.release.JobSpec.{JobSpec}
 use Rattle.bosh_base.specs.declared.release.PackageSpec.{PackageSpec}
 use Rattle.bosh_base.specs.declared.release.Release.{Release}
 use Rattle.bosh_release.specs.Collected.{AnswersDraft, IsDraftFault, exceeded, name_at, package_spec, package_specs, within_limits}
-use Rattle.bosh_release.specs.Draft.{check_job, drafted, graph_of, jobs_and_packages, named, needs_of, package_names, place_among, place_of, places_of, with_needs}
+use Rattle.bosh_release.specs.Draft.{check_job, drafted, graph_of, jobs_and_packages, named, needs_of, package_names, place_among, place_of, with_needs}
 use Rattle.bosh_release.specs.Prints.{IsFit}
 use Rattle.bosh_release.specs.declared.draft.Draft.{Draft}
 use Rattle.bosh_release.specs.declared.drafted_package.PackageDraft.{PackageDraft}

@@ -1,6 +1,6 @@
 -- What the files of a folder say of a release, before its packages have fingerprints: the jobs and packages by name,
 -- each whole or with its first fault (bosh.io, "Jobs", "Packages").
-use Rattle.std.specs.Prelude.{ℕ, suc, Bool, true, List, [], ◌∷◌, ◌++◌, Option, Some, None, Result, Ok, Err, codes, map, if◌then◌else◌}
+use Rattle.std.specs.Prelude.{ℕ, suc, Bool, true, List, [], ◌∷◌, ◌++◌, Option, Some, None, Result, Ok, codes, map, if◌then◌else◌}
 use Rattle.std.specs.Option.{option_map}
 use Rattle.std.specs.Str.{bytes_eq}
 use Rattle.bosh_base.specs.declared.release.JobSpec.{JobSpec}

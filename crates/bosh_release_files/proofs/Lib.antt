@@ -4,3 +4,4 @@ pub mod IndexLemmas
 pub mod OrderLemmas
 mod PathLemmas
 mod SpanLemmas
+mod TakingLemmas

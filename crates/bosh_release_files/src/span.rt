@@ -2,9 +2,10 @@
 ghost use Rattle.std.specs.Prelude.{◌≡◌, ◌≤◌, true, false, is_some, length, map};
 ghost use Rattle.std.specs.List.Sorted.{IsPartitionPoint};
 ghost use Rattle.bosh_release_files.specs.Files.{after};
-ghost use Rattle.bosh_release_files.specs.Sources.{IsInOrder, IsSpan, path_of};
+ghost use Rattle.bosh_release_files.specs.Sources.{IsInOrder, IsSpan, path_of, spans};
 ghost use Rattle.bosh_release_files.specs.Span.{comes_before, comes_up_to};
 
+use crate::Form;
 use crate::path::after;
 use bosh_listing::Stamp;
 
@@ -53,4 +54,20 @@ pub(crate) fn span_below(files: &[Stamp<'_>], front: &[u8]) -> Span
     let start = first_not_before(files, front);
     let end = first_behind(files, front);
     Span { start, end }
+}
+
+/// The files that a pattern takes, where it takes them beside one another.
+pub(crate) fn span_of(files: &[Stamp<'_>], form: &Form) -> Span
+    requires { IsInOrder (map path_of files.now) }
+    ensures { IsSpan files.now (spans form.now) result }
+{
+    match form {
+        Form::Every => Span {
+            start: 0,
+            end: files.len(),
+        },
+        Form::Below(front) => span_below(files, front.as_slice()),
+        Form::In(_) => Span { start: 0, end: 0 },
+        Form::Exact(_) => Span { start: 0, end: 0 },
+    }
 }

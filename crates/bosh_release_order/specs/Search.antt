@@ -1,5 +1,5 @@
 -- How the places that one needs are searched for.
-use Rattle.std.specs.Prelude.{◌≡◌, ◌↔◌, ◌⊎◌, ℕ, ◌+◌, ◌<◌, ◌≤◌, Bool, true, false, List, [], Option, Some, None, All, Contains, count_by, length, slice_index_or, sum_by, if◌then◌else◌}
+use Rattle.std.specs.Prelude.{◌≡◌, ◌↔◌, ◌⊎◌, ℕ, ◌+◌, ◌<◌, ◌≤◌, Bool, true, false, List, Option, Some, None, All, Contains, count_by, length, slice_index_or, sum_by, if◌then◌else◌}
 use Rattle.bosh_release_order.specs.Graph.{Graph, HasNoCycle, IsFirstOnCycle, IsOrder, Reaches, needs_of}
 use Rattle.bosh_release_order.specs.declared.order.Order.{Order}
 use Rattle.bosh_release_order.specs.declared.order.Order.TheVariants.{Whole, Cycle}

@@ -1,4 +1,4 @@
-use Rattle.std.proofs.Common.{◌∙◌, ap, is_some, sym}
+use Rattle.std.proofs.Common.{◌∙◌, sym}
 use Rattle.bosh_release.proofs.TableLemmas.{place_added}
 use Rattle.bosh_release.proofs.needs.add_place.Goals as goal
 

@@ -1,4 +1,4 @@
-use Rattle.std.proofs.Common.{◌≡◌, ◌∙◌, ap, List, ℕ, map, subst, sym, length}
+use Rattle.std.proofs.Common.{◌≡◌, ◌∙◌, ap, List, map, subst, sym, length}
 use Rattle.std.specs.List.Sorted.{IsPermutation}
 use Rattle.std.proofs.lemmas.Result.{IfOk-weaker}
 use Rattle.bosh_release_order.specs.Graph.{Graph, IsGraph, IsOrder}

@@ -1,6 +1,6 @@
 use Rattle.std.proofs.Common.{subst}
 use Rattle.bosh_release_order.specs.Search.{IsRankAt}
-use Rattle.bosh_release_order.proofs.OrderLemmas.{first_of, ranks_more}
+use Rattle.bosh_release_order.proofs.OrderLemmas.{first_of}
 use Rattle.bosh_release_order.proofs.order.ranks_of.Goals as goal
 
 pub returns-in-None : goal.returns-in-None

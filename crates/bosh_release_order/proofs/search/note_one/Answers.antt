@@ -1,4 +1,4 @@
-use Rattle.std.proofs.Common.{◌∙◌, ◌∷◌, ◌++◌, [], ap, sym, subst, List, ℕ, Bool, false, true, set}
+use Rattle.std.proofs.Common.{◌∙◌, ◌∷◌, [], sym, subst, false, true, set}
 use Rattle.std.proofs.lemmas.List.{get_or_default}
 use Rattle.bosh_release_order.specs.Search.{Notes}
 use Rattle.bosh_release_order.proofs.SearchLemmas.{notes_known, notes_new}

@@ -1,8 +1,8 @@
 -- One place more is looked at, until none is left.
-use Rattle.std.proofs.Common.{◌≡◌, ◌∙◌, ap, sym, subst, ℕ, ◌-◌, ◌<◌, Bool, List, [], ◌++◌, get_or, length, take}
+use Rattle.std.proofs.Common.{◌≡◌, ◌∙◌, ap, subst, ℕ, ◌-◌, ◌<◌, List, [], ◌++◌, length, take}
 use Rattle.std.proofs.lemmas.List.{get_or_default}
 use Rattle.bosh_release_order.specs.Graph.{needs_of}
-use Rattle.bosh_release_order.specs.Search.{IsSearch, Notes}
+use Rattle.bosh_release_order.specs.Search.{Notes}
 use Rattle.bosh_release_order.proofs.SearchLemmas.{popped_within, search_end, search_start, search_turn}
 use Rattle.bosh_release_order.proofs.search.reach.Goals as goal
 
