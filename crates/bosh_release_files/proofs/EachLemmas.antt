@@ -1,5 +1,5 @@
 -- Steps for several things, one after another.
-use Rattle.std.proofs.Common.{◌≡◌, ◌∙◌, ap, refl, sym, ℕ, ◌+◌, ◌<◌, List, [], ◌∷◌, ◌++◌, Result, Ok, Err, length, get_or, drop, append_assoc, add-one, drop-cons}
+use Rattle.std.proofs.Common.{◌≡◌, ap, refl, sym, ℕ, ◌+◌, ◌<◌, List, [], ◌∷◌, ◌++◌, Result, Ok, Err, length, get_or, drop, append_assoc, add-one, drop-cons}
 use Rattle.bosh_release_files.specs.Answer.{◌>>=◌, each}
 use Rattle.bosh_release_files.specs.declared.fault.ReleaseFault.{ReleaseFault}
 

@@ -1,5 +1,5 @@
 -- The files below a front, and what is looked up in them.
-use Rattle.std.proofs.Common.{◌≡◌, ◌⊎◌, ⊎_elim, ◌∙◌, ap, refl, sym, arith, ℕ, zero, suc, ◌+◌, ◌<◌, ◌≤◌, ◌||◌, Bool, true, false, cond, List, [], ◌∷◌, ◌++◌, Option, Some, None, Result, Ok, length, get_or, take, drop, map, append-nil, add-one, drop-cons}
+use Rattle.std.proofs.Common.{◌≡◌, ◌∙◌, ap, refl, sym, arith, ℕ, ◌+◌, ◌<◌, ◌≤◌, ◌||◌, Bool, true, false, cond, List, [], ◌∷◌, ◌++◌, Option, Some, None, Result, length, get_or, take, drop, map, append-nil, add-one, drop-cons}
 use Rattle.std.proofs.Math.Bool.{or_comm}
 use Rattle.std.specs.BTreeMap.{insert_entry}
 use Rattle.std.specs.BTreeSet.{BTreeSet, Updates}
@@ -23,7 +23,7 @@ use Rattle.bosh_listing.specs.declared.listing.Stamp.{Stamp}
 use Rattle.bosh_release_files.specs.Answer.{◌>>=◌, check_each}
 use Rattle.bosh_release_files.specs.Files.{by_path, digest_after, digests_below, stamped_by}
 use Rattle.bosh_release_files.specs.Pattern.{folder_of, is_taken, is_that, lies_in, matches, taken, takes}
-use Rattle.bosh_release_files.specs.Sources.{AddsText, IsInOrder, digest_seen, has, path_of, with_file}
+use Rattle.bosh_release_files.specs.Sources.{AddsText, IsInOrder, has, path_of, with_file}
 use Rattle.bosh_release_files.specs.declared.fault.ReleaseFault.{ReleaseFault}
 use Rattle.bosh_release_files.specs.declared.folder.File.{File}
 use Rattle.bosh_release_files.specs.declared.pattern.Form.{Form}

@@ -1,6 +1,5 @@
 -- The files that begin with a front stand between two places.
-use Rattle.std.proofs.Common.{◌≡◌, ◌⊎◌, ⊎_elim, ◌∙◌, ap, refl, sym, arith, ℕ, ◌<◌, ◌≤◌, ◌||◌, ◌&&◌, Bool, true, false, List, [], length, get_or, map, is_some, leb, ltb}
-use Rattle.std.specs.List.{AllWithin}
+use Rattle.std.proofs.Common.{◌≡◌, ⊎_elim, ◌∙◌, refl, sym, arith, ℕ, ◌<◌, ◌≤◌, ◌||◌, Bool, true, false, List, [], length, get_or, is_some, leb, ltb}
 use Rattle.std.specs.List.Sorted.{IsPartitionPoint}
 use Rattle.std.specs.List.{list_any}
 use Rattle.std.proofs.lemmas.Bool.{cases_lt}

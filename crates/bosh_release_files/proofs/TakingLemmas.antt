@@ -1,5 +1,5 @@
 -- Which files patterns take.
-use Rattle.std.proofs.Common.{◌≡◌, ◌≢◌, ◌⊎◌, ⊎_elim, inl, inr, ◌∙◌, ap, refl, sym, subst, arith, ℕ, zero, suc, ◌+◌, ◌<◌, ◌≤◌, ◌||◌, ◌&&◌, Bool, true, false, cond, List, [], ◌∷◌, ◌++◌, Option, Some, None, length, length-append, get_or, set, take, map, max, replicate, leb, ltb}
+use Rattle.std.proofs.Common.{◌≡◌, ⊎_elim, ◌∙◌, ap, refl, sym, arith, ℕ, zero, suc, ◌+◌, ◌<◌, ◌≤◌, ◌||◌, ◌&&◌, Bool, true, false, List, [], ◌∷◌, ◌++◌, Option, Some, None, length, length-append, get_or, set, take, max, replicate, leb, ltb}
 use Rattle.std.specs.BTreeSet.{BTreeSet}
 use Rattle.std.specs.List.{list_any}
 use Rattle.std.proofs.lemmas.Bool.{cases_lt}
@@ -12,7 +12,7 @@ use Rattle.std.proofs.lemmas.List.Folds.{list_any_none}
 use denote.Ref.{Bor}
 use Rattle.bosh_listing.specs.declared.listing.Stamp.{Stamp}
 use Rattle.bosh_release_files.specs.Pattern.{folder_of, is_taken, is_that, lies_in, takes}
-use Rattle.bosh_release_files.specs.Sources.{AddsSpan, AddsText, AreReached, IsReach, IsSpan, exact_text, folder_text, has, is_one, is_reached, is_within, lies_in_some, path_of, spans}
+use Rattle.bosh_release_files.specs.Sources.{AddsSpan, AddsText, AreReached, IsReach, IsSpan, exact_text, folder_text, has, is_one, is_reached, lies_in_some, path_of, spans}
 use Rattle.bosh_release_files.specs.declared.pattern.Form.{Form}
 use Rattle.bosh_release_files.specs.declared.pattern.Form.TheVariants.{Every, Below, In, Exact}
 use Rattle.bosh_release_files.specs.declared.pattern.Pattern.{Pattern}

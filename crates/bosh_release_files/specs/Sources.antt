@@ -1,5 +1,5 @@
 -- How the files of a release are kept, and what is looked up in them.
-use Rattle.std.specs.Prelude.{◌≡◌, ℕ, ◌+◌, ◌<◌, ◌≤◌, ◌||◌, ◌&&◌, Bool, true, false, List, [], ◌∷◌, Option, Some, None, All, is_some, length, map, nat_le, nat_lt, slice_index, slice_index_or, take}
+use Rattle.std.specs.Prelude.{◌≡◌, ℕ, ◌+◌, ◌<◌, ◌≤◌, ◌||◌, ◌&&◌, Bool, true, false, List, [], ◌∷◌, Option, Some, None, All, is_some, length, map, nat_le, nat_lt, slice_index_or, take}
 use Rattle.std.specs.BTreeMap.{insert_entry}
 use Rattle.std.specs.BTreeSet.{BTreeSet, contains_by, insert_key}
 use Rattle.std.specs.Cmp.Lexicographic.{slice_cmp}
@@ -106,17 +106,17 @@ is_reached reach place = list_any (λ end. nat_lt place end) (take (place + 1) r
 pub record IsReach (files : List Stamp) (patterns : List Pattern) (reach : List ℕ) : Type 0 where
   pub same_length : length reach ≡ length files
   pub reached :
-    (place : ℕ) (d : Stamp) → place < length files
-    → is_reached reach place ≡ list_any (λ pattern. spans pattern.form (path_of (slice_index_or files place d))) patterns
+      (place : ℕ) (d : Stamp) → place < length files
+      → is_reached reach place ≡ list_any (λ pattern. spans pattern.form (path_of (slice_index_or files place d))) patterns
 
 -- the places that a span has are reached, too
 pub record AddsSpan (span : Span) (old new : List ℕ) : Type 0 where
   pub same_length : length new ≡ length old
   pub reached :
-    (place : ℕ) → place < length old → is_reached new place ≡ (is_within span place || is_reached old place)
+      (place : ℕ) → place < length old → is_reached new place ≡ (is_within span place || is_reached old place)
 
 -- for each place whether it is reached
 pub record AreReached (reach : List ℕ) (reached : List Bool) : Type 0 where
   pub same_length : length reached ≡ length reach
   pub each :
-    (place : ℕ) → place < length reach → slice_index_or reached place false ≡ is_reached reach place
+      (place : ℕ) → place < length reach → slice_index_or reached place false ≡ is_reached reach place

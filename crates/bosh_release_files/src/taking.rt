@@ -111,22 +111,13 @@ fn lies_in_some(folders: &BTreeSet<&[u8]>, path: &[u8]) -> bool
     }
 }
 
-fn is_taken(
-    reached: bool,
-    texts: &BTreeSet<&[u8]>,
-    folders: &BTreeSet<&[u8]>,
-    path: &[u8],
-) -> bool
+fn is_taken(reached: bool, texts: &BTreeSet<&[u8]>, folders: &BTreeSet<&[u8]>, path: &[u8]) -> bool
     ensures { result ≡ (reached || (has texts.now path.now || lies_in_some folders.now path.now)) }
 {
     reached || texts.contains(path) || lies_in_some(folders, path)
 }
 
-fn add_if<'a>(
-    test: bool,
-    file: Stamp<'a>,
-    files: &mut Vec<Stamp<'a>>,
-) -> Result<(), ReleaseFault>
+fn add_if<'a>(test: bool, file: Stamp<'a>, files: &mut Vec<Stamp<'a>>) -> Result<(), ReleaseFault>
     ensures added { OnOk result (map stamped files.new.items
         ≡ map stamped files.old.items ++ (if test then stamped file.entry ∷ [] else [])) }
     ensures err { IfErr result (λ fault. fault ≡ Memory) }

@@ -1,4 +1,4 @@
-use Rattle.std.proofs.Common.{arith, sym, ◌<◌, ◌≤◌, length, get_or}
+use Rattle.std.proofs.Common.{arith, sym}
 use Rattle.bosh_release_files.proofs.PathLemmas.{first_folder_at, first_folder_none}
 use Rattle.bosh_release_files.proofs.path.first_folder.Goals as goal
 

@@ -1,4 +1,4 @@
-use Rattle.std.proofs.Common.{◌∙◌, ap, sym}
+use Rattle.std.proofs.Common.{◌∙◌, ap}
 use Rattle.std.specs.Option.{option_map}
 use Rattle.bosh_release_files.specs.Files.{bytes_at}
 use Rattle.bosh_release_files.proofs.FolderLemmas.{seen-lookup}
