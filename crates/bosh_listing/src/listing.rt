@@ -49,7 +49,8 @@ fn add_name(hasher: &mut Sha256, name: &Name)
 }
 
 fn add_digest(hasher: &mut Sha256, word: &[u8], digest: &Digest)
-    ensures { (fed : List ℕ) → Holds256 hasher.old fed → Holds256 hasher.new (fed ++ line (digest_line word.now digest.now)) }
+    ensures { (fed : List ℕ) → Holds256 hasher.old fed
+        → Holds256 hasher.new (fed ++ line (digest_line word.now digest.now)) }
 {
     hasher.update(word);
     add_hex(hasher, digest);

@@ -48,7 +48,8 @@ abbrev pub print_of : List Stamped → List PackageDraft → List Digest → Pac
 print_of sources packages prints pack needs = digest_of (package_text (listing_of sources packages prints pack needs))
 
 -- the fingerprints of the packages, each that of its listing
-pub record ArePrints (sources : List Stamped) (packages : List PackageDraft) (graph : List (List ℕ)) (prints : List Digest) : Type 0 where
+pub record ArePrints (sources : List Stamped) (packages : List PackageDraft) (graph : List (List ℕ)) (prints : List Digest)
+    : Type 0 where
   pub same_length : length prints ≡ length packages
   pub each :
       (place : ℕ) (d : PackageDraft) → place < length packages

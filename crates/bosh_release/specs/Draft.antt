@@ -149,7 +149,8 @@ abbrev pub jobs_of : List Entry → List File → Result (List JobSpec) ReleaseF
 jobs_of folder files = each (job_of folder) (folders_below (codes "jobs/") files)
 
 abbrev pub packages_of : List Entry → List File → Result (List PackageDraft) ReleaseFault
-packages_of folder files = each (package_of folder (files_below (codes "src/") files)) (folders_below (codes "packages/") files)
+packages_of folder files =
+    each (package_of folder (files_below (codes "src/") files)) (folders_below (codes "packages/") files)
 
 abbrev pub draft_with : List ℕ → List JobSpec → List PackageDraft → List (List ℕ) → Draft
 draft_with name jobs packages needs = record { name = name; jobs = jobs; packages = packages; needs = needs }

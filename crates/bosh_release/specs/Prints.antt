@@ -13,7 +13,8 @@ pub record IsFit (draft : Draft) : Type 0 where
   pub graph : IsGraph draft.needs
 
 -- the fingerprints of some packages, which need no others
-pub record ArePrintsOf (sources : List Stamped) (packages : List PackageDraft) (graph : List (List ℕ)) (done : List ℕ) (prints : List Digest) : Type 0 where
+pub record ArePrintsOf (sources : List Stamped) (packages : List PackageDraft) (graph : List (List ℕ)) (done : List ℕ)
+    (prints : List Digest) : Type 0 where
   pub same_length : length prints ≡ length packages
   pub closed : (place : ℕ) → Contains done place → All (Contains done) (needs_of graph place)
   pub each :

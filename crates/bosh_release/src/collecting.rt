@@ -65,6 +65,7 @@ fn package_specs(
     Ok(Seq::from(specs))
 }
 
+// Dear to prove: the draft is alive while its packages are copied.
 fn release_of(
     alloc: Global,
     version: &[u8],
@@ -84,7 +85,7 @@ fn release_of(
     })
 }
 
-// The release of a draft whose packages have no cycle.
+// The release of a draft whose packages have no cycle. Dear to prove: the draft is alive while fingerprints are found.
 fn in_order(
     alloc: Global,
     sources: &Sources<'_>,
@@ -112,6 +113,7 @@ fn cycle_at(alloc: Global, draft: &Draft, place: usize) -> Result<Release, Relea
     cycle(alloc, draft.packages.as_slice()[place].name.as_bytes())
 }
 
+// Dear to prove: the draft is alive while its packages are ordered.
 fn finished(
     alloc: Global,
     sources: &Sources<'_>,
@@ -130,8 +132,9 @@ fn finished(
 }
 
 /// The release of a version that the files of a folder spell, or their first fault: first those of `config/final.yml`,
-/// of the jobs by name and of the packages by name, then packages that are needed and not there, then the package of the
-/// least name that needs itself, and last what is more than a release may have.
+/// of the jobs by name and of the packages by name, then a package that is needed and not there, then the package of
+/// the least name that needs itself, and last what is more than a release may have: 256 jobs, 256 packages, 4,096 files.
+/// A fault names a path of the folder, a package, a text of `files`, or `jobs`, `packages` or `files`.
 pub fn collect(alloc: Global, files: &[File], version: &[u8]) -> Result<Release, ReleaseFault>
     ensures { Collects files.now version.now result }
 {

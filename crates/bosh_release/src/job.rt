@@ -94,7 +94,8 @@ fn job_print(
     monit: &[u8],
     templates: &[TemplateSpec],
 ) -> Result<Digest, AllocError>
-    ensures { IfOk result (λ digest. digest ≡ digest_of (job_text (job_listing name.now spec.now monit.now templates.now))) }
+    ensures { IfOk result (λ digest. digest
+        ≡ digest_of (job_text (job_listing name.now spec.now monit.now templates.now))) }
 {
     let stamps = stamps_of(alloc, templates)?;
     Ok(job_fingerprint(name, &fingerprint(spec), &fingerprint(monit), &stamps))

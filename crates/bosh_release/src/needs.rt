@@ -15,7 +15,8 @@ use std::collections::BTreeMap;
 type Table<'a> = BTreeMap<&'a [u8], usize>;
 
 fn add_place<'a>(name: &'a [u8], place: usize, table: &mut Table<'a>) -> Result<(), ReleaseFault>
-    ensures added { OnOk result ((q : List ℕ) → place_in table.new q ≡ place_with (place_in table.old q) name.now place q) }
+    ensures added { OnOk result ((q : List ℕ) → place_in table.new q
+        ≡ place_with (place_in table.old q) name.now place q) }
     ensures err { IfErr result (λ fault. fault ≡ Memory) }
 {
     if table.contains_key(name) {
@@ -57,14 +58,16 @@ fn places_of(alloc: Global, table: &Table<'_>, needs: &[Name]) -> Result<Seq<usi
 }
 
 fn check_job(alloc: Global, table: &Table<'_>, job: &JobSpec) -> Result<(), ReleaseFault>
-    ensures { (names : List (List ℕ)) → IsTable names table.now → IsAnswerSeen (λ _. true) result (check_job names job.now) }
+    ensures { (names : List (List ℕ)) → IsTable names table.now → IsAnswerSeen
+        (λ _. true) result (check_job names job.now) }
 {
     let _places = places_of(alloc, table, job.packages.as_slice())?;
     Ok(())
 }
 
 fn check_jobs(alloc: Global, table: &Table<'_>, jobs: &[JobSpec]) -> Result<(), ReleaseFault>
-    ensures { (names : List (List ℕ)) → IsTable names table.now → IsAnswerSeen (λ _. true) result (check_each (check_job names) jobs.now) }
+    ensures { (names : List (List ℕ)) → IsTable names table.now → IsAnswerSeen
+        (λ _. true) result (check_each (check_job names) jobs.now) }
 {
     for job in jobs {
         check_job(alloc, table, job)?;

@@ -57,7 +57,8 @@ fn stamps_at<'a>(
 ) -> Result<Vec<Stamp<'a>>, ReleaseFault>
     requires places { All (λ place. place < length packages.now) places.now }
     requires prints { length prints.now ≡ length packages.now }
-    ensures stamps { IfOk result (λ stamps. map stamped stamps.items ≡ map (stamp_at packages.now prints.now) places.now) }
+    ensures stamps { IfOk result (λ stamps. map stamped stamps.items
+        ≡ map (stamp_at packages.now prints.now) places.now) }
     ensures err { IfErr result (λ fault. fault ≡ Memory) }
 {
     let mut stamps = Vec::new(alloc);
@@ -75,7 +76,8 @@ fn deps_of<'a>(
 ) -> Result<Vec<Stamp<'a>>, ReleaseFault>
     requires needs { All (λ place. place < length packages.now) needs.now }
     requires prints { length prints.now ≡ length packages.now }
-    ensures stamps { IfOk result (λ stamps. map stamped stamps.items ≡ map (stamp_at packages.now prints.now) (numbers_in_order needs.now)) }
+    ensures stamps { IfOk result (λ stamps. map stamped stamps.items
+        ≡ map (stamp_at packages.now prints.now) (numbers_in_order needs.now)) }
     ensures err { IfErr result (λ fault. fault ≡ Memory) }
 {
     let places = numbers_in_order(alloc, needs)?;

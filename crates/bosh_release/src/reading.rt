@@ -31,13 +31,15 @@ fn node_at(alloc: Global, path: &[u8], text: &[u8]) -> Result<Node, ReleaseFault
     }
 }
 
-// What fields are read as; whatever is wrong with one is told by the path alone.
+// What fields are read as; whatever is wrong with one is told by the path alone. Dear to prove, since what was read is
+// of any type; proved once.
 fn fields_at<T: Drop>(
     alloc: Global,
     path: &[u8],
     fields: Result<T, FieldFault>,
 ) -> Result<T, ReleaseFault>
-    ensures { (answer : Result T FieldFault) → IsFieldAnswer fields answer → IsAnswer result (fields_at path.now answer) }
+    ensures { (answer : Result T FieldFault) → IsFieldAnswer fields answer
+        → IsAnswer result (fields_at path.now answer) }
 {
     match fields {
         Ok(value) => Ok(value),

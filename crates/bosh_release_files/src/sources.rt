@@ -91,7 +91,8 @@ fn stamps_of<'a>(
     alloc: Global,
     table: BTreeMap<&'a [u8], Digest>,
 ) -> Result<Vec<Stamp<'a>>, ReleaseFault>
-    ensures files { IfOk result (λ files. map stamped files.items ≡ map stamped_by (map digest_seen table.entry.entries)) }
+    ensures files { IfOk result (λ files. map stamped files.items
+        ≡ map stamped_by (map digest_seen table.entry.entries)) }
     ensures err { IfErr result (λ fault. fault ≡ Memory) }
 {
     let mut files = Vec::new(alloc);
@@ -102,7 +103,8 @@ fn stamps_of<'a>(
 }
 
 fn paths_of<'a>(alloc: Global, files: &[Stamp<'a>]) -> Result<BTreeSet<&'a [u8]>, ReleaseFault>
-    ensures paths { IfOk result (λ paths. (q : List ℕ) → has paths q ≡ list_any (λ file. bytes_eq q (path_of file)) files.now) }
+    ensures paths { IfOk result (λ paths. (q : List ℕ) → has paths q ≡ list_any
+        (λ file. bytes_eq q (path_of file)) files.now) }
     ensures err { IfErr result (λ fault. fault ≡ Memory) }
 {
     let mut paths = BTreeSet::new(alloc);
@@ -131,7 +133,8 @@ pub(crate) fn add_text<'a>(
 
 // The folders in which files lie.
 fn folders_of<'a>(alloc: Global, files: &[Stamp<'a>]) -> Result<BTreeSet<&'a [u8]>, ReleaseFault>
-    ensures folders { IfOk result (λ folders. (q : List ℕ) → has folders q ≡ list_any (λ file. lies_in q (path_of file)) files.now) }
+    ensures folders { IfOk result (λ folders. (q : List ℕ) → has folders q ≡ list_any
+        (λ file. lies_in q (path_of file)) files.now) }
     ensures err { IfErr result (λ fault. fault ≡ Memory) }
 {
     let mut folders = BTreeSet::new(alloc);

@@ -33,7 +33,8 @@ fn comes_up_to(front: &[u8], path: &[u8]) -> bool
 fn first_not_before(files: &[Stamp<'_>], front: &[u8]) -> usize
     requires { IsInOrder (map path_of files.now) }
     ensures within { result ≤ length files.now }
-    ensures point { IsPartitionPoint (λ file. comes_before front.now (path_of file) ≡ true) (λ file. comes_before front.now (path_of file) ≡ false) files.now result }
+    ensures point { IsPartitionPoint (λ file. comes_before front.now (path_of file) ≡ true)
+        (λ file. comes_before front.now (path_of file) ≡ false) files.now result }
 {
     files.partition_point(|file| comes_before(front, file.name))
 }
@@ -41,7 +42,8 @@ fn first_not_before(files: &[Stamp<'_>], front: &[u8]) -> usize
 fn first_behind(files: &[Stamp<'_>], front: &[u8]) -> usize
     requires { IsInOrder (map path_of files.now) }
     ensures within { result ≤ length files.now }
-    ensures point { IsPartitionPoint (λ file. comes_up_to front.now (path_of file) ≡ true) (λ file. comes_up_to front.now (path_of file) ≡ false) files.now result }
+    ensures point { IsPartitionPoint (λ file. comes_up_to front.now (path_of file) ≡ true)
+        (λ file. comes_up_to front.now (path_of file) ≡ false) files.now result }
 {
     files.partition_point(|file| comes_up_to(front, file.name))
 }

@@ -38,7 +38,8 @@ fn exact_texts<'a>(
     alloc: Global,
     patterns: &'a [Pattern],
 ) -> Result<BTreeSet<&'a [u8]>, ReleaseFault>
-    ensures texts { IfOk result (λ texts. (q : List ℕ) → has texts q ≡ list_any (λ pattern. is_that q (exact_text pattern.form)) patterns.now) }
+    ensures texts { IfOk result (λ texts. (q : List ℕ) → has texts q ≡ list_any
+        (λ pattern. is_that q (exact_text pattern.form)) patterns.now) }
     ensures err { IfErr result (λ fault. fault ≡ Memory) }
 {
     let mut texts = BTreeSet::new(alloc);
@@ -53,7 +54,8 @@ fn folder_texts<'a>(
     alloc: Global,
     patterns: &'a [Pattern],
 ) -> Result<BTreeSet<&'a [u8]>, ReleaseFault>
-    ensures texts { IfOk result (λ texts. (q : List ℕ) → has texts q ≡ list_any (λ pattern. is_that q (folder_text pattern.form)) patterns.now) }
+    ensures texts { IfOk result (λ texts. (q : List ℕ) → has texts q ≡ list_any
+        (λ pattern. is_that q (folder_text pattern.form)) patterns.now) }
     ensures err { IfErr result (λ fault. fault ≡ Memory) }
 {
     let mut texts = BTreeSet::new(alloc);
@@ -130,6 +132,7 @@ fn add_if<'a>(test: bool, file: Stamp<'a>, files: &mut Vec<Stamp<'a>>) -> Result
 }
 
 /// The files that some pattern takes, in their order.
+// Dear to prove: what is looked up in is alive while the files are chosen.
 pub(crate) fn taken<'a>(
     alloc: Global,
     files: &[Stamp<'a>],

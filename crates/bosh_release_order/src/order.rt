@@ -71,7 +71,8 @@ fn places_of(alloc: Global, ranks: &[Ranked]) -> Result<Seq<usize>, AllocError>
 
 // The places by their ranks: a place has a greater rank than those that it needs.
 fn by_rank(alloc: Global, ranks: &[Ranked]) -> Result<Seq<usize>, AllocError>
-    ensures { IfOk result (λ places. (graph : Graph) → IsGraph graph → AreRanks graph ranks.now (length graph) → IsOrder graph places) }
+    ensures { IfOk result (λ places. (graph : Graph) → IsGraph graph
+        → AreRanks graph ranks.now (length graph) → IsOrder graph places) }
 {
     let mut sorted = Vec::from_slice(alloc, ranks)?;
     sorted.sort()?;
