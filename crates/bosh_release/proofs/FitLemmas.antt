@@ -23,13 +23,13 @@ use Rattle.bosh_release_files.specs.declared.folder.File.{File}
 use Rattle.bosh_release_order.specs.Graph.{HasNoCycle, IsFirstOnCycle, IsGraph, Needs, Reaches, at_once, by}
 
 -- where a step follows, there was a value
-bind-ok :
+pub bind-ok :
     {A B : Type 0} (r : Result A ReleaseFault) (f : A → Result B ReleaseFault) (b : B) → (r >>= f) ≡ Ok b
     → (a : A) × (r ≡ Ok a) × (f a ≡ Ok b)
 bind-ok (Ok a) f b h = (a, refl, h)
 bind-ok (Err fault) f b h = absurd cc
 
-each_length :
+pub each_length :
     {A B : Type 0} (step : A → Result B ReleaseFault) (xs : List A) (ys : List B) → each step xs ≡ Ok ys
     → length ys ≡ length xs
 each_length step [] ys h = let e : [] ≡ ys = cc in ap length (sym e)
