@@ -3,7 +3,8 @@
 # comment lines. And how long it takes to put 64, 128 and 256 works in order of compilation, where each needs the one
 # before it and where each needs all before it. And how long it takes to read texts of 64 KiB, 256 KiB and 1 MiB of one
 # form, and to look up each key of a mapping; and to read a MiB of each form, beside other readers. Then how fast the
-# body of a large entry is written and read, beside a plain copy of its bytes. Each time is the least of five runs; only
+# body of a large entry is written and read, beside a plain copy of its bytes; and how long it takes to collect releases
+# of 64, 128 and 256 packages, each of which needs all before it. Each time is the least of five runs; only
 # the ratios within one run say something.
 set -u
 here=$(cd "$(dirname "$0")" && pwd)
@@ -12,6 +13,7 @@ program=$top/crates/boshd/out/boshd
 levels=$top/crates/bosh_compile_bench/out/bosh_compile_bench
 reader=$top/crates/bosh_yaml_bench/out/bosh_yaml_bench
 codec=$top/crates/bosh_entry_bench/out/bosh_entry_bench
+releases=$top/crates/bosh_release_bench/out/bosh_release_bench
 folder=$(mktemp -d)
 trap 'rm -rf "$folder"' EXIT
 
@@ -126,3 +128,7 @@ work=read table_of "$reader" literals "KiB of a literal" "the one before" 64 256
 work=find table_of "$reader" mappings "KiB of a mapping, each key found" "the one before" 64 256 1024
 readers
 speeds copy 20000 write 500 read 200
+for size in 64 128 256; do
+    time=$(least_told "$releases" "$size")
+    line "$size" "packages of a release" "$time" "${first:=$time}" "the first"
+done

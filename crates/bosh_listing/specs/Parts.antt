@@ -1,27 +1,24 @@
 -- The parts that a listing is made of, as they are handed over.
 use Rattle.std.specs.Prelude.{ℕ, List, map}
-use Rattle.bosh_listing.specs.Listing.{JobListing, PackageListing, Stamped, digest_of}
-use Rattle.bosh_listing.specs.declared.listing.Content.{Content}
-use Rattle.bosh_listing.specs.declared.listing.Needed.{Needed}
+use Rattle.bosh_base.specs.declared.digest.Digest.{Digest}
+use Rattle.bosh_listing.specs.Listing.{JobListing, PackageListing, Stamped}
+use Rattle.bosh_listing.specs.declared.listing.Stamp.{Stamp}
 
-abbrev pub stamped : Content → Stamped
-stamped file = record { name = file.path.now; digest = digest_of file.bytes.now }
+abbrev pub stamped : Stamp → Stamped
+stamped stamp = record { name = stamp.name.now; digest = stamp.digest }
 
-abbrev pub needed : Needed → Stamped
-needed dep = record { name = dep.name.now; digest = dep.fingerprint }
-
-abbrev pub package_of : List ℕ → List ℕ → List Content → List Needed → PackageListing
+abbrev pub package_of : List ℕ → Digest → List Stamp → List Stamp → PackageListing
 package_of name script files deps = record {
   name = name;
-  script = digest_of script;
+  script = script;
   files = map stamped files;
-  deps = map needed deps;
+  deps = map stamped deps;
 }
 
-abbrev pub job_of : List ℕ → List ℕ → List ℕ → List Content → JobListing
+abbrev pub job_of : List ℕ → Digest → Digest → List Stamp → JobListing
 job_of name spec monit templates = record {
   name = name;
-  spec = digest_of spec;
-  monit = digest_of monit;
+  spec = spec;
+  monit = monit;
   templates = map stamped templates;
 }

@@ -5,4 +5,4 @@ mod laws;
 mod listing;
 
 pub use laws::a_text_tells_its_listing;
-pub use listing::{Content, Needed, fingerprint, job_fingerprint, package_fingerprint};
+pub use listing::{Stamp, fingerprint, job_fingerprint, package_fingerprint};

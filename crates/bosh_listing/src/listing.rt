@@ -4,23 +4,17 @@ ghost use Rattle.std.specs.Prelude.{◌≡◌, ◌∷◌, ◌++◌, ℕ, List, c
 ghost use Rattle.std.specs.List.{flat_map};
 ghost use Rattle.bosh_listing.specs.Lines.{hex_of, line, text_of};
 ghost use Rattle.bosh_listing.specs.Listing.{dep_line, digest_line, digest_of, file_line, job_text, name_line, package_text};
-ghost use Rattle.bosh_listing.specs.Parts.{job_of, needed, package_of, stamped};
+ghost use Rattle.bosh_listing.specs.Parts.{job_of, package_of, stamped};
 
 use bosh_base::{Digest, Name};
 use sha2::{Digest as Hasher, Sha256};
 
-/// A file of a package, with its path below `src/`, or a template of a job, with its path below the job's `templates/`.
+/// What is listed: a file of a package by its path below `src/`, or a template of a job by its path below the job's
+/// `templates/`, with the digest of its bytes; or a package that another one needs, with its fingerprint.
 #[derive(Clone, Copy)]
-pub struct Content<'a> {
-    pub path: &'a [u8],
-    pub bytes: &'a [u8],
-}
-
-/// A package that another one needs.
-#[derive(Clone, Copy)]
-pub struct Needed<'a> {
+pub struct Stamp<'a> {
     pub name: &'a [u8],
-    pub fingerprint: Digest,
+    pub digest: Digest,
 }
 
 fn add_line(hasher: &mut Sha256, text: &[u8])
@@ -54,26 +48,27 @@ fn add_name(hasher: &mut Sha256, name: &Name)
     add_line(hasher, name.as_bytes());
 }
 
-fn add_digest(hasher: &mut Sha256, word: &[u8], bytes: &[u8])
-    ensures { (fed : List ℕ) → Holds256 hasher.old fed → Holds256 hasher.new (fed ++ line (digest_line word.now (digest_of bytes.now))) }
+fn add_digest(hasher: &mut Sha256, word: &[u8], digest: &Digest)
+    ensures { (fed : List ℕ) → Holds256 hasher.old fed
+        → Holds256 hasher.new (fed ++ line (digest_line word.now digest.now)) }
 {
     hasher.update(word);
-    add_hex(hasher, &fingerprint(bytes));
+    add_hex(hasher, digest);
     hasher.update(b"\n");
 }
 
-fn add_file(hasher: &mut Sha256, word: &[u8], file: &Content<'_>)
+fn add_file(hasher: &mut Sha256, word: &[u8], file: &Stamp<'_>)
     ensures { (fed : List ℕ) → Holds256 hasher.old fed
         → Holds256 hasher.new (fed ++ line (file_line word.now (stamped file.now))) }
 {
     hasher.update(word);
-    add_hex(hasher, &fingerprint(file.bytes));
+    add_hex(hasher, &file.digest);
     hasher.update(b" ");
-    add_line(hasher, file.path);
+    add_line(hasher, file.name);
 }
 
 #[tactic(auto, using(crate::proofs::ListLemmas::lines_more))]
-fn add_files(hasher: &mut Sha256, word: &[u8], files: &[Content<'_>])
+fn add_files(hasher: &mut Sha256, word: &[u8], files: &[Stamp<'_>])
     ensures { (fed : List ℕ) → Holds256 hasher.old fed
         → Holds256 hasher.new (fed ++ text_of (map (file_line word.now) (map stamped files.now))) }
 {
@@ -82,21 +77,21 @@ fn add_files(hasher: &mut Sha256, word: &[u8], files: &[Content<'_>])
     }
 }
 
-fn add_dep(hasher: &mut Sha256, dep: &Needed<'_>)
+fn add_dep(hasher: &mut Sha256, dep: &Stamp<'_>)
     ensures { (fed : List ℕ) → Holds256 hasher.old fed
-        → Holds256 hasher.new (fed ++ line (dep_line (needed dep.now))) }
+        → Holds256 hasher.new (fed ++ line (dep_line (stamped dep.now))) }
 {
     hasher.update(b"dep ");
     hasher.update(dep.name);
     hasher.update(b" ");
-    add_hex(hasher, &dep.fingerprint);
+    add_hex(hasher, &dep.digest);
     hasher.update(b"\n");
 }
 
 #[tactic(auto, using(crate::proofs::ListLemmas::lines_more))]
-fn add_deps(hasher: &mut Sha256, deps: &[Needed<'_>])
+fn add_deps(hasher: &mut Sha256, deps: &[Stamp<'_>])
     ensures { (fed : List ℕ) → Holds256 hasher.old fed
-        → Holds256 hasher.new (fed ++ text_of (map dep_line (map needed deps.now))) }
+        → Holds256 hasher.new (fed ++ text_of (map dep_line (map stamped deps.now))) }
 {
     for dep in deps {
         add_dep(hasher, dep);
@@ -104,22 +99,22 @@ fn add_deps(hasher: &mut Sha256, deps: &[Needed<'_>])
 }
 
 #[tactic(auto, using(crate::proofs::ListLemmas::text_append))]
-fn add_files_and_deps(hasher: &mut Sha256, files: &[Content<'_>], deps: &[Needed<'_>])
+fn add_files_and_deps(hasher: &mut Sha256, files: &[Stamp<'_>], deps: &[Stamp<'_>])
     ensures { (fed : List ℕ) → Holds256 hasher.old fed
         → Holds256 hasher.new (fed ++ text_of (map (file_line (codes "file ")) (map stamped files.now)
-        ++ map dep_line (map needed deps.now))) }
+        ++ map dep_line (map stamped deps.now))) }
 {
     add_files(hasher, b"file ", files);
     add_deps(hasher, deps);
 }
 
-/// The fingerprint of a package: of its name, its script `packaging`, its files by path, and the packages that it needs
-/// by name.
+/// The fingerprint of a package: of its name, the digest of its script `packaging`, its files by path, and the packages
+/// that it needs by name.
 pub fn package_fingerprint(
     name: &Name,
-    script: &[u8],
-    files: &[Content<'_>],
-    deps: &[Needed<'_>],
+    script: &Digest,
+    files: &[Stamp<'_>],
+    deps: &[Stamp<'_>],
 ) -> Digest
     ensures { result ≡ digest_of (package_text (package_of name.now script.now files.now deps.now)) }
 {
@@ -131,8 +126,13 @@ pub fn package_fingerprint(
     Digest(hasher.finalize())
 }
 
-/// The fingerprint of a job: of its name, its file `spec`, its file `monit`, and its templates by source.
-pub fn job_fingerprint(name: &Name, spec: &[u8], monit: &[u8], templates: &[Content<'_>]) -> Digest
+/// The fingerprint of a job: of its name, the digests of its files `spec` and `monit`, and its templates by source.
+pub fn job_fingerprint(
+    name: &Name,
+    spec: &Digest,
+    monit: &Digest,
+    templates: &[Stamp<'_>],
+) -> Digest
     ensures { result ≡ digest_of (job_text (job_of name.now spec.now monit.now templates.now)) }
 {
     let mut hasher = Sha256::new();

@@ -1,8 +1,8 @@
 use Rattle.std.proofs.Common.{◌∙◌, ap, ◌++◌, ℕ, List, [], codes, map}
 use Rattle.sha2.specs.Sha256.{sha256}
 use Rattle.bosh_base.specs.declared.digest.Digest.{Digest}
-use Rattle.bosh_listing.specs.Listing.{dep_line, digest_line, digest_of, file_line, name_line}
-use Rattle.bosh_listing.specs.Parts.{needed, stamped}
+use Rattle.bosh_listing.specs.Listing.{dep_line, digest_line, file_line, name_line}
+use Rattle.bosh_listing.specs.Parts.{stamped}
 use Rattle.bosh_listing.proofs.ListLemmas.{text_three}
 use Rattle.bosh_listing.proofs.listing.package_fingerprint.Goals as goal
 
@@ -18,7 +18,7 @@ returns c =
     let all = c.add_files_and_deps.ensures _ third in
     let lines =
     text_three (codes "bosh-package 1") (name_line c.args.name.now)
-    (digest_line (codes "script ") (digest_of c.args.script.now))
+    (digest_line (codes "script ") c.args.script.now)
     (map (file_line (codes "file ")) (map stamped c.args.files.now)
-    ++ map dep_line (map needed c.args.deps.now)) in
+    ++ map dep_line (map stamped c.args.deps.now)) in
     ap digest_with (c.finalize.ensures _ all ∙ ap sha256 lines)

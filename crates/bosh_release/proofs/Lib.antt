@@ -1,0 +1,4 @@
+mod FitLemmas
+mod PrintLemmas
+mod SoundLemmas
+mod TableLemmas

@@ -1,0 +1,7 @@
+pub mod EachLemmas
+mod FolderLemmas
+pub mod IndexLemmas
+pub mod OrderLemmas
+mod PathLemmas
+mod SpanLemmas
+mod TakingLemmas

@@ -1,0 +1,5 @@
+pub mod Answer
+pub mod Files
+pub mod Pattern
+pub mod Sources
+pub mod Span
