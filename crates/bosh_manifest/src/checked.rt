@@ -5,8 +5,8 @@ use crate::Contents;
 use std::marker::Model;
 
 /// A checked manifest. No name stands twice in one list; there are at most 64 groups, of at most 256 instances each and
-/// 512 in all; a group has a zone, at most 64 jobs and at most 16 networks, of which exactly one has the gateway; numbers
-/// of instances and sizes of disks are within their bounds.
+/// 512 in all; a group has a zone, at most 64 jobs and at most 16 networks, of which exactly one has the gateway; shares,
+/// numbers of instances and sizes of disks are within their bounds.
 #[derive(Drop)]
 pub struct Manifest {
     contents: Contents,

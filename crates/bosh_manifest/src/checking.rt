@@ -32,10 +32,10 @@ fn named(alloc: Global, name: Name, node: &Node, deployment: &Name) -> Result<Ma
     }
 }
 
-/// The manifest that a node is, which has to be that of a deployment, or its first fault. The name comes first, then the
-/// other keys in their order: the releases, the stemcells, the update rules, the groups, and what is not offered; last,
-/// how many instances there are in all. Within a list an item's name comes first, and then its other keys in their
-/// order. Other keys are not looked at.
+/// The manifest that a node is, which has to be that of a deployment, or its first fault. The name comes first, then
+/// the other keys in their order: the releases, the stemcells, the update rules, the groups, and what is not offered;
+/// last, how many instances there are in all. Within a list an item's name comes first, and then its other keys in
+/// their order. Other keys are not looked at.
 pub fn check(alloc: Global, node: &Node, deployment: &Name) -> Result<Manifest, ManFault>
     ensures { IsAnswer result (checked deployment.now (tree_of node.now)) }
 {

@@ -66,14 +66,16 @@ before None others = others
 before (Some first) others = first ∷ others
 
 -- the links of a mapping in the order in which they are written
-abbrev pub each_link : {A : Type 0} → (List ℕ → Tree → Result A FieldFault) → List ℕ → Fields → Result (List A) FieldFault
+abbrev pub each_link :
+    {A : Type 0} → (List ℕ → Tree → Result A FieldFault) → List ℕ → Fields → Result (List A) FieldFault
 each_link item key no_fields = Ok []
 each_link item key (field link t more) = do
   first ← a_link item key link t
   others ← each_link item key more
   Ok (before first others)
 
-abbrev pub links_from : {A : Type 0} → (List ℕ → Tree → Result A FieldFault) → List ℕ → Option Tree → Result (List A) FieldFault
+abbrev pub links_from :
+    {A : Type 0} → (List ℕ → Tree → Result A FieldFault) → List ℕ → Option Tree → Result (List A) FieldFault
 links_from item key None = Ok []
 links_from item key (Some (map fields)) = each_link item key fields
 links_from item key (Some t) = Err (WrongKind key)

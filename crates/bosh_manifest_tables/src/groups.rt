@@ -78,7 +78,7 @@ fn push_networks(text: &mut Vec<u8>, networks: &Seq<NetUse>) -> Result<(), Alloc
     Ok(())
 }
 
-fn push_group(alloc: Global, text: &mut Vec<u8>, group: &Group) -> Result<(), AllocError> {
+fn push_title(text: &mut Vec<u8>, group: &Group) -> Result<(), AllocError> {
     push_parts(text, &[b"group ", group.name.as_bytes()])?;
     push_number(text, b" ", group.instances)?;
     push_parts(
@@ -89,10 +89,18 @@ fn push_group(alloc: Global, text: &mut Vec<u8>, group: &Group) -> Result<(), Al
             b" ",
             group.stemcell.as_bytes(),
         ],
-    )?;
+    )
+}
+
+fn push_heading(text: &mut Vec<u8>, group: &Group) -> Result<(), AllocError> {
+    push_title(text, group)?;
     push_disk(text, &group.disk)?;
     push_update(text, group.update)?;
-    push_zones(text, group)?;
+    push_zones(text, group)
+}
+
+fn push_group(alloc: Global, text: &mut Vec<u8>, group: &Group) -> Result<(), AllocError> {
+    push_heading(text, group)?;
     push_networks(text, &group.networks)?;
     push_jobs(alloc, text, &group.jobs)
 }

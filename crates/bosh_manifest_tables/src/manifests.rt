@@ -41,7 +41,7 @@ fn shown(alloc: Global, manifest: &Contents) -> Result<Vec<u8>, AllocError> {
     Ok(text)
 }
 
-fn answer(
+fn check_text(
     alloc: Global,
     deployment: &Name,
     text: &Text,
@@ -50,11 +50,21 @@ fn answer(
     Ok(check(alloc, &node, deployment))
 }
 
+// The manifest of a deployment: its name, and the text.
+fn manifest(alloc: Global, given: &Node) -> Result<Result<Manifest, ManFault>, CaseFault> {
+    let (deployment, text) = pair(alloc, given)?;
+    check_text(alloc, &deployment, &text)
+}
+
+fn told(alloc: Global, manifest: &Manifest) -> Result<Outcome, CaseFault> {
+    Ok(Outcome::bytes(shown(alloc, manifest.contents())?))
+}
+
 /// What a text is checked as, for a deployment.
+// Dear to prove: the manifest, or a fault of eight kinds, is alive where it is told.
 pub(crate) fn checked(alloc: Global, given: &Node) -> Result<Outcome, CaseFault> {
-    let (deployment, text): (Name, Text) = pair(alloc, given)?;
-    match answer(alloc, &deployment, &text)? {
-        Ok(manifest) => Ok(Outcome::bytes(shown(alloc, manifest.contents())?)),
+    match manifest(alloc, given)? {
+        Ok(manifest) => told(alloc, &manifest),
         Err(fault) => of_manifest(alloc, &fault),
     }
 }
