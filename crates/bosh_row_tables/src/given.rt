@@ -1,8 +1,8 @@
 //! What cases give.
 use crate::rows::row_of;
 use crate::wants::want_of;
-use crate::words::{Worded, whole};
 use bosh_base::{GoalRow, Row};
+use bosh_case_words::{Worded, whole};
 use bosh_cases::{CaseFault, Outcome, both, characters};
 use bosh_rows::RowFault;
 use bosh_yaml::Node;

@@ -2,18 +2,15 @@
 //! that comes out otherwise than it states.
 #![tactic(auto)]
 
-mod answers;
 mod calls;
 mod changes;
-mod disks;
 mod given;
-mod made;
+mod parts;
 mod questions;
 mod rows;
 mod shown;
 mod walks;
 mod wants;
-mod words;
 
 use crate::calls::RowCalls;
 use bosh_case_runner::run_tables;

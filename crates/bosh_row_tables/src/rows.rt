@@ -1,6 +1,7 @@
 //! What is recorded of an instance.
-use crate::words::{Parts, Worded, add, number, number_after, take_some, with_parts, word};
-use bosh_base::{Call, Doubt, Inst, Name, Row, Vm};
+use crate::parts::{Parts, with_parts};
+use bosh_base::{Inst, Name, Row};
+use bosh_case_words::{add, take_some, word};
 use bosh_cases::{CaseFault, both};
 use bosh_rows::bare;
 use std::alloc::Global;
@@ -18,24 +19,6 @@ pub(crate) fn instance(alloc: Global) -> Result<Inst, CaseFault> {
         group,
         index: 0,
     })
-}
-
-/// As `7 start 5`: the number of the call, and the call.
-impl Worded for Doubt {
-    fn of(alloc: Global, words: &mut SplitWhitespace<'_>) -> Result<Self, CaseFault> {
-        let n = number(words)?;
-        let call = Call::of(alloc, words)?;
-        Ok(Doubt { n, call })
-    }
-}
-
-/// As `5 of 3`: its number, and the call that made it.
-impl Worded for Vm {
-    fn of(_alloc: Global, words: &mut SplitWhitespace<'_>) -> Result<Self, CaseFault> {
-        let vm = number(words)?;
-        let agent = number_after(words, "of")?;
-        Ok(Vm { vm, agent })
-    }
 }
 
 // A part that is one word.

@@ -2,8 +2,8 @@
 use crate::given::{asked, text, want_and_row, where_memory};
 use crate::questions::next_call;
 use crate::shown::{call_text, disks_text, row_text, step_text};
-use crate::words::whole;
 use bosh_base::{Answer, Call, DiskRow, GoalRow, Row, Seq};
+use bosh_case_words::whole;
 use bosh_cases::{CaseFault, Outcome, field};
 use bosh_rows::{Step, after, begin, next, stands, update_done};
 use bosh_yaml::Node;

@@ -1,7 +1,8 @@
 //! How an instance is to stand.
+use crate::parts::{Parts, with_parts};
 use crate::rows::instance;
-use crate::words::{Parts, number, take, take_some, whole, with_parts, word};
 use bosh_base::{GoalRow, State};
+use bosh_case_words::{number, take, take_some, whole, word};
 use bosh_cases::{CaseFault, both};
 use std::alloc::Global;
 use std::str::SplitWhitespace;

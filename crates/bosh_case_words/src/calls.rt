@@ -1,7 +1,6 @@
-//! Calls and their answers.
-use crate::made::spec_if_any;
-use crate::words::{Worded, number, number_of, numbers, word};
-use bosh_base::{Answer, Call, Digest, DiskWant, Make, Seq, Spec};
+//! Calls in words.
+use crate::words::{Worded, number, numbers, text_of, word};
+use bosh_base::{Call, Digest, DiskWant, Key, KeyWork, Make, Name, Seq, Spec};
 use bosh_cases::{CaseFault, both};
 use std::alloc::Global;
 use std::str::SplitWhitespace;
@@ -23,6 +22,39 @@ fn disk_creation(alloc: Global, words: &mut SplitWhitespace<'_>) -> Result<Call,
 fn application(alloc: Global, words: &mut SplitWhitespace<'_>) -> Result<Call, CaseFault> {
     let (vm, spec) = both(number(words), Spec::of(alloc, words))?;
     Ok(Call::Apply { vm, spec })
+}
+
+fn key(alloc: Global) -> Result<Key, CaseFault> {
+    let (os, version) = both(text_of(alloc, "jammy"), text_of(alloc, "1"))?;
+    Ok(Key {
+        fingerprint: Digest([0; 32]),
+        os,
+        version,
+    })
+}
+
+// The work of a package without dependencies.
+fn work(alloc: Global, name: &str) -> Result<KeyWork, CaseFault> {
+    let (name, key) = both(name_of(alloc, name), key(alloc))?;
+    Ok(KeyWork {
+        name,
+        key,
+        deps: Seq::new(alloc),
+    })
+}
+
+fn name_of(alloc: Global, word: &str) -> Result<Name, CaseFault> {
+    Ok(Name::of(alloc, word.as_bytes())?)
+}
+
+fn compilation(alloc: Global, words: &mut SplitWhitespace<'_>) -> Result<Call, CaseFault> {
+    let (vm, name) = (number(words)?, word(words)?);
+    let work = work(alloc, name)?;
+    Ok(Call::CompilePackage {
+        vm,
+        work,
+        deps: Seq::new(alloc),
+    })
 }
 
 fn migration(vm: u64, words: &mut SplitWhitespace<'_>) -> Result<Call, CaseFault> {
@@ -52,16 +84,25 @@ fn on_jobs(name: &str, vm: u64) -> Option<Call> {
     }
 }
 
+// A call on a disk by its number or its tag alone, or none.
+fn on_one_disk(name: &str, number: u64) -> Option<Call> {
+    match name {
+        "delete_disk" => Some(Call::DeleteDisk { disk: number }),
+        "has_disk" => Some(Call::HasDisk { disk: number }),
+        "find_disk" => Some(Call::FindDisk { tag: number }),
+        _ => on_jobs(name, number),
+    }
+}
+
 // A call with one number, or none.
 fn numbered(name: &str, number: u64) -> Option<Call> {
     match name {
         "delete_vm" => Some(Call::DeleteVm { vm: number }),
         "has_vm" => Some(Call::HasVm { vm: number }),
         "find_vm" => Some(Call::FindVm { agent: number }),
-        "find_disk" => Some(Call::FindDisk { tag: number }),
         "get_disks" => Some(Call::GetDisks { vm: number }),
         "list_disk" => Some(Call::ListDisk { vm: number }),
-        _ => on_jobs(name, number),
+        _ => on_one_disk(name, number),
     }
 }
 
@@ -81,73 +122,8 @@ impl Worded for Call {
             "create_vm" => creation(alloc, words),
             "create_disk" => disk_creation(alloc, words),
             "apply" => application(alloc, words),
+            "compile_package" => compilation(alloc, words),
             name => on_machine(name, words),
-        }
-    }
-}
-
-fn found(words: &mut SplitWhitespace<'_>) -> Result<Answer, CaseFault> {
-    match word(words)? {
-        "none" => Ok(Answer::Found(None)),
-        word => Ok(Answer::Found(Some(number_of(word)?))),
-    }
-}
-
-// Whether it runs, and whether it is drained.
-fn flags(words: &mut SplitWhitespace<'_>) -> Result<(bool, bool), CaseFault> {
-    match (words.next(), words.next()) {
-        (Some("running"), Some("drained")) => Ok((true, true)),
-        (Some("running"), None) => Ok((true, false)),
-        (Some("drained"), None) => Ok((false, true)),
-        (None, _) => Ok((false, false)),
-        _ => Err(CaseFault::Form),
-    }
-}
-
-fn facts(alloc: Global, words: &mut SplitWhitespace<'_>) -> Result<Answer, CaseFault> {
-    let name = word(words)?;
-    let (running, drained) = flags(words)?;
-    let spec = spec_if_any(alloc, name)?;
-    Ok(Answer::Facts {
-        spec,
-        running,
-        drained,
-    })
-}
-
-fn disks(alloc: Global, words: &mut SplitWhitespace<'_>) -> Result<Answer, CaseFault> {
-    let disks = numbers(alloc, word(words)?)?;
-    Ok(Answer::Disks(disks))
-}
-
-fn created(words: &mut SplitWhitespace<'_>) -> Result<Answer, CaseFault> {
-    let number = number(words)?;
-    Ok(Answer::Cid(number))
-}
-
-// An answer that is one word.
-fn plain(word: &str) -> Result<Answer, CaseFault> {
-    match word {
-        "done" => Ok(Answer::Done),
-        "yes" => Ok(Answer::Yes),
-        "no" => Ok(Answer::No),
-        "gone" => Ok(Answer::Gone),
-        "failed" => Ok(Answer::Failed),
-        "built" => Ok(Answer::Built(Digest([0; 32]))),
-        _ => Err(CaseFault::Form),
-    }
-}
-
-/// `done`, `cid 5`, `found 5`, `found none`, `yes`, `no`, `disks 2,3`, `facts s running drained`, `built`, `gone` or
-/// `failed`.
-impl Worded for Answer {
-    fn of(alloc: Global, words: &mut SplitWhitespace<'_>) -> Result<Self, CaseFault> {
-        match word(words)? {
-            "cid" => created(words),
-            "found" => found(words),
-            "facts" => facts(alloc, words),
-            "disks" => disks(alloc, words),
-            word => plain(word),
         }
     }
 }

@@ -56,7 +56,7 @@ impl Worded for Spec {
 }
 
 /// A spec, or `none`.
-pub(crate) fn spec_if_any(alloc: Global, word: &str) -> Result<Option<Spec>, CaseFault> {
+pub fn spec_if_any(alloc: Global, word: &str) -> Result<Option<Spec>, CaseFault> {
     match word {
         "none" => Ok(None),
         _ => Ok(Some(spec(alloc, word)?)),

@@ -1,0 +1,146 @@
+//! The cloud that a case works on.
+use crate::shown::{answer_text, fault_text, push_disks, push_machines, push_part};
+use crate::store::{Store, new_store, rig, spoiled};
+use bosh_base::{Answer, Call, Name, Owner};
+use bosh_cases::{CaseFault, Outcome};
+use bosh_cloud::{CloudFault, SimCloud};
+use bosh_ports::Rig;
+use std::alloc::{AllocError, Global};
+
+/// A cloud over its store, with what it answered so far. There is none after a load that was refused.
+#[derive(Drop)]
+pub(crate) struct Stand {
+    alloc: Global,
+    cloud: Option<SimCloud<Store>>,
+    told: String,
+}
+
+impl Stand {
+    pub(crate) fn new(alloc: Global) -> Stand {
+        Stand {
+            alloc,
+            cloud: SimCloud::load(alloc, new_store(alloc)).ok(),
+            told: String::new(alloc),
+        }
+    }
+
+    pub(crate) fn alloc(&self) -> Global {
+        self.alloc
+    }
+
+    pub(crate) fn cloud(&mut self) -> Result<&mut SimCloud<Store>, CaseFault> {
+        match &mut self.cloud {
+            Some(cloud) => Ok(cloud),
+            None => Err(CaseFault::Form),
+        }
+    }
+
+    // Adds an answer to those before it.
+    fn tell_text(&mut self, answer: Result<String, AllocError>) -> Result<(), CaseFault> {
+        let answer = answer?;
+        Ok(push_part(&mut self.told, answer.as_str())?)
+    }
+
+    fn tell_fault(&mut self, fault: CloudFault) -> Result<(), CaseFault> {
+        match fault {
+            CloudFault::Memory => Err(CaseFault::Memory),
+            _ => self.tell_text(fault_text(self.alloc, fault)),
+        }
+    }
+
+    /// Tells how a call came out that has no answer of its own.
+    pub(crate) fn tell_done(&mut self, done: Result<(), CloudFault>) -> Result<(), CaseFault> {
+        match done {
+            Ok(()) => Ok(push_part(&mut self.told, "done")?),
+            Err(fault) => self.tell_fault(fault),
+        }
+    }
+
+    fn tell_answer(&mut self, answer: Result<Answer, CloudFault>) -> Result<(), CaseFault> {
+        match answer {
+            Ok(answer) => self.tell_text(answer_text(self.alloc, &answer)),
+            Err(fault) => self.tell_fault(fault),
+        }
+    }
+
+    /// Makes a call, and tells its answer.
+    pub(crate) fn call(
+        &mut self,
+        n: u64,
+        owner: &Owner,
+        dep: &Name,
+        call: &Call,
+    ) -> Result<(), CaseFault> {
+        let answer = self.cloud()?.perform(n, owner, dep, call);
+        self.tell_answer(answer)
+    }
+
+    /// Tells the count of faults.
+    pub(crate) fn tell_faults(&mut self) -> Result<(), CaseFault> {
+        let faults = self.cloud()?.faults();
+        let alloc = self.alloc;
+        self.tell_text(format!(in alloc; "faults {faults}"))
+    }
+
+    fn take_store(&mut self) -> Result<Store, CaseFault> {
+        match self.cloud.take() {
+            Some(cloud) => Ok(cloud.into_store()),
+            None => Err(CaseFault::Form),
+        }
+    }
+
+    fn load(&mut self, store: Store) -> Result<(), CaseFault> {
+        match SimCloud::load(self.alloc, store) {
+            Ok(cloud) => {
+                self.cloud = Some(cloud);
+                Ok(push_part(&mut self.told, "loaded")?)
+            }
+            Err((store, fault)) => {
+                drop(store);
+                self.tell_fault(fault)
+            }
+        }
+    }
+
+    /// Loads the store anew.
+    pub(crate) fn load_again(&mut self) -> Result<(), CaseFault> {
+        let store = self.take_store()?;
+        self.load(store)
+    }
+
+    /// Loads the store anew, whose k-th append from now on fails.
+    pub(crate) fn load_rigged(&mut self, k: u64, how: Rig) -> Result<(), CaseFault> {
+        let mut store = self.take_store()?;
+        rig(&mut store, k, how)?;
+        self.load(store)
+    }
+
+    /// Loads the store anew, with another body at a place.
+    pub(crate) fn load_spoiled(&mut self, place: u64, body: &[u8]) -> Result<(), CaseFault> {
+        let store = self.take_store()?;
+        let store = spoiled(self.alloc, store, place, body)?;
+        self.load(store)
+    }
+
+    /// What was told, and what is there.
+    pub(crate) fn into_outcome(self) -> Result<Outcome, CaseFault> {
+        let Stand { alloc, cloud, told } = self;
+        let mut text = told;
+        text.push_str(" | ")?;
+        match &cloud {
+            Some(cloud) => push_there(alloc, &mut text, cloud)?,
+            None => text.push_str("no cloud")?,
+        }
+        Ok(Outcome::bytes(text.into_bytes()))
+    }
+}
+
+fn push_there(alloc: Global, text: &mut String, cloud: &SimCloud<Store>) -> Result<(), AllocError> {
+    let mut there = String::new(alloc);
+    push_machines(alloc, &mut there, cloud.machines())?;
+    push_disks(alloc, &mut there, cloud.disks())?;
+    if there.is_empty() {
+        there.push_str("nothing")?;
+    }
+    text.push_str(there.as_str())
+}
