@@ -3,8 +3,9 @@
 # comment lines. And how long it takes to put 64, 128 and 256 works in order of compilation, where each needs the one
 # before it and where each needs all before it. And how long it takes to read texts of 64 KiB, 256 KiB and 1 MiB of one
 # form, and to look up each key of a mapping; and to read a MiB of each form, beside other readers. Then how fast the
-# body of a large entry is written and read, beside a plain copy of its bytes. Each time is the least of five runs; only
-# the ratios within one run say something.
+# body of a large entry is written and read, beside a plain copy of its bytes. And how long ten calls take on each of
+# 5,000 and 10,000 machines of a cloud, and a load of what they leave. Each time is the least of five runs; only the
+# ratios within one run say something.
 set -u
 here=$(cd "$(dirname "$0")" && pwd)
 top=$(dirname "$here")
@@ -12,6 +13,7 @@ program=$top/crates/boshd/out/boshd
 levels=$top/crates/bosh_compile_bench/out/bosh_compile_bench
 reader=$top/crates/bosh_yaml_bench/out/bosh_yaml_bench
 codec=$top/crates/bosh_entry_bench/out/bosh_entry_bench
+cloud=$top/crates/bosh_cloud_bench/out/bosh_cloud_bench
 folder=$(mktemp -d)
 trap 'rm -rf "$folder"' EXIT
 
@@ -126,3 +128,5 @@ work=read table_of "$reader" literals "KiB of a literal" "the one before" 64 256
 work=find table_of "$reader" mappings "KiB of a mapping, each key found" "the one before" 64 256 1024
 readers
 speeds copy 20000 write 500 read 200
+table_of "$cloud" calls "machines with ten calls each" "the first" 5000 10000
+table_of "$cloud" load "machines with ten calls, loaded" "the first" 5000 10000
