@@ -5,7 +5,10 @@ use std::alloc::{AllocError, Global};
 
 fn spec(alloc: Global, path: &[u8], line: u32) -> Result<Vec<u8>, AllocError> {
     let mut digits = itoa::Buffer::new();
-    joined(alloc, &[b"Spec ", path, b" ", digits.format(line).as_bytes()])
+    joined(
+        alloc,
+        &[b"Spec ", path, b" ", digits.format(line).as_bytes()],
+    )
 }
 
 /// The refusal of files that spell no release.
