@@ -4,3 +4,4 @@ pub mod TableLemmas
 pub mod JoinedLemmas
 pub mod TreeLemmas
 pub mod SpellingLemmas
+pub mod SizeLemmas

@@ -7,7 +7,7 @@ use Rattle.std.proofs.lemmas.Bool.Decides.{nat_tests}
 use Rattle.std.proofs.lemmas.List.{take-append-drop}
 use Rattle.std.proofs.Math.Seq.{take-append_seam, drop-append_seam}
 use Rattle.bosh_vars.specs.Placeholder.{is_name_letter, name_len, closed_name, name_at, part_of, more_of, parts_past}
-use Rattle.bosh_vars.specs.Spelling.{IsName, BeginsWith, written}
+use Rattle.bosh_vars.specs.Spelling.{IsName, AreRight, BeginsWith, written}
 use Rattle.bosh_vars.proofs.PlaceholderLemmas.{after_name}
 
 letters_step : (c : Bool) (b : ℕ) (bs : List ℕ) → (is_name_letter b ≡ c) → list_all is_name_letter (take (name_len bs) bs) ≡ true → list_all is_name_letter (take (cond c (suc (name_len bs)) 0) (b ∷ bs)) ≡ true
@@ -89,3 +89,22 @@ written-past zero [] = refl
 written-past (suc n) [] = refl
 written-past (suc n) (b ∷ bs) = written-past n bs
 written-past zero (b ∷ bs) = part_written (name_at (b ∷ bs)) b bs refl (written-past (more_of (name_at (b ∷ bs))) bs)
+
+-- no placeholder begins where none is found
+unwritten : (text name after : List ℕ) → name_at text ≡ None → ¬ BeginsWith text name after
+unwritten text name after none begins =
+    let some = name_at-written text name after begins in
+    let same : ◌≡◌ {A = Option (List ℕ)} None (Some name) = sym none ∙ some in
+    absurd cc
+
+part_right : (o : Option (List ℕ)) (b : ℕ) (bs : List ℕ) → name_at (b ∷ bs) ≡ o → AreRight (parts_past (more_of o) bs) → AreRight (part_of o b ∷ parts_past (more_of o) bs)
+part_right None b bs is right =
+    ((λ name after. subst (λ xs. ¬ BeginsWith (b ∷ xs) name after) (sym (written-past 0 bs)) (unwritten (b ∷ bs) name after is)), right)
+part_right (Some name) b bs is right = ((written-name_at (b ∷ bs) name is).1.0, right)
+
+-- each part stands where it may
+pub parts_past-right : (n : ℕ) (bs : List ℕ) → AreRight (parts_past n bs)
+parts_past-right zero [] = tt
+parts_past-right (suc n) [] = tt
+parts_past-right (suc n) (b ∷ bs) = parts_past-right n bs
+parts_past-right zero (b ∷ bs) = part_right (name_at (b ∷ bs)) b bs refl (parts_past-right (more_of (name_at (b ∷ bs))) bs)

@@ -3,3 +3,4 @@ pub mod Spelling
 pub mod Result
 pub mod Filled
 pub mod Table
+pub mod Size

@@ -20,3 +20,9 @@ abbrev pub written : List Part → List ℕ
 written [] = []
 written (plain b ∷ ps) = b ∷ written ps
 written (placeholder name ∷ ps) = codes "((" ++ (name ++ (codes "))" ++ written ps))
+
+-- each placeholder has a name, and a byte stands as plain only where what is written from it on begins with no placeholder
+abbrev pub AreRight : List Part → Type 0
+AreRight [] = Unit {0}
+AreRight (plain b ∷ ps) = ((name after : List ℕ) → ¬ BeginsWith (b ∷ written ps) name after) × AreRight ps
+AreRight (placeholder name ∷ ps) = IsName name × AreRight ps

@@ -1,16 +1,18 @@
 //! Nodes with the values of their placeholders.
 
-ghost use Rattle.std.specs.Prelude.{◌≡◌, false, [], ◌∷◌, ◌++◌, IfErr, OnOk};
+ghost use Rattle.std.specs.Prelude.{◌≡◌, ◌≤◌, false, [], ◌∷◌, ◌++◌, Err, IfErr, IfOk, IsFalse, OnOk};
 ghost use Rattle.bosh_yaml.specs.Keys.{has_key};
 ghost use Rattle.bosh_yaml.specs.Tree.{fields_of, trees_of};
 ghost use Rattle.bosh_yaml.specs.View.{tree_of};
 ghost use Rattle.bosh_vars.specs.Filled.{filled, filled_fields, filled_items, values_of};
 ghost use Rattle.bosh_vars.specs.Result.{Gives};
+ghost use Rattle.bosh_vars.specs.Size.{fits, most_bytes, size};
 ghost use Rattle.bosh_vars.specs.Table.{found_in};
 ghost use Rattle.bosh_vars.specs.declared.fault.VarsFault.TheVariants.{Memory};
 
 use crate::fault::VarsFault;
 use crate::insertion::fill_text;
+use crate::measure::fits;
 use crate::table::{Table, table_of};
 use crate::var::Var;
 use bosh_yaml::{Copied, Items, Node, Pairs, Str};
@@ -20,11 +22,19 @@ use std::alloc::Global;
 /// one placeholder becomes the value; inside a longer text the value's text is put in its place. Of
 /// several values for one name the last counts. A refusal names the first placeholder, in the order
 /// of the node, that cannot be replaced.
+///
+/// What it makes is measured first: where texts and keys, with 32 bytes for each node, would take more
+/// than 268,435,456 bytes, nothing is made, and the answer is want of memory.
 #[tactic(auto, using(crate::proofs::TreeLemmas::filled_alike))]
 pub fn fill(alloc: Global, node: &Node, vars: &[Var]) -> Result<Node, VarsFault>
-    ensures { Gives tree_of result (filled (values_of vars.now) (tree_of node.now)) }
+    ensures value { Gives tree_of result (filled (values_of vars.now) (tree_of node.now)) }
+    ensures large { IsFalse (fits (values_of vars.now) (tree_of node.now)) → result ≡ Err Memory }
+    ensures size { IfOk result (λ filled. size (tree_of filled) ≤ most_bytes) }
 {
     let values = table_of(alloc, vars)?;
+    if !fits(node, &values) {
+        return Err(VarsFault::Memory);
+    }
     fill_node(alloc, node, &values)
 }
 

@@ -72,7 +72,7 @@ fn joined(alloc: Global, text: &[u8], values: &Table) -> Result<Str, VarsFault>
 
 // The name of the placeholder that a text is, if it is one alone.
 #[tactic(auto, using(crate::proofs::PlaceholderLemmas::only_names))]
-fn only_name(text: &[u8]) -> Option<&[u8]>
+pub(crate) fn only_name(text: &[u8]) -> Option<&[u8]>
     ensures name { option_map (λ name. name.now) result ≡ single_name (parts text.now) }
     ensures utf8 { IfSome result (λ name. IsUtf8 name.now) }
 {
