@@ -1,2 +1,3 @@
 mod OrderLemmas
 mod SearchLemmas
+pub mod NumberLemmas

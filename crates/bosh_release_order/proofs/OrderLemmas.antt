@@ -13,6 +13,7 @@ use Rattle.std.proofs.lemmas.List.Elements.{All-get_or, All-map, Contains-get_or
 use Rattle.std.proofs.lemmas.List.Sorted.{All-permutation, Contains-permutation, IsNonDecreasingBy-from_all_adjacent}
 use Rattle.std.proofs.lemmas.List.Sums.{sum_by-cons}
 use Rattle.bosh_release_order.specs.Graph.{Graph, HasNoCycle, IsGraph, IsOrder, Needs, Reaches, at_once, by, needs_of}
+use Rattle.bosh_release_order.specs.Numbers.{Ascend}
 use Rattle.bosh_release_order.specs.Search.{AreRanks, IsFound, IsRank}
 use Rattle.bosh_release_order.specs.declared.order.Ranked.{Ranked}
 
@@ -77,27 +78,40 @@ rank_falls graph place other m n p o needed =
     let b = o.count in
     omega arith
 
-record Fits (graph : Graph) (it : Ranked) : Type 0 where
-  within : it.place < length graph
-  rank : IsRank graph it.place it.rank
+-- ranks that count what is needed fall
+pub counted_ranks_fall : (graph : Graph) (ranks : List Ranked) → AreRanks graph ranks (length graph) → Ascend graph ranks
+counted_ranks_fall graph ranks are = record {
+  same_length = are.same_length;
+  places = λ k d lt. (are.each k d lt).0;
+  falls = λ k j d k_lt j_lt needed.
+      rank_falls graph k j (get_or ranks k d).rank (get_or ranks j d).rank (are.each k d k_lt).1 (are.each j d j_lt).1 needed;
+}
 
 not_less : (m n : ℕ) (o : Ordering) → is_lt (ordering_then (nat_cmp m n) o) ≡ false → n ≤ m
 not_less m n o h = grind (arith, nat_tests)
 
 module _ (graph : Graph) (ranks sorted : List Ranked) (well : IsGraph graph)
-    (are : AreRanks graph ranks (length graph)) (moved : IsPermutation ranks sorted)
+    (are : Ascend graph ranks) (moved : IsPermutation ranks sorted)
     (ascends : IsSorted (λ a b. ordering_then (nat_cmp a.rank b.rank) (nat_cmp a.place b.place)) sorted) where
-  all_fit : All (Fits graph) ranks
-  all_fit = λ k d lt.
+  all_within : All (λ (it : Ranked). it.place < length graph) ranks
+  all_within = λ k d lt.
       let low : k < length graph = (let n = are.same_length in omega arith) in
-      let it = are.each k d low in
-      record {
-        within = subst (λ p. p < length graph) (sym it.0) low;
-        rank = subst (λ p. IsRank graph p (get_or ranks k d).rank) (sym it.0) it.1;
-      }
+      subst (λ p. p < length graph) (sym (are.places k d low)) low
 
-  sorted_fit : All (Fits graph) sorted
-  sorted_fit = All-permutation (Fits graph) ranks sorted moved all_fit
+  sorted_within : All (λ (it : Ranked). it.place < length graph) sorted
+  sorted_within = All-permutation (λ (it : Ranked). it.place < length graph) ranks sorted moved all_within
+
+  -- each stands among the ranks at its place
+  abbrev is_rank_there : Ranked → Type 0
+  is_rank_there it = get_or ranks it.place it ≡ it
+
+  all_there : All is_rank_there ranks
+  all_there = λ k d lt.
+      let low : k < length graph = (let n = are.same_length in omega arith) in
+      ap (λ p. get_or ranks p (get_or ranks k d)) (are.places k d low) ∙ get_or_default ranks k (get_or ranks k d) d lt
+
+  sorted_there : All is_rank_there sorted
+  sorted_there = All-permutation is_rank_there ranks sorted moved all_there
 
   rise : (i j : ℕ) (d : Ranked) → i ≤ j → j < length sorted → (get_or sorted i d).rank ≤ (get_or sorted j d).rank
   rise = IsNonDecreasingBy-from_all_adjacent (λ (it : Ranked). it.rank) sorted (λ k d lt.
@@ -128,11 +142,13 @@ module _ (graph : Graph) (ranks sorted : List Ranked) (well : IsGraph graph)
       let found = at_place other low in
       let m = found.0 in
       let it = get_or ranks other some_ranked in
-      let is_other = are.each other some_ranked low in
-      let here = All-get_or (Fits graph) sorted k some_ranked lt sorted_fit in
-      let rank : IsRank graph place (get_or sorted k some_ranked).rank =
-      subst (λ p. IsRank graph p (get_or sorted k some_ranked).rank) is here.rank in
-      let less : it.rank < (get_or sorted k some_ranked).rank = rank_falls graph place other (get_or sorted k some_ranked).rank it.rank rank is_other.1 needed in
+      let mine = get_or sorted k some_ranked in
+      let here : mine.place < length graph = All-get_or (λ (it : Ranked). it.place < length graph) sorted k some_ranked lt sorted_within in
+      let same : get_or ranks mine.place mine ≡ mine = All-get_or is_rank_there sorted k some_ranked lt sorted_there in
+      let short' : mine.place < length ranks = (let n = are.same_length in omega arith) in
+      let same' : get_or ranks mine.place some_ranked ≡ mine = get_or_default ranks mine.place some_ranked mine short' ∙ same in
+      let falls : it.rank < (get_or ranks mine.place some_ranked).rank = are.falls mine.place other some_ranked here low (subst (λ p. Needs graph p other) (sym is) needed) in
+      let less : it.rank < mine.rank = subst (λ (r : Ranked). it.rank < r.rank) same' falls in
       let at_m : get_or sorted m some_ranked ≡ it = get_or_default sorted m some_ranked it found.1 ∙ found.2 in
       let m_rank : (get_or sorted m some_ranked).rank ≡ it.rank = ap (λ (r : Ranked). r.rank) at_m in
       let before : m < k = ⊎_elim
@@ -141,26 +157,25 @@ module _ (graph : Graph) (ranks sorted : List Ranked) (well : IsGraph graph)
       (cases_lt m k) in
       let short : m < length (take k places) =
       (let a = length-map sorted (λ (r : Ranked). r.place) in let b = length-take k places in omega arith) in
-      (m, short, get_or-take k places m other before ∙ place-of m other some_ranked found.1 ∙ ap (λ (r : Ranked). r.place) at_m ∙ is_other.0)
+      (m, short, get_or-take k places m other before ∙ place-of m other some_ranked found.1 ∙ ap (λ (r : Ranked). r.place) at_m ∙ are.places other some_ranked low)
 
   pub sorted_is_order : IsOrder graph (map (λ it. it.place) sorted)
   sorted_is_order = record {
     all = λ place low.
-        let found = at_place place low in
-        let is = are.each place some_ranked low in (
+        let found = at_place place low in (
           found.0,
           (let n = length-map sorted (λ (it : Ranked). it.place) in let lt = found.1 in omega arith),
           place-of found.0 place some_ranked found.1
-              ∙ ap (λ (r : Ranked). r.place) (get_or_default sorted found.0 some_ranked (get_or ranks place some_ranked) found.1 ∙ found.2) ∙ is.0,
+              ∙ ap (λ (r : Ranked). r.place) (get_or_default sorted found.0 some_ranked (get_or ranks place some_ranked) found.1 ∙ found.2) ∙ are.places place some_ranked low,
         );
     within = All-map (λ place. place < length graph) (λ (it : Ranked). it.place) sorted
-        (λ k d lt. (All-get_or (Fits graph) sorted k d lt sorted_fit).within);
+        (λ k d lt. All-get_or (λ (it : Ranked). it.place < length graph) sorted k d lt sorted_within);
     after = λ k d lt.
         let short : k < length sorted = (let n = length-map sorted (λ (it : Ranked). it.place) in omega arith) in
         let place = get_or places k d in
-        let here = All-get_or (Fits graph) sorted k some_ranked short sorted_fit in
+        let here : (get_or sorted k some_ranked).place < length graph = All-get_or (λ (it : Ranked). it.place < length graph) sorted k some_ranked short sorted_within in
         let is : get_or places k d ≡ (get_or sorted k some_ranked).place = place-of k d some_ranked short in
-        let low : place < length graph = subst (λ p. p < length graph) (sym is) here.within in
+        let low : place < length graph = subst (λ p. p < length graph) (sym is) here in
         λ i e below.
         stands_before k d place (get_or (needs_of graph place) i e) short (sym is)
         (All-get_or (λ o. o < length graph) (needs_of graph place) i e below (All-get_or (λ needs. All (λ o. o < length graph) needs) graph place [] low well))

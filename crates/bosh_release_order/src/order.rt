@@ -1,5 +1,6 @@
 ghost use Rattle.std.specs.Prelude.{◌≡◌, ◌<◌, IfOk, count_by, length, map};
 ghost use Rattle.bosh_release_order.specs.Graph.{Graph, IsGraph, IsOrder};
+ghost use Rattle.bosh_release_order.specs.Numbers.{Ascend};
 ghost use Rattle.bosh_release_order.specs.Search.{AreRanks, IsAnswered, IsRankAt, IsRanked};
 
 use crate::search::reach;
@@ -70,18 +71,17 @@ fn places_of(alloc: Global, ranks: &[Ranked]) -> Result<Seq<usize>, AllocError>
 }
 
 // The places by their ranks: a place has a greater rank than those that it needs.
-fn by_rank(alloc: Global, ranks: &[Ranked]) -> Result<Seq<usize>, AllocError>
+pub(crate) fn by_rank(alloc: Global, ranks: &[Ranked]) -> Result<Seq<usize>, AllocError>
     ensures { IfOk result (λ places. (graph : Graph) → IsGraph graph
-        → AreRanks graph ranks.now (length graph) → IsOrder graph places) }
+        → Ascend graph ranks.now → IsOrder graph places) }
 {
     let mut sorted = Vec::from_slice(alloc, ranks)?;
     sorted.sort()?;
     places_of(alloc, &sorted)
 }
 
-/// The order of places, each of which needs those that are listed for it; or the first place that needs itself, at once
-/// or by others. Each place is searched from, so the cost is that of as many walks over the graph as it has places.
-pub fn order_of(alloc: Global, graph: &[Seq<usize>]) -> Result<Order, AllocError>
+/// The answer for places each of which is searched from: as many walks over the graph as it has places.
+pub(crate) fn searched(alloc: Global, graph: &[Seq<usize>]) -> Result<Order, AllocError>
     requires { IsGraph graph.now }
     ensures { IfOk result (IsAnswered graph.now) }
 {

@@ -1,7 +1,8 @@
 use Rattle.std.proofs.Common.{length, subst, sym}
+use Rattle.bosh_release_order.specs.Numbers.{Ascend}
 use Rattle.bosh_release_order.specs.Search.{AreRanks, IsRanked}
-use Rattle.bosh_release_order.proofs.OrderLemmas.{ranked_has_no_cycle}
-use Rattle.bosh_release_order.proofs.order.order_of.Goals as goal
+use Rattle.bosh_release_order.proofs.OrderLemmas.{counted_ranks_fall, ranked_has_no_cycle}
+use Rattle.bosh_release_order.proofs.order.searched.Goals as goal
 
 pub returns-in_ok-by_rank-in-Whole : goal.returns-in_ok-by_rank-in-Whole
 returns-in_ok-by_rank-in-Whole c =
@@ -9,6 +10,6 @@ returns-in_ok-by_rank-in-Whole c =
     let ranks = c.in-Whole.ranks in
     let are : AreRanks graph ranks (length graph) = subst (IsRanked graph) c.in-Whole.is c.in_ok-ranks.ensures in (
       c.in_ok-by_rank-in-Whole.ensures graph c.requires
-          (subst (λ all. AreRanks graph all (length graph)) (sym c.as_slice.ensures) are),
+          (subst (Ascend graph) (sym c.as_slice.ensures) (counted_ranks_fall graph ranks are)),
       ranked_has_no_cycle graph ranks are,
     )
