@@ -1,3 +1,4 @@
 pub mod Changes
+pub mod Created
 pub mod Grown
 pub mod Store

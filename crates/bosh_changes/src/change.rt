@@ -1,12 +1,13 @@
 ghost use Rattle.std.specs.Prelude.{◌≡◌};
 ghost use Rattle.std.specs.Option.{option_map};
-ghost use Rattle.bosh_agent.specs.Change.{IsMade};
+ghost use Rattle.bosh_agent.specs.Agent.{with_contents};
+ghost use Rattle.bosh_agent.specs.Change.{disks_changed, IsIn, IsMade, machine_changed};
 ghost use Rattle.bosh_agent.specs.Slots.{at, with_slot};
-ghost use Rattle.bosh_changes.specs.Changes.{changed, holding, IsFitting};
+ghost use Rattle.bosh_changes.specs.Changes.{changed, holding, IsFitting, IsThere, silenced};
 
-use crate::Tables;
-use bosh_agent::{Change as AgentChange, Numbered, put_contents};
-use bosh_base::{Machine, Seq, Text};
+use crate::{Register, Tables};
+use bosh_agent::{Change as AgentChange, put_contents};
+use bosh_base::{Disk, Machine, Seq, Text};
 
 /// What changes in the tables, where nothing is made. All that takes memory is in it.
 #[derive(Drop)]
@@ -43,17 +44,17 @@ impl Change {
         ensures { tables.new ≡ changed tables.old self }
     {
         match self {
-            Change::NoVm(vm) => tables.vms.set(vm, None),
-            Change::NoDisk(disk) => tables.disks.set(disk, None),
+            Change::NoVm(vm) => tables.vms.remove(vm),
+            Change::NoDisk(disk) => tables.disks.remove(disk),
             Change::Moved {
                 vm,
                 disk,
                 holder,
                 attached,
             } => move_disk(tables, vm, disk, holder, attached),
-            Change::Acted { vm, change } => act(tables, vm, change),
-            Change::Silent(vm) => silence(tables, vm),
-            Change::Written { disk, text } => put_contents(&mut tables.disks, disk, text),
+            Change::Acted { vm, change } => act(&mut tables.vms, &mut tables.disks, vm, change),
+            Change::Silent(vm) => silence(&mut tables.vms, vm),
+            Change::Written { disk, text } => write(&mut tables.disks, disk, text),
         }
     }
 }
@@ -66,32 +67,42 @@ fn move_disk(tables: &mut Tables, vm: u64, disk: u64, holder: Option<u64>, attac
     hold(&mut tables.vms, vm, attached);
 }
 
-fn hold(vms: &mut Numbered<Machine>, vm: u64, attached: Seq<u64>)
-    requires { IsMade vms.old vm }
+fn hold(vms: &mut Register<Machine>, vm: u64, attached: Seq<u64>)
+    requires { IsThere vms.old vm }
     ensures { vms.new ≡ with_slot vms.old vm (option_map (holding attached) (at vms.old vm)) }
 {
-    if let Some(mut machine) = vms.take(vm) {
+    if let Some(mut machine) = vms.things.take(vm) {
         machine.attached = attached;
-        vms.set(vm, Some(machine));
+        vms.things.set(vm, Some(machine));
     }
 }
 
-fn act(tables: &mut Tables, vm: u64, change: AgentChange)
-    requires { IsFitting (Change.Acted vm change) tables.old }
-    ensures { tables.new ≡ changed tables.old (Change.Acted vm change) }
+fn act(vms: &mut Register<Machine>, disks: &mut Register<Disk>, vm: u64, change: AgentChange)
+    requires there { IsThere vms.old vm }
+    requires fits { IsIn change disks.old }
+    ensures vms { vms.new ≡ with_slot vms.old vm
+        (option_map (λ machine. machine_changed machine change) (at vms.old vm)) }
+    ensures disks { disks.new ≡ disks_changed disks.old change }
 {
-    if let Some(mut machine) = tables.vms.take(vm) {
-        change.carry(&mut machine, &mut tables.disks);
-        tables.vms.set(vm, Some(machine));
+    if let Some(mut machine) = vms.things.take(vm) {
+        change.carry(&mut machine, &mut disks.things);
+        vms.things.set(vm, Some(machine));
     }
 }
 
-fn silence(tables: &mut Tables, vm: u64)
-    requires { IsFitting (Change.Silent vm) tables.old }
-    ensures { tables.new ≡ changed tables.old (Change.Silent vm) }
+fn silence(vms: &mut Register<Machine>, vm: u64)
+    requires { IsThere vms.old vm }
+    ensures { vms.new ≡ with_slot vms.old vm (option_map silenced (at vms.old vm)) }
 {
-    if let Some(mut machine) = tables.vms.take(vm) {
+    if let Some(mut machine) = vms.things.take(vm) {
         machine.silent = true;
-        tables.vms.set(vm, Some(machine));
+        vms.things.set(vm, Some(machine));
     }
+}
+
+fn write(disks: &mut Register<Disk>, disk: u64, text: Text)
+    requires { IsMade disks.old disk }
+    ensures { disks.new ≡ with_contents disks.old disk text }
+{
+    put_contents(&mut disks.things, disk, text);
 }

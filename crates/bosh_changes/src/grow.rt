@@ -1,8 +1,7 @@
 ghost use Rattle.std.specs.Prelude.{◌≡◌, [], ◌∷◌, ◌++◌, None, Some, OnErr, OnOk};
 ghost use Rattle.bosh_changes.specs.Grown.{with_disk};
 
-use crate::{InventoryFault, Tables};
-use bosh_agent::Numbered;
+use crate::{Created, InventoryFault, Register, Tables};
 use bosh_base::Disk;
 
 /// Adds an item at the end of a list.
@@ -17,10 +16,10 @@ pub fn push<T: Drop>(items: &mut Vec<T>, item: T) -> Result<(), InventoryFault>
 }
 
 /// The same of a thing that is made, which gets a slot of its own.
-pub fn push_made<T: Drop, S: Drop>(
+pub fn push_made<T: Drop, S: Created + Drop>(
     items: &mut Vec<T>,
     item: T,
-    slots: &mut Numbered<S>,
+    slots: &mut Register<S>,
     thing: S,
 ) -> Result<(), InventoryFault>
     ensures ok { OnOk result (items.new.items ≡ items.old.items ++ item ∷ []) }
@@ -29,7 +28,7 @@ pub fn push_made<T: Drop, S: Drop>(
     ensures not_made { OnErr result (slots.new ≡ slots.old) }
 {
     items.reserve(1)?;
-    slots.push(Some(thing))?;
+    slots.push(thing)?;
     items.push_reserved(item);
     Ok(())
 }

@@ -4,8 +4,7 @@ ghost use Rattle.bosh_changes.specs.Store.{Appends};
 ghost use Rattle.bosh_ports.specs.Faults.{NeverFalls};
 
 use crate::store::append;
-use crate::{PutFault, Tables};
-use bosh_agent::Numbered;
+use crate::{Created, PutFault, Register, Tables};
 use bosh_base::Disk;
 use bosh_ports::Keeper;
 
@@ -30,10 +29,10 @@ pub fn keep<T: Drop, L: Keeper>(
 }
 
 /// The same of a thing that is made, which gets a slot of its own.
-pub fn keep_made<T: Drop, S: Drop, L: Keeper>(
+pub fn keep_made<T: Drop, S: Created + Drop, L: Keeper>(
     items: &mut Vec<T>,
     item: T,
-    slots: &mut Numbered<S>,
+    slots: &mut Register<S>,
     thing: S,
     store: &mut L,
     body: &[u8],
@@ -46,7 +45,7 @@ pub fn keep_made<T: Drop, S: Drop, L: Keeper>(
     ensures store { Appends L.bodies L.faults L.is_broken result store.old body.now store.new }
     ensures count { NeverFalls (L.faults store.old) (L.faults store.new) }
 {
-    slots.push(Some(thing))?;
+    slots.push(thing)?;
     let kept = keep(items, item, store, body);
     if kept.is_err() {
         slots.pop();

@@ -1,14 +1,15 @@
 ghost use Rattle.std.specs.Prelude.{◌≡◌, []};
 
-use bosh_agent::{Disks, Numbered};
-use bosh_base::Machine;
+use crate::Register;
+use bosh_agent::Numbered;
+use bosh_base::{Disk, Machine};
 use std::alloc::Global;
 
 /// What is there, by number.
 #[derive(Drop)]
 pub struct Tables {
-    pub vms: Numbered<Machine>,
-    pub disks: Disks,
+    pub vms: Register<Machine>,
+    pub disks: Register<Disk>,
     /// By disk: the machine of its last attach, where no detach came later. That machine may be gone.
     pub holders: Numbered<u64>,
 }
@@ -19,8 +20,8 @@ impl Tables {
         ensures { result ≡ record { vms = []; disks = []; holders = [] } }
     {
         Tables {
-            vms: Numbered::new(alloc),
-            disks: Numbered::new(alloc),
+            vms: Register::new(alloc),
+            disks: Register::new(alloc),
             holders: Numbered::new(alloc),
         }
     }

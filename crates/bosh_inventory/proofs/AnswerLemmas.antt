@@ -1,7 +1,6 @@
 -- What the tables say of answers.
-use Prim.Native.Nat.{zero, suc}
-use Rattle.std.proofs.Common.{◌≡◌, ℕ, ◌+◌, ◌-◌, ◌≤◌, Bool, true, false, Some, None, List, [], ◌∷◌, ◌++◌, refl, sym, ◌∙◌, ap, arith, subst, inl, inr}
-use Rattle.std.specs.Prelude.{◌&&◌, not, if◌then◌else◌, find}
+use Rattle.std.proofs.Common.{◌≡◌, ℕ, Bool, true, false, Some, List, refl, sym, ◌∙◌, ap, subst, inl, inr}
+use Rattle.std.specs.Prelude.{◌&&◌, not}
 use Rattle.bosh_agent.specs.Agent.{agent_answer, vm_of}
 use Rattle.bosh_agent.specs.Numbers.{has}
 use Rattle.bosh_base.specs.CallStep.{answer_of, unless_gone, is_attached, is_mounted_on, has_agent}
@@ -16,7 +15,7 @@ use Rattle.bosh_base.specs.declared.entry.Entry.{Entry}
 use Rattle.bosh_base.specs.declared.key.KeyWork.{KeyWork}
 use Rattle.bosh_base.specs.declared.machine.Machine.{Machine}
 use Rattle.bosh_base.specs.declared.make.Make.{Make}
-use Rattle.std.proofs.lemmas.Bool.{cases_Bool, cases_eq}
+use Rattle.std.proofs.lemmas.Bool.{cases_Bool}
 use Rattle.bosh_inventory.proofs.ActLemmas.{some_same}
 use Rattle.bosh_inventory.proofs.AgentLemmas.{IsMachine, IsMachine-found, IsHeld, IsHeld-holder, has-attached_to}
 use Rattle.bosh_inventory.proofs.NumberLemmas.{has-filter, and_comm}
@@ -122,53 +121,3 @@ gone-is built xs vm none = each
     each (MigrateDisk v from to) names = at_vm (λ u. MigrateDisk u from to) (rw none refl) v names
     each (CompilePackage v work deps) names = at_vm (λ u. CompilePackage u work deps) (rw none refl) v names
     each call names = absurd cc
-
--- ---- the least number that passes
-
-find_front : (p : ℕ → Bool) (xs ys : List ℕ) → find p xs ≡ None → find p (xs ++ ys) ≡ find p ys
-find_front p [] ys none = refl
-find_front p (x ∷ xs) ys none = each (p x) refl none (find_front p xs ys)
-  where
-    each : (b : Bool) → p x ≡ b → (if b then Some x else find p xs) ≡ None →
-        (find p xs ≡ None → find p (xs ++ ys) ≡ find p ys) → (if p x then Some x else find p (xs ++ ys)) ≡ find p ys
-    each true is none rest = absurd cc
-    each false is none rest = ap (λ it. if it then Some x else find p (xs ++ ys)) is ∙ rest none
-
-find_stays : (p : ℕ → Bool) (xs ys : List ℕ) (k : ℕ) → find p xs ≡ Some k → find p (xs ++ ys) ≡ Some k
-find_stays p [] ys k found = absurd cc
-find_stays p (x ∷ xs) ys k found = each (p x) refl found (find_stays p xs ys k)
-  where
-    each : (b : Bool) → p x ≡ b → (if b then Some x else find p xs) ≡ Some k →
-        (find p xs ≡ Some k → find p (xs ++ ys) ≡ Some k) → (if p x then Some x else find p (xs ++ ys)) ≡ Some k
-    each true is found rest = ap (λ it. if it then Some x else find p (xs ++ ys)) is ∙ found
-    each false is found rest = ap (λ it. if it then Some x else find p (xs ++ ys)) is ∙ rest found
-
-last_of : (p : ℕ → Bool) (n : ℕ) (b : Bool) → p n ≡ b → find p (n ∷ []) ≡ (if b then Some n else None)
-last_of p n b is = ap (λ it. if it then Some n else None) is
-
-pub find_more : (p : ℕ → Bool) (n : ℕ) → 1 ≤ n → find p (numbers_to (n - 1)) ≡ None → p n ≡ false →
-    find p (numbers_to (n + 1 - 1)) ≡ None
-find_more p zero low none fails = absurd (omega (arith, low))
-find_more p (suc n) low none fails =
-    ap (λ k. find p (numbers_to k)) (one_less (suc n + 1) (suc n) (omega arith))
-    ∙ find_front p (numbers_to n) (suc n ∷ [])
-    (ap (λ k. find p (numbers_to k)) (sym (one_less (suc n) n (omega arith))) ∙ none)
-    ∙ last_of p (suc n) false fails
-  where
-    one_less : (a b : ℕ) → a ≡ b + 1 → a - 1 ≡ b
-    one_less a b is = omega (arith, is)
-
-pub find_first : (p : ℕ → Bool) (n k : ℕ) → 1 ≤ k → k ≤ n → find p (numbers_to (k - 1)) ≡ None → p k ≡ true →
-    find p (numbers_to n) ≡ Some k
-find_first p zero k low high none passes = absurd (omega (arith, low, high))
-find_first p (suc n) k low high none passes = elim (cases_eq k (suc n)) [
-  | inl same ↦
-      find_front p (numbers_to n) (suc n ∷ []) (ap (λ j. find p (numbers_to j)) (sym (pred same)) ∙ none)
-      ∙ last_of p (suc n) true (ap p (sym same) ∙ passes)
-      ∙ ap Some (sym same)
-  | inr other ↦ find_stays p (numbers_to n) (suc n ∷ []) k
-      (find_first p n k low (omega (arith, high, other)) none passes)
-]
-  where
-    pred : k ≡ suc n → k - 1 ≡ n
-    pred is = omega (arith, is)

@@ -17,6 +17,7 @@ pub mod VmTableLemmas
 pub mod DiskLemmas
 pub mod DiskRemovalLemmas
 pub mod LookupLemmas
+pub mod FoundLemmas
 pub mod MadeLemmas
 pub mod AnswerLemmas
 pub mod LeadLemmas

@@ -78,6 +78,12 @@ pub seen : (now xs : List Entry) (vms : List (Option Machine)) (volumes : List (
     (holders : List (Option ℕ)) → xs ≡ now → AreTables xs vms volumes holders → AreTables now vms volumes holders
 seen now xs vms volumes holders is tables = subst (λ (it : List Entry). AreTables it vms volumes holders) is tables
 
+-- the same of disks that are told
+pub seen_disks : (now : List Entry) (vms : List (Option Machine)) (volumes told : List (Option Disk))
+    (holders : List (Option ℕ)) → told ≡ volumes → AreTables now vms volumes holders → AreTables now vms told holders
+seen_disks now vms volumes told holders is tables =
+    subst (λ (it : List (Option Disk)). AreTables now vms it holders) (sym is) tables
+
 -- what a table says is there
 pub vm_there : (xs : List Entry) → AreOrderly xs → (v : ℕ) (o : Option Machine) → o ≡ machine_of xs v →
     is_some o ≡ is_vm_there xs v

@@ -73,7 +73,7 @@ impl Inventory {
         match self.machine(vm) {
             Some(machine) => Ok(Change::Acted {
                 vm,
-                change: change_of(alloc, machine, &self.tables.disks, call)?,
+                change: change_of(alloc, machine, self.tables.disks.things(), call)?,
             }),
             None => unreachable!(),
         }
