@@ -5,7 +5,7 @@ use Rattle.bosh_base.specs.declared.entry.Entry.{Entry}
 use Rattle.bosh_cloud.proofs.LoadingLemmas.{TellsAll-failed, TellsAll-more, TellsAll-same}
 use Rattle.bosh_cloud.specs.CloudView.{CloudView}
 use Rattle.bosh_cloud.specs.Notes.{Does, Notes}
-use Rattle.bosh_cloud.specs.declared.fate.Doom.{Doom}
+use Rattle.bosh_fates.specs.declared.fate.Doom.{Doom}
 use Rattle.bosh_cloud.specs.declared.fault.CloudFault.{CloudFault}
 use Rattle.bosh_cloud.specs.declared.fault.CloudFault.TheVariants.{StoreFault, Damaged, Broken, Memory}
 use Rattle.bosh_entry.specs.Body.{spelling}

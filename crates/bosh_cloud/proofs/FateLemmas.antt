@@ -4,7 +4,7 @@ use Rattle.bosh_base.specs.declared.entry.Entry.{Entry}
 use Rattle.bosh_base.specs.declared.method.Method.{Method}
 use Rattle.bosh_base.specs.declared.owner.Owner.{Owner}
 use Rattle.bosh_cloud.specs.CloudView.{CloudView}
-use Rattle.bosh_cloud.specs.Fates.{fates_after, met}
+use Rattle.bosh_fates.specs.Fates.{fates_after, met}
 use Rattle.bosh_cloud.specs.Notes.{Does, SameFates}
 use Rattle.bosh_cloud.specs.Performs.{lacked_memory, MeetsFates, Spends}
 use Rattle.bosh_cloud.specs.declared.fault.CloudFault.{CloudFault}

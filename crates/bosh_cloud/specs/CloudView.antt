@@ -1,7 +1,7 @@
 -- What contracts see of the simulated cloud.
 use Rattle.std.specs.Prelude.{ℕ, Bool, List}
 use Rattle.bosh_base.specs.declared.entry.Entry.{Entry}
-use Rattle.bosh_cloud.specs.declared.fate.Doom.{Doom}
+use Rattle.bosh_fates.specs.declared.fate.Doom.{Doom}
 
 -- its store, what was done to it in order, the fates in the order in which they were set, how many fired, and whether
 -- its store failed since it was read

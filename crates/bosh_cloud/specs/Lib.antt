@@ -1,5 +1,4 @@
 pub mod CloudView
-pub mod Fates
 pub mod Faults
 pub mod Loading
 pub mod Notes

@@ -13,10 +13,10 @@ use Rattle.bosh_base.specs.declared.entry.Entry.TheVariants.{Effect}
 use Rattle.bosh_base.specs.declared.method.Method.{Method}
 use Rattle.bosh_base.specs.declared.owner.Owner.{Owner}
 use Rattle.bosh_cloud.specs.CloudView.{CloudView}
-use Rattle.bosh_cloud.specs.Fates.{decided, fates_after, met}
+use Rattle.bosh_fates.specs.Fates.{decided, fates_after, met}
 use Rattle.bosh_cloud.specs.Notes.{SameFates}
-use Rattle.bosh_cloud.specs.declared.fate.Fate.{Fate}
-use Rattle.bosh_cloud.specs.declared.fate.Fate.TheVariants.{Lose, Late}
+use Rattle.bosh_fates.specs.declared.fate.Fate.{Fate}
+use Rattle.bosh_fates.specs.declared.fate.Fate.TheVariants.{Lose, Late}
 use Rattle.bosh_cloud.specs.declared.fault.CloudFault.{CloudFault}
 use Rattle.bosh_cloud.specs.declared.fault.CloudFault.TheVariants.{StoreFault, Memory}
 use Rattle.bosh_ports.specs.Faults.{count_with}

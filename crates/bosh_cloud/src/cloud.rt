@@ -6,8 +6,8 @@ ghost use Rattle.bosh_inventory.specs.Rows.{slots};
 ghost use Rattle.bosh_ports.specs.Faults.{count_with};
 
 use crate::CloudFault;
-use crate::fate::{Doom, Fate};
 use bosh_base::{Disk, Entry, Machine, Method, Owner};
+use bosh_fates::{Doom, Fate};
 use bosh_inventory::Inventory;
 use bosh_ports::Keeper;
 use std::alloc::Global;

@@ -3,7 +3,6 @@
 #![tactic(auto)]
 
 mod cloud;
-mod fate;
 mod fault;
 mod laws;
 mod load;
@@ -11,6 +10,5 @@ mod note;
 mod perform;
 
 pub use cloud::SimCloud;
-pub use fate::{Doom, Fate};
 pub use fault::CloudFault;
 pub use laws::{what_is_kept_is_loaded, what_is_loaded_is_kept, what_was_done_is_loaded};

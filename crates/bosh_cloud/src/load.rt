@@ -38,6 +38,7 @@ impl<L: Keeper> SimCloud<L> {
 
     /// The cloud as its store tells of it now. The store is reloaded first, and the fates wait on. Where it is refused
     /// the cloud stays as it was, and, but for want of memory, has to be reloaded.
+    // Dear to prove: the inventory that was there goes where the one that was read takes its place.
     pub fn reload(&mut self) -> Result<(), CloudFault>
         ensures reads { Reads L.bodies L.faults self.old.store (with_effects result self.new.effects) self.new.store }
         ensures refused { IfErr result (λ _. self.new.effects ≡ self.old.effects) }
@@ -60,6 +61,7 @@ impl<L: Keeper> SimCloud<L> {
 }
 
 /// What a store tells that was done, once it is reloaded.
+// Dear to prove: the inventory is alive where a body may be refused.
 fn restored<L: Keeper>(alloc: Global, store: &mut L) -> Result<Inventory, CloudFault>
     ensures reads { Reads L.bodies L.faults store.old result store.new }
     ensures mends { Mends result (L.is_broken store.old) (L.is_broken store.new) }

@@ -5,9 +5,9 @@ ghost use Rattle.bosh_base.specs.CallStep.{CallStep};
 ghost use Rattle.bosh_cloud.specs.Notes.{Does, SameFates};
 ghost use Rattle.bosh_cloud.specs.Performs.{added, added_by, answer_under, fate_of, has_effect, lacked_memory, MeetsFates, Spends};
 
-use crate::fate::{Fate, come_nearer, decided, met};
 use crate::{CloudFault, SimCloud};
 use bosh_base::{Answer, Call, Method, Name, Owner};
+use bosh_fates::{Fate, come_nearer, decided, met};
 use bosh_inventory::changes_by;
 use bosh_ports::Keeper;
 

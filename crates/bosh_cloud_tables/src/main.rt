@@ -3,6 +3,7 @@
 #![tactic(auto)]
 
 mod calls;
+mod rotting;
 mod shown;
 mod stand;
 mod steps;

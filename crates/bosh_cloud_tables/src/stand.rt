@@ -1,6 +1,7 @@
 //! The cloud that a case works on.
+use crate::rotting::Damage;
 use crate::shown::{answer_text, fault_text, push_disks, push_machines, push_part};
-use crate::store::{Store, new_store, rig, spoiled};
+use crate::store::{Store, new_store, rig, rotting, spoiled};
 use bosh_base::{Answer, Call, Name, Owner};
 use bosh_cases::{CaseFault, Outcome};
 use bosh_cloud::{CloudFault, SimCloud};
@@ -115,10 +116,17 @@ impl Stand {
         self.load(store)
     }
 
-    /// Loads the store anew, with another body at a place.
-    pub(crate) fn load_spoiled(&mut self, place: u64, body: &[u8]) -> Result<(), CaseFault> {
+    /// Loads the store anew, with damage.
+    pub(crate) fn load_spoiled(&mut self, damage: &Damage) -> Result<(), CaseFault> {
         let store = self.take_store()?;
-        let store = spoiled(self.alloc, store, place, body)?;
+        let store = spoiled(self.alloc, store, damage)?;
+        self.load(store)
+    }
+
+    /// Loads the store anew, which is damaged as soon as a body is put at its end.
+    pub(crate) fn load_rotting(&mut self, damage: Damage) -> Result<(), CaseFault> {
+        let store = self.take_store()?;
+        let store = rotting(self.alloc, store, damage);
         self.load(store)
     }
 

@@ -1,11 +1,13 @@
 //! The steps of a case.
+use crate::rotting::Damage;
 use crate::stand::Stand;
 use crate::store::Store;
-use bosh_base::{Call, Effect, Entry, Inst, Method, Name, Owner};
+use bosh_base::{Call, Effect, Entry, Inst, Method, Name, Owner, Text, Write};
 use bosh_case_words::{Worded, number, number_of, word};
 use bosh_cases::{CaseFault, both, characters, field, two};
-use bosh_cloud::{CloudFault, Fate, SimCloud};
+use bosh_cloud::{CloudFault, SimCloud};
 use bosh_entry::{EntryFault, write};
+use bosh_fates::Fate;
 use bosh_ports::Rig;
 use bosh_yaml::Node;
 use std::alloc::Global;
@@ -146,21 +148,57 @@ fn body_of(alloc: Global, entry: &Entry) -> Result<Vec<u8>, CaseFault> {
     }
 }
 
-fn spoil_by(stand: &mut Stand, place: u64, entry: &Entry) -> Result<(), CaseFault> {
-    let body = body_of(stand.alloc(), entry)?;
-    stand.load_spoiled(place, body.as_slice())
+// As `write 1 rows`: the disk and the text.
+fn write_entry(alloc: Global, words: &mut SplitWhitespace<'_>) -> Result<Entry, CaseFault> {
+    let disk = number(words)?;
+    let text = word(words)?.as_bytes().to_vec(alloc)?;
+    Ok(Entry::Write(Write {
+        disk,
+        text: Text::from(text),
+    }))
 }
 
-// As `spoil 0 junk`, or `spoil 0 9 start 1`, by the effect of a call.
-fn spoil_step(stand: &mut Stand, words: &mut SplitWhitespace<'_>) -> Result<(), CaseFault> {
-    let place = number(words)?;
+// Generic, as `with` is.
+fn spelled<T: Drop, F: FnOnce(Global, &T) -> Result<Vec<u8>, CaseFault> + Drop>(
+    alloc: Global,
+    given: Result<T, CaseFault>,
+    spell: F,
+) -> Result<Vec<u8>, CaseFault>
+    requires { F.IsAlwaysCallable spell }
+{
+    match given {
+        Ok(given) => spell(alloc, &given),
+        Err(fault) => Err(fault),
+    }
+}
+
+// `junk`, the body of a write, or that of the effect of a call.
+fn other_body(alloc: Global, words: &mut SplitWhitespace<'_>) -> Result<Vec<u8>, CaseFault> {
     match word(words)? {
-        "junk" => stand.load_spoiled(place, b"junk"),
+        "junk" => Ok(b"junk".to_vec(alloc)?),
+        "write" => spelled(alloc, write_entry(alloc, words), body_of),
         n => {
-            let given = effect(stand.alloc(), number_of(n)?, words);
-            with(stand, given, |stand, entry| spoil_by(stand, place, entry))
+            let given = effect(alloc, number_of(n)?, words);
+            spelled(alloc, given, body_of)
         }
     }
+}
+
+// As `0 junk`, `0 9 start 1` or `0 write 1 rows`: the place, and the body there.
+fn damage(alloc: Global, words: &mut SplitWhitespace<'_>) -> Result<Damage, CaseFault> {
+    let place = number(words)?;
+    let body = other_body(alloc, words)?;
+    Ok(Damage { place, body })
+}
+
+fn spoil_step(stand: &mut Stand, words: &mut SplitWhitespace<'_>) -> Result<(), CaseFault> {
+    let damage = damage(stand.alloc(), words)?;
+    stand.load_spoiled(&damage)
+}
+
+fn rot_step(stand: &mut Stand, words: &mut SplitWhitespace<'_>) -> Result<(), CaseFault> {
+    let damage = damage(stand.alloc(), words)?;
+    stand.load_rotting(damage)
 }
 
 fn take_words(stand: &mut Stand, text: &str) -> Result<(), CaseFault> {
@@ -172,6 +210,7 @@ fn take_words(stand: &mut Stand, text: &str) -> Result<(), CaseFault> {
         "load" => stand.load_again(),
         "rig" => rig_step(stand, &mut words),
         "spoil" => spoil_step(stand, &mut words),
+        "rot" => rot_step(stand, &mut words),
         "faults" => stand.tell_faults(),
         _ => {
             let owner = owner(stand.alloc());

@@ -1,12 +1,13 @@
 //! The store of a cloud: one in memory, that can be made to fail and be damaged.
+use crate::rotting::{Damage, Rotting};
 use bosh_cases::CaseFault;
-use bosh_ports::{KeepFault, Keeper, MemKeeper, Rig, Rigged};
+use bosh_ports::{KeepFault, Keeper, Rig, Rigged};
 use std::alloc::Global;
 
-pub(crate) type Store = Rigged<MemKeeper>;
+pub(crate) type Store = Rigged<Rotting>;
 
 pub(crate) fn new_store(alloc: Global) -> Store {
-    Rigged::new(alloc, MemKeeper::new(alloc))
+    Rigged::new(alloc, Rotting::new(alloc))
 }
 
 fn where_memory(answer: Result<(), KeepFault>) -> Result<(), CaseFault> {
@@ -24,17 +25,19 @@ pub(crate) fn rig(store: &mut Store, k: u64, how: Rig) -> Result<(), CaseFault> 
     where_memory(store.rig(k, how))
 }
 
-/// The store with another body at a place, and without rigs.
-pub(crate) fn spoiled(
-    alloc: Global,
-    store: Store,
-    place: u64,
-    body: &[u8],
-) -> Result<Store, CaseFault> {
+/// The store with damage, and without rigs.
+pub(crate) fn spoiled(alloc: Global, store: Store, damage: &Damage) -> Result<Store, CaseFault> {
     let mut inner = store.into_inner();
-    if place >= inner.len() {
+    if damage.place >= inner.len() {
         return Err(CaseFault::Form);
     }
-    where_memory(inner.spoil(place, body))?;
+    where_memory(inner.suffer(damage))?;
     Ok(Rigged::new(alloc, inner))
+}
+
+/// The store that is damaged as soon as a body is put at its end, and without rigs.
+pub(crate) fn rotting(alloc: Global, store: Store, damage: Damage) -> Store {
+    let mut inner = store.into_inner();
+    inner.rot(damage);
+    Rigged::new(alloc, inner)
 }

@@ -1,13 +1,13 @@
 -- Which calls fail: a fate waits for the k-th call of its method and owner after it was set, and is then spent
 -- (this project's profile).
-use Rattle.std.specs.Prelude.{ℕ, ◌-◌, ◌==◌, ◌&&◌, Bool, true, if◌then◌else◌, Option, Some, None, List, map, find, count_by}
+use Rattle.std.specs.Prelude.{ℕ, ◌-◌, ◌==◌, ◌&&◌, not, Bool, true, if◌then◌else◌, Option, Some, None, List, filter, map, find, count_by}
 use Rattle.std.specs.Option.{option_map}
 use Rattle.bosh_base.specs.contracts.method.MethodPartialEq.TheImpl as method_test
 use Rattle.bosh_base.specs.contracts.owner.OwnerPartialEq.TheImpl as owner_test
 use Rattle.bosh_base.specs.declared.method.Method.{Method}
 use Rattle.bosh_base.specs.declared.owner.Owner.{Owner}
-use Rattle.bosh_cloud.specs.declared.fate.Doom.{Doom}
-use Rattle.bosh_cloud.specs.declared.fate.Fate.{Fate}
+use Rattle.bosh_fates.specs.declared.fate.Doom.{Doom}
+use Rattle.bosh_fates.specs.declared.fate.Fate.{Fate}
 
 -- a fate without an owner matches every owner
 abbrev pub is_whose : Option Owner → Owner → Bool
@@ -33,6 +33,10 @@ met method owner dooms = count_by (is_due method owner) dooms
 abbrev pub nearer : Method → Owner → Doom → Doom
 nearer method owner doom = if matches method owner doom then record doom { calls = doom.calls - 1 } else doom
 
--- the fates after a call: those that match are one nearer, and those that were due are spent
+-- it waits for a call that is still to come
+abbrev pub is_waiting : Doom → Bool
+is_waiting doom = not (doom.calls == 0)
+
+-- the fates after a call: those that match are one nearer, and those that were due are spent and leave
 abbrev pub fates_after : Method → Owner → List Doom → List Doom
-fates_after method owner dooms = map (nearer method owner) dooms
+fates_after method owner dooms = filter is_waiting (map (nearer method owner) dooms)

@@ -1,5 +1,5 @@
-ghost use Rattle.std.specs.Prelude.{◌≡◌};
-ghost use Rattle.bosh_cloud.specs.Fates.{decided, fates_after, matches, met, nearer};
+ghost use Rattle.std.specs.Prelude.{◌≡◌, filter, map};
+ghost use Rattle.bosh_fates.specs.Fates.{decided, fates_after, is_waiting, matches, met, nearer};
 
 use bosh_base::{Method, Owner};
 
@@ -18,7 +18,7 @@ pub struct Doom {
     pub method: Method,
     /// Whose calls it waits for, or everybody's.
     pub owner: Option<Owner>,
-    /// How many matching calls from now on its call is: 1 is the next one, and 0 a call of the past.
+    /// How many matching calls from now on its call is: 1 is the next one.
     pub calls: u64,
     pub fate: Fate,
 }
@@ -37,7 +37,7 @@ impl Doom {
 }
 
 /// The fate that decides on a call: the first that was set of those whose call it is.
-pub(crate) fn decided(dooms: &[Doom], method: Method, owner: &Owner) -> Option<Fate>
+pub fn decided(dooms: &[Doom], method: Method, owner: &Owner) -> Option<Fate>
     ensures { result ≡ decided method owner.now dooms.now }
 {
     dooms
@@ -47,7 +47,7 @@ pub(crate) fn decided(dooms: &[Doom], method: Method, owner: &Owner) -> Option<F
 }
 
 /// How many fates a call meets.
-pub(crate) fn met(dooms: &[Doom], method: Method, owner: &Owner) -> usize
+pub fn met(dooms: &[Doom], method: Method, owner: &Owner) -> usize
     ensures { result ≡ met method owner.now dooms.now }
 {
     dooms
@@ -56,11 +56,24 @@ pub(crate) fn met(dooms: &[Doom], method: Method, owner: &Owner) -> usize
         .count()
 }
 
-/// A call that matches brings fates nearer. Those that it meets are spent.
-pub(crate) fn come_nearer(dooms: &mut Vec<Doom>, method: Method, owner: &Owner)
+/// A call that matches brings fates nearer. Those that it meets are spent, and leave.
+pub fn come_nearer(dooms: &mut Vec<Doom>, method: Method, owner: &Owner)
     ensures { dooms.new.items ≡ fates_after method owner.now dooms.old.items }
 {
-    for doom in dooms.iter_mut() {
+    near_all(dooms, method, owner);
+    leave_spent(dooms);
+}
+
+fn leave_spent(dooms: &mut Vec<Doom>)
+    ensures { dooms.new.items ≡ filter is_waiting dooms.old.items }
+{
+    dooms.retain(|doom| doom.calls != 0);
+}
+
+fn near_all(dooms: &mut [Doom], method: Method, owner: &Owner)
+    ensures { dooms.new ≡ map (nearer method owner.now) dooms.old }
+{
+    for doom in dooms {
         near(doom, method, owner);
     }
 }

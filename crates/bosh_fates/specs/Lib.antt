@@ -1,0 +1,2 @@
+pub mod FateRuns
+pub mod Fates
