@@ -4,4 +4,6 @@ pub mod Assignment
 pub mod Fixed
 pub mod Free
 pub mod Kept
+pub mod Safe
 pub mod Search
+pub mod Table

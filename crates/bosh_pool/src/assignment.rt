@@ -1,17 +1,20 @@
 //! The addresses of all wants.
-ghost use Rattle.std.specs.Prelude.{◌≡◌, ◌||◌, Option, length, map, IfOk, OnOk};
+ghost use Rattle.std.specs.Prelude.{◌≡◌, ◌||◌, List, Option, [], length, map, IfOk, OnOk};
 ghost use Rattle.std.specs.List.{list_any};
 ghost use Rattle.bosh_base.specs.declared.addr.Addr.{Addr};
+ghost use Rattle.bosh_base.specs.declared.view.Held.{Held};
 ghost use Rattle.bosh_bands.specs.Least.{first_of};
 ghost use Rattle.bosh_bands.specs.Order.{IsInOrder};
-ghost use Rattle.bosh_pool.specs.Answer.{IsAnswer};
+ghost use Rattle.bosh_pool.specs.Answer.{IsAnswer, IsTest};
 ghost use Rattle.bosh_pool.specs.Assignment.{assignment, free_for, given, placed};
-ghost use Rattle.bosh_pool.specs.Fixed.{is_given, same_addr};
+ghost use Rattle.bosh_pool.specs.Fixed.{fixed_faults, is_given, same_addr};
 ghost use Rattle.bosh_pool.specs.Free.{AreClosed, IsReady, is_used};
 ghost use Rattle.bosh_pool.specs.Kept.{is_taken, own};
 ghost use Rattle.bosh_pool.specs.Search.{AreReady};
+ghost use Rattle.bosh_pool.specs.Table.{AreEntries};
 ghost use Rattle.bosh_pool.specs.declared.want.Want.{Want};
 
+use crate::entries::Entries;
 use crate::fixed::check_fixed;
 use crate::kept::own_addrs;
 use crate::search::least_free;
@@ -192,6 +195,36 @@ fn give_unused(
     )
 }
 
+// The address of each want that the manifest gives, or that its instance keeps, unless one that it gives is refused.
+fn own_by<'a>(
+    alloc: Global,
+    wants: &'a [Want],
+    plan: &NetPlan,
+    entries: &Entries<'a>,
+) -> Result<Vec<Option<Addr>>, PoolFault>
+    ensures checked { (taken kept : List Held) → AreEntries taken kept entries.now
+        → IsTest result (fixed_faults plan.now taken kept [] wants.now) }
+    ensures own { (taken kept : List Held) → AreEntries taken kept entries.now
+        → IfOk result (λ addrs. addrs.items ≡ map (own plan.now taken kept) wants.now) }
+{
+    check_fixed(alloc, wants, plan, entries)?;
+    Ok(own_addrs(alloc, wants, plan, entries)?)
+}
+
+fn checked_own(
+    alloc: Global,
+    wants: &[Want],
+    plan: &NetPlan,
+    taken: &[Held],
+    kept: &[Held],
+) -> Result<Vec<Option<Addr>>, PoolFault>
+    ensures checked { IsTest result (fixed_faults plan.now taken.now kept.now [] wants.now) }
+    ensures own { IfOk result (λ addrs. addrs.items ≡ map (own plan.now taken.now kept.now) wants.now) }
+{
+    let entries = Entries::of(alloc, taken, kept)?;
+    own_by(alloc, wants, plan, &entries)
+}
+
 /// The addresses of wants, which stand in manifest order, in their order. A want has the address that the manifest
 /// gives; else, where its instance holds in `kept` one of the network that it may go on with, that one; else the least
 /// that is free. `kept` has what the recorded instances of the deployment hold that stay, and `taken` what all others
@@ -206,8 +239,7 @@ pub fn assign(
 ) -> Result<Seq<Addr>, PoolFault>
     ensures { IsAnswer result (assignment wants.now plan.now taken.now kept.now) }
 {
-    check_fixed(alloc, wants, plan, taken, kept)?;
-    let own = own_addrs(alloc, wants, plan, taken, kept)?;
+    let own = checked_own(alloc, wants, plan, taken, kept)?;
     let mut used = held_numbers(alloc, taken, kept, own.as_slice())?;
     give_unused(alloc, wants, own.as_slice(), plan, &mut used)
 }
