@@ -1,5 +1,6 @@
 pub mod AssignedLemmas
 pub mod AssignmentLemmas
+pub mod ClosedLemmas
 pub mod ListLemmas
 pub mod SafeLemmas
 pub mod SearchLemmas

@@ -1,6 +1,7 @@
 pub mod Answer
 pub mod Assigned
 pub mod Assignment
+pub mod Closed
 pub mod Fixed
 pub mod Free
 pub mod Kept

@@ -2,6 +2,7 @@
 #![tactic(auto)]
 
 mod assignment;
+mod closed;
 mod entries;
 mod fault;
 mod fixed;

@@ -9,7 +9,7 @@ use Rattle.bosh_pool.specs.Free.{is_used}
 use Rattle.bosh_pool.specs.Kept.{is_taken, own}
 use Rattle.bosh_pool.specs.declared.fault.PoolFault.{PoolFault}
 use Rattle.bosh_pool.proofs.AssignmentLemmas.{list_any-map}
-use Rattle.bosh_pool.proofs.assignment.assign.Goals as goal
+use Rattle.bosh_pool.proofs.assignment.assign_by.Goals as goal
 
 pub returns : goal.returns
 returns c =
