@@ -1,16 +1,21 @@
 -- Whether bands in order have an address is told by how far they reach.
-use Rattle.std.proofs.Common.{◌≡◌, ℕ, zero, suc, ◌+◌, ◌-◌, ◌<◌, ◌≤◌, Bool, true, false, ◌&&◌, ◌||◌, List, [], ◌∷◌, ◌++◌, get_or, drop, take, length, max, nat_le, arith, refl, sym, ap, ◌∙◌, inl, inr, length-append, length-drop, length-take, add-one}
+use Rattle.std.proofs.Common.{◌≡◌, ℕ, zero, suc, ◌+◌, ◌-◌, ◌<◌, ◌≤◌, Bool, true, false, ◌&&◌, ◌||◌, List, [], ◌∷◌, ◌++◌, get_or, drop, take, length, max, nat_le, arith, refl, sym, ap, subst, ◌∙◌, inl, inr, length-append, length-drop, length-take, add-one}
+use Rattle.std.specs.Fn.{Called, ComputesKey}
 use Rattle.std.specs.List.{fold, list_any}
-use Rattle.std.specs.List.Sorted.{IsPartitionPoint}
+use Rattle.std.specs.List.Sorted.{IsPartitionPoint, IsPartitionedBy}
 use Rattle.std.proofs.lemmas.Bool.{cases_lt}
 use Rattle.std.proofs.lemmas.Bool.Decides.{nat_tests}
 use Rattle.std.proofs.lemmas.List.{get_or_append_left, get_or_push, get_or-drop, get_or-take, take-append-drop}
 use Rattle.std.proofs.lemmas.List.Folds.{list_any-append}
+use Rattle.std.proofs.lemmas.List.Sorted.{IsPartitionPoint-from_clause, IsPartitionedBy-leb}
 use Rattle.std.proofs.Math.Bool.{or-false}
+use denote.Param.Members.{Mut}
+use denote.Ref.{Bor}
 use Rattle.bosh_base.specs.Plan.{is_in_some, is_within}
 use Rattle.bosh_base.specs.declared.addr.Addr.{Addr}
 use Rattle.bosh_base.specs.declared.addr.Band.{Band}
 use Rattle.bosh_base.specs.declared.plan.Subnet.{Subnet}
+use Rattle.bosh_bands.specs.Order.{IsInOrder}
 use Rattle.bosh_pool.specs.Closed.{AreAllClosed, AreReaches, IsClosed, reach}
 use Rattle.bosh_pool.specs.declared.closed.Closed.{Closed}
 
@@ -83,6 +88,21 @@ pub none_closed_by : (addr : Addr) (bands : List Band) (begun : ℕ) → IsParti
     → begun ≡ 0 → is_in_some addr bands ≡ false
 none_closed_by addr bands zero point none = parts addr bands zero (omega arith) point
 none_closed_by addr bands (suc n) point none = absurd (omega arith)
+
+-- what a partition point of the bands in order tells
+pub point_of : {F : Type 0} {g : Mut F (Bor Band × Unit {0}) Bool} {f : F} (addr : Addr) (xs bands : List Band) (begun : ℕ) → xs ≡ bands → IsInOrder bands
+    → ((p : Band → Bool) → ComputesKey g p f → IsPartitionedBy p xs → IsPartitionPoint (λ y. p y ≡ true) (λ y. p y ≡ false) xs begun)
+    → ((a : Bor Band × Unit {0}) (r : Bool) (f' : F) → Called g f a r f' → (r ≡ nat_le a.0.now.first.0 addr.0) × (f' ≡ f))
+    → IsPartitionPoint (λ band. nat_le band.first.0 addr.0 ≡ true) (λ band. nat_le band.first.0 addr.0 ≡ false) bands begun
+point_of addr xs bands begun same order told calls =
+    let in_order : IsInOrder xs = subst (λ (ys : List Band). IsInOrder ys) (sym same) order in
+    subst (λ (ys : List Band). IsPartitionPoint (λ band. nat_le band.first.0 addr.0 ≡ true) (λ band. nat_le band.first.0 addr.0 ≡ false) ys begun) same
+    (IsPartitionPoint-from_clause (λ band. nat_le band.first.0 addr.0) xs begun told (IsPartitionedBy-leb (λ band. band.first.0) xs addr.0 in_order) calls)
+
+-- the bands of the subnet at a place
+pub closed_at : (subnets : List Subnet) (closed : List Closed) (i : ℕ) (subnet : Subnet) (one : Closed) → AreAllClosed subnets closed → i < length subnets → subnet ≡ get_or subnets i subnet
+    → IsClosed subnet (get_or closed i one)
+closed_at subnets closed i subnet one all within is = subst (λ (s : Subnet). IsClosed s (get_or closed i one)) (sym is) (all.each i subnet one within)
 
 -- one subnet more
 pub AreAllClosed-push : (subnets : List Subnet) (closed : List Closed) (subnet : Subnet) (one : Closed) → IsClosed subnet one → AreAllClosed subnets closed → AreAllClosed (subnets ++ subnet ∷ []) (closed ++ one ∷ [])

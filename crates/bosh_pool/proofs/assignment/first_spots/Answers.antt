@@ -1,38 +1,26 @@
 -- The search in one subnet more is begun.
-use Rattle.std.proofs.Common.{◌≡◌, ◌+◌, ◌<◌, ◌∷◌, [], ◌++◌, List, get_or, length, take, ap, sym, subst, ◌∙◌, arith}
+use Rattle.std.proofs.Common.{◌≡◌, ◌+◌, ◌<◌, ◌∷◌, [], ◌++◌, List, length, take, ap, sym, subst, ◌∙◌, arith}
 use Rattle.std.proofs.lemmas.List.{take_more}
 use Rattle.bosh_base.specs.Plan.{is_in_some}
 use Rattle.bosh_base.specs.declared.addr.Band.{Band}
 use Rattle.bosh_base.specs.declared.plan.Subnet.{Subnet}
 use Rattle.bosh_bands.specs.Order.{IsInOrder}
-use Rattle.bosh_pool.specs.Closed.{IsClosed}
 use Rattle.bosh_pool.specs.Free.{IsReady}
 use Rattle.bosh_pool.specs.Search.{AreReady}
 use Rattle.bosh_pool.specs.declared.closed.Closed.{Closed}
 use Rattle.bosh_pool.specs.declared.spot.Spot.{Spot}
+use Rattle.bosh_pool.proofs.ClosedLemmas.{closed_at}
 use Rattle.bosh_pool.proofs.SearchLemmas.{AreReady-push}
 use Rattle.bosh_pool.proofs.assignment.first_spots.Goals as goal
 
 pub first_spot-requires-clause-order : goal.first_spot-requires-clause-order
 first_spot-requires-clause-order c =
-    let i = c.loop-i.i in
-    let subnets = c.args.subnets.now in
-    let closed = c.args.closed.now in
-    let subnet = c.index-subnets-i.result in
-    let one = c.index-closed-i.result in
-    let at : IsClosed (get_or subnets i subnet) (get_or closed i one) = c.requires.each i subnet one c.loop-i-test.true in
-    let is : IsClosed subnet (get_or closed i one) = subst (λ (s : Subnet). IsClosed s (get_or closed i one)) (sym c.index-subnets-i.is) at in
+    let is = closed_at c.args.subnets.now c.args.closed.now c.loop-i.i c.index-subnets-i.result c.index-closed-i.result c.requires c.loop-i-test.true c.index-subnets-i.is in
     subst (λ (xs : List Band). IsInOrder xs) (sym c.as_slice.ensures) is.order
 
 pub first_spot-requires-clause-closed : goal.first_spot-requires-clause-closed
 first_spot-requires-clause-closed c = λ addr.
-    let i = c.loop-i.i in
-    let subnets = c.args.subnets.now in
-    let closed = c.args.closed.now in
-    let subnet = c.index-subnets-i.result in
-    let one = c.index-closed-i.result in
-    let at : IsClosed (get_or subnets i subnet) (get_or closed i one) = c.requires.each i subnet one c.loop-i-test.true in
-    let is : IsClosed subnet (get_or closed i one) = subst (λ (s : Subnet). IsClosed s (get_or closed i one)) (sym c.index-subnets-i.is) at in
+    let is = closed_at c.args.subnets.now c.args.closed.now c.loop-i.i c.index-subnets-i.result c.index-closed-i.result c.requires c.loop-i-test.true c.index-subnets-i.is in
     ap (is_in_some addr) c.as_slice.ensures ∙ is.bands addr
 
 pub loop-i-preserved : goal.loop-i-preserved

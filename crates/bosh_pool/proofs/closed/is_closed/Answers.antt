@@ -1,11 +1,8 @@
 -- The bands that begin no later than an address are those up to the partition point.
-use Rattle.std.proofs.Common.{◌≡◌, ℕ, ◌-◌, ◌≤◌, true, false, List, get_or, length, nat_le, ap, sym, subst, ◌∙◌, arith, rules}
+use Rattle.std.proofs.Common.{◌≡◌, ℕ, ◌-◌, ◌≤◌, List, get_or, length, nat_le, ap, sym, subst, ◌∙◌, arith, rules}
 use Rattle.std.specs.Prelude.{nat_lt}
-use Rattle.std.specs.List.Sorted.{IsPartitionPoint}
-use Rattle.std.proofs.lemmas.List.Sorted.{IsPartitionPoint-from_clause, IsPartitionedBy-leb}
 use Rattle.bosh_base.specs.declared.addr.Band.{Band}
-use Rattle.bosh_bands.specs.Order.{IsInOrder}
-use Rattle.bosh_pool.proofs.ClosedLemmas.{is_closed_by, none_closed_by}
+use Rattle.bosh_pool.proofs.ClosedLemmas.{is_closed_by, none_closed_by, point_of}
 use Rattle.bosh_pool.proofs.closed.is_closed.Goals as goal
 
 pub returns-then-begun-gt0 : goal.returns-then-begun-gt0
@@ -13,14 +10,8 @@ returns-then-begun-gt0 c =
     let bands = c.args.closed.now.bands in
     let addr = c.args.addr in
     let begun = c.partition_point-begun.result in
-    let same : c.as_slice.result.now ≡ bands = c.as_slice.ensures in
-    let order : IsInOrder c.as_slice.result.now = subst (λ (xs : List Band). IsInOrder xs) (sym same) c.requires.order in
-    let there : IsPartitionPoint (λ band. nat_le band.first.0 addr.0 ≡ true) (λ band. nat_le band.first.0 addr.0 ≡ false) c.as_slice.result.now begun =
-    IsPartitionPoint-from_clause (λ band. nat_le band.first.0 addr.0) c.as_slice.result.now begun c.partition_point-begun.ensures.partitioned
-    (IsPartitionedBy-leb (λ band. band.first.0) c.as_slice.result.now addr.0 order) (λ a r f' q. search rules) in
-    let point : IsPartitionPoint (λ band. nat_le band.first.0 addr.0 ≡ true) (λ band. nat_le band.first.0 addr.0 ≡ false) bands begun =
-    subst (λ (xs : List Band). IsPartitionPoint (λ band. nat_le band.first.0 addr.0 ≡ true) (λ band. nat_le band.first.0 addr.0 ≡ false) xs begun) same there in
-    let within : begun ≤ length bands = subst (λ (xs : List Band). begun ≤ length xs) same c.partition_point-begun.ensures.bound in
+    let point = point_of addr c.as_slice.result.now bands begun c.as_slice.ensures c.requires.order c.partition_point-begun.ensures.partitioned (λ a r f' q. search rules) in
+    let within : begun ≤ length bands = subst (λ (xs : List Band). begun ≤ length xs) c.as_slice.ensures c.partition_point-begun.ensures.bound in
     ap (λ (xs : List ℕ). nat_le addr.0 (get_or xs (begun - 1) 0)) c.as_slice-then-begun-gt0.ensures
     ∙ is_closed_by addr bands c.args.closed.now.reaches begun within point c.requires.reaches c.if-begun-gt0.true 0
     ∙ c.requires.bands addr
@@ -30,12 +21,6 @@ returns-else-begun-gt0 c =
     let bands = c.args.closed.now.bands in
     let addr = c.args.addr in
     let begun = c.partition_point-begun.result in
-    let same : c.as_slice.result.now ≡ bands = c.as_slice.ensures in
-    let order : IsInOrder c.as_slice.result.now = subst (λ (xs : List Band). IsInOrder xs) (sym same) c.requires.order in
-    let there : IsPartitionPoint (λ band. nat_le band.first.0 addr.0 ≡ true) (λ band. nat_le band.first.0 addr.0 ≡ false) c.as_slice.result.now begun =
-    IsPartitionPoint-from_clause (λ band. nat_le band.first.0 addr.0) c.as_slice.result.now begun c.partition_point-begun.ensures.partitioned
-    (IsPartitionedBy-leb (λ band. band.first.0) c.as_slice.result.now addr.0 order) (λ a r f' q. search rules) in
-    let point : IsPartitionPoint (λ band. nat_le band.first.0 addr.0 ≡ true) (λ band. nat_le band.first.0 addr.0 ≡ false) bands begun =
-    subst (λ (xs : List Band). IsPartitionPoint (λ band. nat_le band.first.0 addr.0 ≡ true) (λ band. nat_le band.first.0 addr.0 ≡ false) xs begun) same there in
+    let point = point_of addr c.as_slice.result.now bands begun c.as_slice.ensures c.requires.order c.partition_point-begun.ensures.partitioned (λ a r f' q. search rules) in
     let none : begun ≡ 0 = omega (arith, c.if-begun-gt0.false) in
     ap (λ (n : ℕ). nat_lt 0 n) none ∙ sym (none_closed_by addr bands begun point none) ∙ c.requires.bands addr

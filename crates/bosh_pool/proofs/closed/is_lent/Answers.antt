@@ -1,17 +1,11 @@
-use Rattle.std.proofs.Common.{get_or, subst, sym}
-use Rattle.bosh_base.specs.declared.plan.Subnet.{Subnet}
+use Rattle.std.proofs.Common.{subst, sym}
 use Rattle.bosh_pool.specs.Closed.{IsClosed}
 use Rattle.bosh_pool.specs.declared.closed.Closed.{Closed}
+use Rattle.bosh_pool.proofs.ClosedLemmas.{closed_at}
 use Rattle.bosh_pool.proofs.closed.is_lent.Goals as goal
 
 pub lends-requires : goal.lends-requires
 lends-requires c =
-    let i = c.loop-i.i in
-    let subnets = c.args.subnets.now in
-    let closed = c.args.closed.now in
     let subnet = c.index-subnets-i.result in
-    let one = c.index-closed-i.result in
-    let at : IsClosed (get_or subnets i subnet) (get_or closed i one) = c.requires.each i subnet one c.loop-i-test.true in
-    let is : IsClosed subnet one =
-    subst (λ (s : Subnet). IsClosed s one) (sym c.index-subnets-i.is) (subst (λ (k : Closed). IsClosed (get_or subnets i subnet) k) (sym c.index-closed-i.is) at) in
-    is
+    subst (λ (k : Closed). IsClosed subnet k) (sym c.index-closed-i.is)
+    (closed_at c.args.subnets.now c.args.closed.now c.loop-i.i subnet c.index-closed-i.result c.requires c.loop-i-test.true c.index-subnets-i.is)
