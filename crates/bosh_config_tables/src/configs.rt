@@ -22,6 +22,7 @@ fn push_names(text: &mut Vec<u8>, word: &[u8], names: &Seq<Name>) -> Result<(), 
     Ok(())
 }
 
+// Dear to prove, since each of its steps may fail.
 fn push_subnet(text: &mut Vec<u8>, subnet: &Subnet) -> Result<(), AllocError> {
     push_parts(text, &[b"subnet ", subnet.net.as_bytes()])?;
     push_band(text, b" ", subnet.range)?;
@@ -48,6 +49,7 @@ fn push_vm_types(text: &mut Vec<u8>, kinds: &Seq<VmKind>) -> Result<(), AllocErr
     Ok(())
 }
 
+// Dear to prove, since each step may fail at each turn.
 fn push_disk_types(text: &mut Vec<u8>, kinds: &Seq<DiskKind>) -> Result<(), AllocError> {
     for kind in kinds {
         push_parts(text, &[b"disk ", kind.name.as_bytes()])?;
@@ -64,6 +66,7 @@ fn push_compilation(text: &mut Vec<u8>, wanted: &Compilation) -> Result<(), Allo
     push_parts(text, &[b" ", wanted.network.as_bytes(), b"\n"])
 }
 
+// Dear to prove, since the text is alive at each step that may fail.
 fn shown(alloc: Global, config: &Config) -> Result<Vec<u8>, AllocError> {
     let mut text = Vec::new(alloc);
     push_names(&mut text, b"azs", &config.azs)?;
@@ -75,7 +78,7 @@ fn shown(alloc: Global, config: &Config) -> Result<Vec<u8>, AllocError> {
     Ok(text)
 }
 
-/// What a text is checked as.
+/// What a text is checked as. Dear to prove, since its node is alive beside the config or one of eleven faults.
 pub(crate) fn checked(alloc: Global, given: &Node) -> Result<Outcome, CaseFault> {
     let node = node_of(alloc, given)?;
     match check(alloc, &node) {
@@ -84,7 +87,7 @@ pub(crate) fn checked(alloc: Global, given: &Node) -> Result<Outcome, CaseFault>
     }
 }
 
-/// The config of a text that has no fault.
+/// The config of a text that has no fault. Dear to prove, since its node is alive beside the config or a fault.
 pub(crate) fn config_of(alloc: Global, given: &Node) -> Result<Config, CaseFault> {
     let node = node_of(alloc, given)?;
     match check(alloc, &node) {
@@ -107,7 +110,8 @@ fn use_of(config: &Config, place: &(Name, Name), addr: Addr) -> &'static str {
     }
 }
 
-/// To whom the config of the setting gives an address of a network in a zone.
+/// To whom the config of the setting gives an address of a network in a zone. Dear to prove, since the config is alive
+/// beside the names.
 pub(crate) fn address(alloc: Global, setting: &Node, given: &Node) -> Result<Outcome, CaseFault> {
     let addr: Addr = field(alloc, given, "addr")?;
     let (config, place) = both(

@@ -63,7 +63,8 @@ fn given_of(alloc: Global, given: &Node) -> Result<(Vec<Want>, (Vec<Held>, Vec<H
     both(wants(alloc, given), holders)
 }
 
-/// The addresses of wants, under the config of the setting.
+/// The addresses of wants, under the config of the setting. Dear to prove, since the config, the wants and two lists of
+/// what is held are alive beside the answer.
 pub(crate) fn assigned(alloc: Global, setting: &Node, given: &Node) -> Result<Outcome, CaseFault> {
     let (config, (wants, (taken, kept))) = both(config_of(alloc, setting), given_of(alloc, given))?;
     let plan = &config.plan;

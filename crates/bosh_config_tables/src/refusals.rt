@@ -12,7 +12,7 @@ fn with_addr(alloc: Global, word: &[u8], addr: Addr) -> Result<Vec<u8>, AllocErr
     Ok(words)
 }
 
-/// The refusal of a cloud config.
+/// The refusal of a cloud config. Dear to prove, with an arm for each of eleven faults.
 pub(crate) fn of_config(alloc: Global, fault: &CfgFault) -> Result<Outcome, CaseFault> {
     let words = match fault {
         CfgFault::Missing { key } => joined(alloc, &[b"Missing ", key.as_slice()]),

@@ -1,11 +1,11 @@
 -- What is given is assigned.
-use Rattle.std.proofs.Common.{◌≡◌, Bool, ◌&&◌, ◌||◌, not, List, [], ◌∷◌, Option, Some, None, Result, Ok, Err, find, refl, sym, ap, ◌∙◌, subst}
+use Rattle.std.proofs.Common.{◌≡◌, Bool, ◌&&◌, ◌||◌, not, List, [], ◌∷◌, Option, Some, None, Result, Ok, Err, find, refl, sym, subst}
 use Rattle.std.specs.Option.{option_map}
 use Rattle.bosh_base.specs.Plan.{is_dynamic}
 use Rattle.bosh_base.specs.declared.addr.Addr.{Addr}
 use Rattle.bosh_base.specs.declared.plan.NetPlan.{NetPlan}
 use Rattle.bosh_base.specs.declared.view.Held.{Held}
-use Rattle.bosh_bands.specs.Least.{IsLeast, first_of, least}
+use Rattle.bosh_bands.specs.Least.{first_of}
 use Rattle.bosh_bands.proofs.LeastLemmas.{least-is}
 use Rattle.bosh_pool.specs.declared.fault.PoolFault.{PoolFault}
 use Rattle.bosh_pool.specs.declared.want.Want.{Want}
@@ -24,15 +24,15 @@ is_placed plan used want addr (Some fixed) entry h = sym (some_same h)
 is_placed plan used want addr None (Some held) h = sym (some_same h)
 is_placed plan used want addr None None h = least-is (λ other. is_dynamic plan want.net want.az other && not (used other)) addr h
 
-placed_some : (want : Want) (place : Option Addr) (addr : Addr) → placed want place ≡ Ok addr → place ≡ Some addr
+pub placed_some : (want : Want) (place : Option Addr) (addr : Addr) → placed want place ≡ Ok addr → place ≡ Some addr
 placed_some want None addr h = absurd (cc)
 placed_some want (Some a) addr h = cc
 
-bind-ok : {A B : Type 0} (read : Result A PoolFault) (f : A → Result B PoolFault) (b : B) → (read >>= f) ≡ Ok b → (a : A) × (read ≡ Ok a) × (f a ≡ Ok b)
+pub bind-ok : {A B : Type 0} (read : Result A PoolFault) (f : A → Result B PoolFault) (b : B) → (read >>= f) ≡ Ok b → (a : A) × (read ≡ Ok a) × (f a ≡ Ok b)
 bind-ok (Ok a) f b h = (a, refl, h)
 bind-ok (Err fault) f b h = absurd (cc)
 
-ok_same : {A : Type 0} {x y : A} → ◌≡◌ {A = Result A PoolFault} (Ok x) (Ok y) → x ≡ y
+pub ok_same : {A : Type 0} {x y : A} → ◌≡◌ {A = Result A PoolFault} (Ok x) (Ok y) → x ≡ y
 ok_same h = cc
 
 are_placed : (plan : NetPlan) (taken kept : List Held) (used : Addr → Bool) (wants : List Want) (addrs : List Addr)
@@ -45,7 +45,7 @@ are_placed plan taken kept used (want ∷ wants) addrs h =
     let here = is_placed plan used want addr want.fixed (find (is_kept plan taken want) kept) (placed_some want _ addr is_addr) in
     subst (ArePlaced plan taken kept used (want ∷ wants)) (ok_same whole) (here, are_placed plan taken kept (λ other. used other || same_addr other addr) wants others is_others)
 
-unless_ok : (fault : Option PoolFault) (answer : Result (List Addr) PoolFault) (addrs : List Addr) → unless fault answer ≡ Ok addrs → answer ≡ Ok addrs
+pub unless_ok : (fault : Option PoolFault) (answer : Result (List Addr) PoolFault) (addrs : List Addr) → unless fault answer ≡ Ok addrs → answer ≡ Ok addrs
 unless_ok None answer addrs h = h
 unless_ok (Some fault) answer addrs h = absurd (cc)
 

@@ -8,10 +8,10 @@ use Rattle.std.proofs.lemmas.List.Folds.{list_any-append}
 use Rattle.std.proofs.Math.Bool.{or-false}
 use Rattle.bosh_base.specs.Plan.{has_dynamic}
 use Rattle.bosh_base.specs.declared.addr.Addr.{Addr}
-use Rattle.bosh_base.specs.declared.addr.Band.{Band}
 use Rattle.bosh_base.specs.declared.plan.Subnet.{Subnet}
 use Rattle.bosh_bands.specs.Least.{IsLeast, least}
 use Rattle.bosh_bands.proofs.LeastLemmas.{least-found, least-nowhere}
+use Rattle.bosh_pool.specs.declared.closed.Closed.{Closed}
 use Rattle.bosh_pool.specs.declared.spot.Spot.{Spot}
 use Rattle.bosh_pool.specs.declared.want.Want.{Want}
 use Rattle.bosh_pool.specs.Free.{IsReady, is_open, is_used}
@@ -81,11 +81,11 @@ still_not_free true true false more h = absurd (true≢false (sym (more refl)))
 still_not_free true false new more h = absurd (cc)
 
 -- the search stands at a later spot in one subnet
-pub AreReady-set : (subnets : List Subnet) (bands : List (List Band)) (used : BTreeSet ℕ) (spots : List Spot) (i : ℕ) (spot : Spot) (s : Subnet) (b : List Band) → i < length subnets
-    → IsReady (get_or subnets i s) (get_or bands i b) used spot → AreReady subnets bands used spots → AreReady subnets bands used (set spots i spot)
+pub AreReady-set : (subnets : List Subnet) (bands : List Closed) (used : BTreeSet ℕ) (spots : List Spot) (i : ℕ) (spot : Spot) (s : Subnet) (b : Closed) → i < length subnets
+    → IsReady (get_or subnets i s) (get_or bands i b).bands used spot → AreReady subnets bands used spots → AreReady subnets bands used (set spots i spot)
 AreReady-set subnets bands used spots i spot s b within now ready =
     record {
-      bands_count = ready.bands_count;
+      closed_count = ready.closed_count;
       spots_count = length-set spots i spot ∙ ready.spots_count;
       each = λ k s' b' d below.
           elim (cases_eq k i) [
@@ -93,7 +93,7 @@ AreReady-set subnets bands used spots i spot s b within now ready =
                 let inside : i < length spots = omega (arith, ready.spots_count) in
                 let here : get_or (set spots i spot) k d ≡ spot = ap (λ n. get_or (set spots i spot) n d) same ∙ get_or-set_same spots i spot d inside in
                 let subnet : get_or subnets k s' ≡ get_or subnets i s = ap (λ n. get_or subnets n s') same ∙ get_or_default subnets i s' s within in
-                let closed : get_or bands k b' ≡ get_or bands i b = ap (λ n. get_or bands n b') same ∙ get_or_default bands i b' b (omega (arith, ready.bands_count)) in
+                let closed : get_or bands k b' ≡ get_or bands i b = ap (λ n. get_or bands n b') same ∙ get_or_default bands i b' b (omega (arith, ready.closed_count)) in
                 rw (here, subnet, closed) now
             | inr other ↦
                 let kept : get_or (set spots i spot) k d ≡ get_or spots k d = get_or-set_other spots i k spot d other in
@@ -107,34 +107,34 @@ Finds-least test None h = sym (least-nowhere test h)
 Finds-least test (Some addr) h = sym (least-found test addr h.1 h.0)
 
 -- the search may begin in one subnet more
-pub AreReady-push : (subnets : List Subnet) (bands : List (List Band)) (used : BTreeSet ℕ) (spots : List Spot) (subnet : Subnet) (closed : List Band) (spot : Spot)
-    → IsReady subnet closed used spot → AreReady subnets bands used spots → AreReady (subnets ++ subnet ∷ []) (bands ++ closed ∷ []) used (spots ++ spot ∷ [])
+pub AreReady-push : (subnets : List Subnet) (bands : List Closed) (used : BTreeSet ℕ) (spots : List Spot) (subnet : Subnet) (closed : Closed) (spot : Spot)
+    → IsReady subnet closed.bands used spot → AreReady subnets bands used spots → AreReady (subnets ++ subnet ∷ []) (bands ++ closed ∷ []) used (spots ++ spot ∷ [])
 AreReady-push subnets bands used spots subnet closed spot now ready =
     record {
-      bands_count = length-append bands (closed ∷ []) ∙ ap (λ n. n + 1) ready.bands_count ∙ sym (length-append subnets (subnet ∷ []));
+      closed_count = length-append bands (closed ∷ []) ∙ ap (λ n. n + 1) ready.closed_count ∙ sym (length-append subnets (subnet ∷ []));
       spots_count = length-append spots (spot ∷ []) ∙ ap (λ n. n + 1) ready.spots_count ∙ sym (length-append subnets (subnet ∷ []));
       each = λ k s b d below.
           let bounds : k < length subnets + 1 = omega (arith, length-append subnets (subnet ∷ [])) in
           elim (cases_lt k (length subnets)) [
             | inl front ↦
                 let is_subnet : get_or (subnets ++ subnet ∷ []) k s ≡ get_or subnets k s = get_or_append_left subnets (subnet ∷ []) s k front in
-                let is_closed : get_or (bands ++ closed ∷ []) k b ≡ get_or bands k b = get_or_append_left bands (closed ∷ []) b k (omega (arith, ready.bands_count)) in
+                let is_closed : get_or (bands ++ closed ∷ []) k b ≡ get_or bands k b = get_or_append_left bands (closed ∷ []) b k (omega (arith, ready.closed_count)) in
                 let is_spot : get_or (spots ++ spot ∷ []) k d ≡ get_or spots k d = get_or_append_left spots (spot ∷ []) d k (omega (arith, ready.spots_count)) in
                 rw (is_subnet, is_closed, is_spot) (ready.each k s b d front)
             | inr last ↦
                 let is_subnet : get_or (subnets ++ subnet ∷ []) k s ≡ subnet = get_or_push subnets subnet s k (omega arith) in
-                let is_closed : get_or (bands ++ closed ∷ []) k b ≡ closed = get_or_push bands closed b k (omega (arith, ready.bands_count)) in
+                let is_closed : get_or (bands ++ closed ∷ []) k b ≡ closed = get_or_push bands closed b k (omega (arith, ready.closed_count)) in
                 let is_spot : get_or (spots ++ spot ∷ []) k d ≡ spot = get_or_push spots spot d k (omega (arith, ready.spots_count)) in
                 rw (is_subnet, is_closed, is_spot) now
           ];
     }
 
 -- an address in use more leaves a search where it is
-pub AreReady-note : (subnets : List Subnet) (bands : List (List Band)) (old new : BTreeSet ℕ) (spots : List Spot) → ((addr : Addr) → is_used old addr ≡ true → is_used new addr ≡ true)
+pub AreReady-note : (subnets : List Subnet) (bands : List Closed) (old new : BTreeSet ℕ) (spots : List Spot) → ((addr : Addr) → is_used old addr ≡ true → is_used new addr ≡ true)
     → AreReady subnets bands old spots → AreReady subnets bands new spots
 AreReady-note subnets bands old new spots more ready =
     record {
-      bands_count = ready.bands_count;
+      closed_count = ready.closed_count;
       spots_count = ready.spots_count;
       each = λ k s b d below.
           let here = ready.each k s b d below in

@@ -65,12 +65,16 @@ abbrev pub holder : List Held → List Held → List Want → Want → Addr → 
 holder taken kept before want addr =
     first_of (owner_in addr taken) (first_of (other_owner want.inst addr kept) (given_to addr before))
 
-abbrev pub fixed_fault : NetPlan → List Held → List Held → List Want → Want → Option Addr → Option PoolFault
-fixed_fault plan taken kept before want None = None
-fixed_fault plan taken kept before want (Some addr) =
+-- the fault of an address that the manifest gives to a want, and that somebody may have
+abbrev pub fault_at : NetPlan → Want → Addr → Option Owner → Option PoolFault
+fault_at plan want addr owner =
     if not (list_any (has_fixed want.net addr) plan.subnets) then Some (NotStatic addr)
     else if not (is_static plan want.net want.az addr) then Some (StaticNotInAz addr)
-    else option_map (Taken addr) (holder taken kept before want addr)
+    else option_map (Taken addr) owner
+
+abbrev pub fixed_fault : NetPlan → List Held → List Held → List Want → Want → Option Addr → Option PoolFault
+fixed_fault plan taken kept before want None = None
+fixed_fault plan taken kept before want (Some addr) = fault_at plan want addr (holder taken kept before want addr)
 
 -- the first fault of an address that the manifest gives, where each want comes after those before it
 abbrev pub fixed_faults : NetPlan → List Held → List Held → List Want → List Want → Option PoolFault

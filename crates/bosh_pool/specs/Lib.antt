@@ -1,7 +1,10 @@
 pub mod Answer
 pub mod Assigned
 pub mod Assignment
+pub mod Closed
 pub mod Fixed
 pub mod Free
 pub mod Kept
+pub mod Safe
 pub mod Search
+pub mod Table

@@ -5,10 +5,10 @@ use Rattle.std.specs.List.{list_any}
 use Rattle.std.specs.Str.{bytes_eq}
 use Rattle.bosh_base.specs.Plan.{has_dynamic, is_listed}
 use Rattle.bosh_base.specs.declared.addr.Addr.{Addr}
-use Rattle.bosh_base.specs.declared.addr.Band.{Band}
 use Rattle.bosh_base.specs.declared.plan.Subnet.{Subnet}
 use Rattle.bosh_bands.specs.Least.{IsLeast, PassesNowhere}
 use Rattle.bosh_pool.specs.Free.{IsReady, is_used}
+use Rattle.bosh_pool.specs.declared.closed.Closed.{Closed}
 use Rattle.bosh_pool.specs.declared.spot.Spot.{Spot}
 use Rattle.bosh_pool.specs.declared.want.Want.{Want}
 
@@ -36,10 +36,10 @@ lesser (Some a) None = Some a
 lesser (Some a) (Some b) = Some (if nat_le a.0 b.0 then a else b)
 
 -- the search may go on from its spot in each subnet, of which these are the closed bands
-pub record AreReady (subnets : List Subnet) (bands : List (List Band)) (used : BTreeSet ℕ) (spots : List Spot)
+pub record AreReady (subnets : List Subnet) (closed : List Closed) (used : BTreeSet ℕ) (spots : List Spot)
     : Type 0 where
-  pub bands_count : length bands ≡ length subnets
+  pub closed_count : length closed ≡ length subnets
   pub spots_count : length spots ≡ length subnets
   pub each :
-      (k : ℕ) (subnet : Subnet) (closed : List Band) (spot : Spot) → k < length subnets
-      → IsReady (slice_index_or subnets k subnet) (slice_index_or bands k closed) used (slice_index_or spots k spot)
+      (k : ℕ) (subnet : Subnet) (one : Closed) (spot : Spot) → k < length subnets
+      → IsReady (slice_index_or subnets k subnet) (slice_index_or closed k one).bands used (slice_index_or spots k spot)

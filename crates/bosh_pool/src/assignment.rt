@@ -1,23 +1,27 @@
 //! The addresses of all wants.
-ghost use Rattle.std.specs.Prelude.{◌≡◌, ◌||◌, Option, length, map, IfOk, OnOk};
+ghost use Rattle.std.specs.Prelude.{◌≡◌, ◌||◌, List, Option, [], length, map, IfOk, OnOk};
 ghost use Rattle.std.specs.List.{list_any};
 ghost use Rattle.bosh_base.specs.declared.addr.Addr.{Addr};
+ghost use Rattle.bosh_base.specs.declared.view.Held.{Held};
 ghost use Rattle.bosh_bands.specs.Least.{first_of};
 ghost use Rattle.bosh_bands.specs.Order.{IsInOrder};
-ghost use Rattle.bosh_pool.specs.Answer.{IsAnswer};
+ghost use Rattle.bosh_pool.specs.Answer.{IsAnswer, IsTest};
 ghost use Rattle.bosh_pool.specs.Assignment.{assignment, free_for, given, placed};
-ghost use Rattle.bosh_pool.specs.Fixed.{is_given, same_addr};
+ghost use Rattle.bosh_pool.specs.Closed.{AreAllClosed};
+ghost use Rattle.bosh_pool.specs.Fixed.{fixed_faults, is_given, same_addr};
 ghost use Rattle.bosh_pool.specs.Free.{AreClosed, IsReady, is_used};
 ghost use Rattle.bosh_pool.specs.Kept.{is_taken, own};
 ghost use Rattle.bosh_pool.specs.Search.{AreReady};
+ghost use Rattle.bosh_pool.specs.Table.{AreEntries};
 ghost use Rattle.bosh_pool.specs.declared.want.Want.{Want};
 
+use crate::closed::{Closed, all_closed};
+use crate::entries::Entries;
 use crate::fixed::check_fixed;
 use crate::kept::own_addrs;
 use crate::search::least_free;
 use crate::spot::Spot;
 use crate::{PoolFault, Want};
-use bosh_bands::{in_order, reserved_bands};
 use bosh_base::{Addr, Band, Copyable, Held, NetPlan, Seq, Subnet};
 use std::alloc::{AllocError, Global};
 use std::collections::BTreeSet;
@@ -68,16 +72,6 @@ fn held_numbers(
     Ok(used)
 }
 
-// The bands that are given to nobody or to those alone that ask for them by number, in their order.
-fn closed_bands(alloc: Global, subnet: &Subnet) -> Result<Seq<Band>, AllocError>
-    ensures order { IfOk result (λ bands. IsInOrder bands) }
-    ensures closed { IfOk result (λ bands. AreClosed subnet.now bands) }
-{
-    let mut bands = reserved_bands(alloc, subnet)?;
-    bands.extend_from_slice(subnet.fixed.as_slice())?;
-    Ok(Seq::from(in_order(bands)?))
-}
-
 // Where the search in a subnet begins.
 fn first_spot(subnet: &Subnet, bands: &[Band], used: &BTreeSet<u32>) -> Spot
     requires order { IsInOrder bands.now }
@@ -90,23 +84,21 @@ fn first_spot(subnet: &Subnet, bands: &[Band], used: &BTreeSet<u32>) -> Spot
     }
 }
 
-// The closed bands of each subnet, and where the search in it begins. Dear to prove, since both lists are alive at each
-// turn.
-fn start(
+// Where the search in each subnet begins.
+fn first_spots(
     alloc: Global,
     subnets: &[Subnet],
+    closed: &[Closed],
     used: &BTreeSet<u32>,
-) -> Result<(Vec<Seq<Band>>, Vec<Spot>), AllocError>
-    ensures { IfOk result (λ both. AreReady subnets.now both.0.items used.now both.1.items) }
+) -> Result<Vec<Spot>, AllocError>
+    requires { AreAllClosed subnets.now closed.now }
+    ensures { IfOk result (λ spots. AreReady subnets.now closed.now used.now spots.items) }
 {
-    let mut bands = Vec::new(alloc);
     let mut spots = Vec::new(alloc);
-    for subnet in subnets {
-        let closed = closed_bands(alloc, subnet)?;
-        spots.push(first_spot(subnet, closed.as_slice(), used))?;
-        bands.push(closed)?;
+    for (i, subnet) in subnets.iter().enumerate() {
+        spots.push(first_spot(subnet, closed[i].bands.as_slice(), used))?;
     }
-    Ok((bands, spots))
+    Ok(spots)
 }
 
 // The address that was found for a want.
@@ -127,18 +119,18 @@ fn place(
     want: &Want,
     own: Option<Addr>,
     plan: &NetPlan,
-    bands: &[Seq<Band>],
+    closed: &[Closed],
     used: &BTreeSet<u32>,
     spots: &mut [Spot],
 ) -> Result<Addr, PoolFault>
-    requires { AreReady plan.now.subnets bands.now used.now spots.old }
-    ensures ready { AreReady plan.now.subnets bands.now used.now spots.new }
+    requires { AreReady plan.now.subnets closed.now used.now spots.old }
+    ensures ready { AreReady plan.now.subnets closed.now used.now spots.new }
     ensures place { IsAnswer result (placed want.now (first_of own (free_for plan.now (is_used used.now) want.now))) }
 {
     match own {
         Some(addr) => Ok(addr),
         None => {
-            let addr = least_free(want, plan.subnets.as_slice(), bands, used, spots);
+            let addr = least_free(want, plan.subnets.as_slice(), closed, used, spots);
             found(alloc, want, addr)
         }
     }
@@ -150,18 +142,18 @@ fn give(
     wants: &[Want],
     own: &[Option<Addr>],
     plan: &NetPlan,
-    bands: &[Seq<Band>],
+    closed: &[Closed],
     used: &mut BTreeSet<u32>,
     spots: &mut [Spot],
 ) -> Result<Seq<Addr>, PoolFault>
     requires count { length own.now ≡ length wants.now }
-    requires ready { AreReady plan.now.subnets bands.now used.old spots.old }
+    requires ready { AreReady plan.now.subnets closed.now used.old spots.old }
     ensures { (find : Want → Option Addr) → own.now ≡ map find wants.now
         → IsAnswer result (given plan.now find (is_used used.old) wants.now) }
 {
     let mut addrs = Vec::new(alloc);
     for (i, want) in wants.iter().enumerate() {
-        let addr = place(alloc, want, own[i], plan, bands, used, spots)?;
+        let addr = place(alloc, want, own[i], plan, closed, used, spots)?;
         note(addr, used)?;
         addrs.push(addr)?;
     }
@@ -174,22 +166,67 @@ fn give_unused(
     wants: &[Want],
     own: &[Option<Addr>],
     plan: &NetPlan,
+    closed: &[Closed],
     used: &mut BTreeSet<u32>,
 ) -> Result<Seq<Addr>, PoolFault>
-    requires { length own.now ≡ length wants.now }
+    requires count { length own.now ≡ length wants.now }
+    requires closed { AreAllClosed plan.now.subnets closed.now }
     ensures { (find : Want → Option Addr) → own.now ≡ map find wants.now
         → IsAnswer result (given plan.now find (is_used used.old) wants.now) }
 {
-    let (bands, mut spots) = start(alloc, plan.subnets.as_slice(), used)?;
-    give(
-        alloc,
-        wants,
-        own,
-        plan,
-        bands.as_slice(),
-        used,
-        spots.as_mut_slice(),
-    )
+    let mut spots = first_spots(alloc, plan.subnets.as_slice(), closed, used)?;
+    give(alloc, wants, own, plan, closed, used, spots.as_mut_slice())
+}
+
+// The address of each want that the manifest gives, or that its instance keeps, unless one that it gives is refused.
+fn own_by<'a>(
+    alloc: Global,
+    wants: &'a [Want],
+    plan: &NetPlan,
+    closed: &[Closed],
+    entries: &Entries<'a>,
+) -> Result<Vec<Option<Addr>>, PoolFault>
+    requires { AreAllClosed plan.now.subnets closed.now }
+    ensures checked { (taken kept : List Held) → AreEntries taken kept entries.now
+        → IsTest result (fixed_faults plan.now taken kept [] wants.now) }
+    ensures own { (taken kept : List Held) → AreEntries taken kept entries.now
+        → IfOk result (λ addrs. addrs.items ≡ map (own plan.now taken kept) wants.now) }
+{
+    check_fixed(alloc, wants, plan, entries)?;
+    Ok(own_addrs(alloc, wants, plan, closed, entries)?)
+}
+
+fn checked_own(
+    alloc: Global,
+    wants: &[Want],
+    plan: &NetPlan,
+    closed: &[Closed],
+    taken: &[Held],
+    kept: &[Held],
+) -> Result<Vec<Option<Addr>>, PoolFault>
+    requires { AreAllClosed plan.now.subnets closed.now }
+    ensures checked { IsTest result (fixed_faults plan.now taken.now kept.now [] wants.now) }
+    ensures own { IfOk result (λ addrs. addrs.items ≡ map (own plan.now taken.now kept.now) wants.now) }
+{
+    let entries = Entries::of(alloc, taken, kept)?;
+    own_by(alloc, wants, plan, closed, &entries)
+}
+
+// The addresses of the wants, by the closed bands of the subnets.
+fn assign_by(
+    alloc: Global,
+    wants: &[Want],
+    plan: &NetPlan,
+    closed: &[Closed],
+    taken: &[Held],
+    kept: &[Held],
+) -> Result<Seq<Addr>, PoolFault>
+    requires { AreAllClosed plan.now.subnets closed.now }
+    ensures { IsAnswer result (assignment wants.now plan.now taken.now kept.now) }
+{
+    let own = checked_own(alloc, wants, plan, closed, taken, kept)?;
+    let mut used = held_numbers(alloc, taken, kept, own.as_slice())?;
+    give_unused(alloc, wants, own.as_slice(), plan, closed, &mut used)
 }
 
 /// The addresses of wants, which stand in manifest order, in their order. A want has the address that the manifest
@@ -206,8 +243,6 @@ pub fn assign(
 ) -> Result<Seq<Addr>, PoolFault>
     ensures { IsAnswer result (assignment wants.now plan.now taken.now kept.now) }
 {
-    check_fixed(alloc, wants, plan, taken, kept)?;
-    let own = own_addrs(alloc, wants, plan, taken, kept)?;
-    let mut used = held_numbers(alloc, taken, kept, own.as_slice())?;
-    give_unused(alloc, wants, own.as_slice(), plan, &mut used)
+    let closed = all_closed(alloc, plan.subnets.as_slice())?;
+    assign_by(alloc, wants, plan, closed.as_slice(), taken, kept)
 }

@@ -1,16 +1,22 @@
 //! The addresses that the manifest gives.
-ghost use Rattle.std.specs.Prelude.{◌≡◌, ◌&&◌, not, find, [], Some, option_map};
+ghost use Rattle.std.specs.Prelude.{◌≡◌, ◌∷◌, ◌++◌, [], List, Some, None, OnOk, option_map};
 ghost use Rattle.std.specs.List.{list_any};
 ghost use Rattle.std.specs.Option.{option_copied};
+ghost use Rattle.bosh_base.specs.declared.view.Held.{Held};
 ghost use Rattle.bosh_pool.specs.Answer.{IsTest};
-ghost use Rattle.bosh_pool.specs.Fixed.{fixed_fault, fixed_faults, given_to, has_fixed, holder, holds, is_given, is_owner, other_owner, owner_in, owner_of, same_inst};
+ghost use Rattle.bosh_pool.specs.Fixed.{fault_at, fixed_fault, fixed_faults, has_fixed};
+ghost use Rattle.bosh_pool.specs.Table.{AreEntries, FirstWants, found_holder};
 ghost use Rattle.bosh_pool.specs.declared.fault.PoolFault.TheVariants.{Taken};
+ghost use Rattle.bosh_pool.specs.declared.want.Want.{Want};
 ghost use Rattle.bosh_base.specs.declared.owner.Owner.TheVariants.{Instance};
 
+use crate::entries::Entries;
+use crate::table::note_first;
 use crate::{PoolFault, Want};
 use bosh_bands::{is_in_some, is_reserved, is_within};
-use bosh_base::{Addr, Copyable, Held, Inst, Name, NetPlan, Owner, Subnet};
-use std::alloc::Global;
+use bosh_base::{Addr, Copyable, Inst, Name, NetPlan, Owner, Subnet};
+use std::alloc::{AllocError, Global};
+use std::collections::BTreeMap;
 
 fn has_fixed(net: &Name, addr: Addr, subnet: &Subnet) -> bool
     ensures { result ≡ has_fixed net.now addr subnet.now }
@@ -21,56 +27,15 @@ fn has_fixed(net: &Name, addr: Addr, subnet: &Subnet) -> bool
         && is_in_some(addr, subnet.fixed.as_slice())
 }
 
-fn same_inst(one: &Inst, other: &Inst) -> bool
-    ensures { result ≡ same_inst one.now other.now }
+// Notes the address that the manifest gives to a want, unless it gives it to an earlier one.
+fn note_given<'a>(want: &'a Want, given: &mut BTreeMap<u32, &'a Want>) -> Result<(), AllocError>
+    ensures { OnOk result ((before : List Want) → FirstWants before given.old
+        → FirstWants (before ++ want.now ∷ []) given.new) }
 {
-    one.dep == other.dep && one.group == other.group && one.index == other.index
-}
-
-/// Whether an owner is an instance.
-pub(crate) fn is_owner(inst: &Inst, owner: &Owner) -> bool
-    ensures { result ≡ is_owner inst.now owner.now }
-{
-    match owner {
-        Owner::Instance(other) => same_inst(other, inst),
-        Owner::Compile(_, _) | Owner::Disk(_) => false,
+    match want.fixed {
+        None => Ok(()),
+        Some(addr) => note_first(addr.0, want, given),
     }
-}
-
-/// Whether an entry holds an address.
-pub(crate) fn holds(addr: Addr, held: &Held) -> bool
-    ensures { result ≡ holds addr held.now }
-{
-    held.addr == addr
-}
-
-fn entry_of(addr: Addr, helds: &[Held]) -> Option<&Held>
-    ensures { option_copied result ≡ find (holds addr) helds.now }
-{
-    helds.iter().find(|held| holds(addr, held))
-}
-
-fn entry_of_other<'a>(inst: &Inst, addr: Addr, helds: &'a [Held]) -> Option<&'a Held>
-    ensures { option_copied result ≡ find (λ held. holds addr held && not (is_owner inst.now held.owner)) helds.now }
-{
-    helds
-        .iter()
-        .find(|held| holds(addr, held) && !is_owner(inst, &held.owner))
-}
-
-fn is_given(addr: Addr, fixed: Option<Addr>) -> bool
-    ensures { result ≡ is_given addr fixed }
-{
-    match fixed {
-        None => false,
-        Some(fixed) => fixed == addr,
-    }
-}
-
-fn want_of(addr: Addr, wants: &[Want]) -> Option<&Want>
-    ensures { option_copied result ≡ find (λ want. is_given addr want.fixed) wants.now }
-{
-    wants.iter().find(|want| is_given(addr, want.fixed))
 }
 
 // Refuses an address that somebody has.
@@ -90,21 +55,20 @@ fn refuse_instance(alloc: Global, addr: Addr, inst: &Inst) -> Result<(), PoolFau
 
 fn check_holder(
     alloc: Global,
-    taken: &[Held],
-    kept: &[Held],
-    before: &[Want],
-    want: &Want,
+    entries: &Entries<'_>,
+    given: &BTreeMap<u32, &Want>,
+    inst: &Inst,
     addr: Addr,
 ) -> Result<(), PoolFault>
-    ensures { IsTest result (option_map (Taken addr) (holder taken.now kept.now before.now want.now addr)) }
+    ensures { IsTest result (option_map (Taken addr) (found_holder entries.now given.now inst.now addr)) }
 {
-    if let Some(held) = entry_of(addr, taken) {
+    if let Some(held) = entries.taken_at(addr) {
         return refuse(alloc, addr, &held.owner);
     }
-    if let Some(held) = entry_of_other(&want.inst, addr, kept) {
+    if let Some(held) = entries.beside(inst, addr) {
         return refuse(alloc, addr, &held.owner);
     }
-    match want_of(addr, before) {
+    match given.get(&addr.0) {
         Some(earlier) => refuse_instance(alloc, addr, &earlier.inst),
         None => Ok(()),
     }
@@ -121,13 +85,12 @@ fn is_static_somewhere(plan: &NetPlan, net: &Name, addr: Addr) -> bool
 fn check_addr(
     alloc: Global,
     plan: &NetPlan,
-    taken: &[Held],
-    kept: &[Held],
-    before: &[Want],
+    entries: &Entries<'_>,
+    given: &BTreeMap<u32, &Want>,
     want: &Want,
     addr: Addr,
 ) -> Result<(), PoolFault>
-    ensures { IsTest result (fixed_fault plan.now taken.now kept.now before.now want.now (Some addr)) }
+    ensures { IsTest result (fault_at plan.now want.now addr (found_holder entries.now given.now want.now.inst addr)) }
 {
     if !is_static_somewhere(plan, &want.net, addr) {
         return Err(PoolFault::NotStatic { addr });
@@ -135,22 +98,22 @@ fn check_addr(
     if !plan.is_static(&want.net, &want.az, addr) {
         return Err(PoolFault::StaticNotInAz { addr });
     }
-    check_holder(alloc, taken, kept, before, want, addr)
+    check_holder(alloc, entries, given, &want.inst, addr)
 }
 
 fn check_want(
     alloc: Global,
     plan: &NetPlan,
-    taken: &[Held],
-    kept: &[Held],
-    before: &[Want],
+    entries: &Entries<'_>,
+    given: &BTreeMap<u32, &Want>,
     want: &Want,
 ) -> Result<(), PoolFault>
-    ensures { IsTest result (fixed_fault plan.now taken.now kept.now before.now want.now want.now.fixed) }
+    ensures { (taken kept : List Held) (before : List Want) → AreEntries taken kept entries.now → FirstWants before given.now
+        → IsTest result (fixed_fault plan.now taken kept before want.now want.now.fixed) }
 {
     match want.fixed {
         None => Ok(()),
-        Some(addr) => check_addr(alloc, plan, taken, kept, before, want, addr),
+        Some(addr) => check_addr(alloc, plan, entries, given, want, addr),
     }
 }
 
@@ -159,13 +122,15 @@ pub(crate) fn check_fixed(
     alloc: Global,
     wants: &[Want],
     plan: &NetPlan,
-    taken: &[Held],
-    kept: &[Held],
+    entries: &Entries<'_>,
 ) -> Result<(), PoolFault>
-    ensures { IsTest result (fixed_faults plan.now taken.now kept.now [] wants.now) }
+    ensures { (taken kept : List Held) → AreEntries taken kept entries.now
+        → IsTest result (fixed_faults plan.now taken kept [] wants.now) }
 {
-    for (i, want) in wants.iter().enumerate() {
-        check_want(alloc, plan, taken, kept, &wants[..i], want)?;
+    let mut given = BTreeMap::new(alloc);
+    for want in wants {
+        check_want(alloc, plan, entries, &given, want)?;
+        note_given(want, &mut given)?;
     }
     Ok(())
 }

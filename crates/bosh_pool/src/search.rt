@@ -1,27 +1,14 @@
 //! The least free address over the subnets of a network.
 ghost use Rattle.std.specs.Prelude.{◌≡◌};
-ghost use Rattle.bosh_base.specs.Plan.{is_listed};
 ghost use Rattle.bosh_bands.specs.Least.{least};
 ghost use Rattle.bosh_pool.specs.Free.{FreeAt, IsReady, is_free};
-ghost use Rattle.bosh_pool.specs.Search.{AreReady, Finds, is_free_for, is_free_in, lesser, serves};
+ghost use Rattle.bosh_pool.specs.Search.{AreReady, Finds, is_free_for, is_free_in, lesser};
 
 use crate::Want;
+use crate::closed::{Closed, serves};
 use crate::spot::{Spot, look};
-use bosh_base::{Addr, Band, Name, Seq, Subnet};
+use bosh_base::{Addr, Band, Subnet};
 use std::collections::BTreeSet;
-
-fn is_listed(name: &Name, names: &Seq<Name>) -> bool
-    ensures { result ≡ is_listed name.now names.now }
-{
-    names.iter().any(|listed| *listed == *name)
-}
-
-// Whether a subnet is of the network of a want, and lies in its zone.
-fn serves(want: &Want, subnet: &Subnet) -> bool
-    ensures { result ≡ serves want.now subnet.now }
-{
-    subnet.net == want.net && is_listed(&want.az, &subnet.azs)
-}
 
 // The address at the next number, where that is in the range of the subnet.
 fn at_next(subnet: &Subnet, bands: &[Band], used: &BTreeSet<u32>, spot: Spot) -> Option<Addr>
@@ -70,17 +57,17 @@ fn visit(
 pub(crate) fn least_free(
     want: &Want,
     subnets: &[Subnet],
-    bands: &[Seq<Band>],
+    closed: &[Closed],
     used: &BTreeSet<u32>,
     spots: &mut [Spot],
 ) -> Option<Addr>
-    requires { AreReady subnets.now bands.now used.now spots.old }
-    ensures ready { AreReady subnets.now bands.now used.now spots.new }
+    requires { AreReady subnets.now closed.now used.now spots.old }
+    ensures ready { AreReady subnets.now closed.now used.now spots.new }
     ensures least { result ≡ least (is_free_in want.now used.now subnets.now) }
 {
     let mut best = None;
     for (i, subnet) in subnets.iter().enumerate() {
-        let (spot, found) = visit(want, subnet, bands[i].as_slice(), used, spots[i]);
+        let (spot, found) = visit(want, subnet, closed[i].bands.as_slice(), used, spots[i]);
         spots[i] = spot;
         best = lesser(best, found);
     }

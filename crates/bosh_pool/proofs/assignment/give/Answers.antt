@@ -33,7 +33,7 @@ loop-i-preserved c =
     let want = c.index-wants-i.result in
     let addr = c.in_ok-addr.addr in
     record {
-      ready = AreReady-note c.args.plan.now.subnets c.args.bands.now c.loop-i.used c.note.new.used c.place.new.spots
+      ready = AreReady-note c.args.plan.now.subnets c.args.closed.now c.loop-i.used c.note.new.used c.place.new.spots
           (λ other held. c.in_ok-note.ensures other ∙ or_left (is_used c.loop-i.used other) (same_addr other addr) held) c.in_ok-addr.ensures.ready;
       same = λ find is.
           let mine : (d : Option Addr) → get_or c.args.own.now i d ≡ find want = λ d. own-at find wants c.args.own.now i want d is c.loop-i-test.true c.index-wants-i.is in

@@ -10,6 +10,6 @@ use Rattle.bosh_pool.proofs.assignment.give.Given as goal
 -- the addresses so far, and those of the other wants, are those of all wants
 abbrev pub invariant-loop-i : goal.invariant-loop-i
 invariant-loop-i l = record {
-  ready : AreReady l.plan.subnets l.bands l.used l.spots;
+  ready : AreReady l.plan.subnets l.closed l.used l.spots;
   same : (find : Want → Option Addr) → l.own ≡ map find l.wants → given l.plan find (is_used l.fn.used) l.wants ≡ after l.addrs.items (given l.plan find (is_used l.used) (drop l.i l.wants));
 }

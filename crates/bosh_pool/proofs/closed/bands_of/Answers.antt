@@ -3,7 +3,7 @@ use Rattle.std.proofs.Common.{◌≡◌, ◌++◌, ◌||◌, ap, sym, ◌∙◌}
 use Rattle.std.proofs.lemmas.List.Sorted.{list_any-IsPermutation}
 use Rattle.bosh_base.specs.Plan.{is_in_some, is_within}
 use Rattle.std.proofs.lemmas.List.Folds.{list_any-append}
-use Rattle.bosh_pool.proofs.assignment.closed_bands.Goals as goal
+use Rattle.bosh_pool.proofs.closed.bands_of.Goals as goal
 
 pub returns-clause-closed : goal.returns-clause-closed
 returns-clause-closed c = λ addr.
