@@ -1,0 +1,4 @@
+pub mod Plans
+pub mod Zones
+pub mod Statics
+pub mod Wants
