@@ -1,5 +1,6 @@
 //! A store in memory that is damaged while a cloud stands on it.
 ghost use Rattle.std.specs.Prelude.{None, false};
+ghost use Rattle.bosh_ports.specs.Keeper.{FailsByCount, TellsBroken};
 
 use bosh_ports::{Bodies, KeepFault, Keeper, MemKeeper};
 use std::alloc::Global;
@@ -32,7 +33,10 @@ impl Rotting {
     }
 
     /// It is damaged now, where it has that place.
-    pub(crate) fn suffer(&mut self, damage: &Damage) -> Result<(), KeepFault> {
+    pub(crate) fn suffer(&mut self, damage: &Damage) -> Result<(), KeepFault>
+        ensures broken { TellsBroken result false false }
+        ensures failed { FailsByCount result 0 0 }
+    {
         if damage.place >= self.inner.len() {
             return Ok(());
         }
