@@ -3,11 +3,13 @@ use bosh_cloudcfg::{Config, check};
 use bosh_yaml::{Node, read};
 use std::alloc::{AllocError, Global};
 
-/// The most networks, the subnets of each, and the ranges of each kind in each.
-const NETWORKS: usize = 16;
+/// The most networks.
+const NETWORKS: u32 = 16;
 
-const SUBNETS: usize = 16;
+/// The subnets of each.
+const SUBNETS: u32 = 16;
 
+/// The reserved ranges of each subnet, and the static ones.
 const RANGES: usize = 64;
 
 /// How many networks a config has, how many subnets each has, and how many bits of an address stand for a subnet.
