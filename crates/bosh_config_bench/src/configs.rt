@@ -1,4 +1,5 @@
 //! The configs.
+use crate::text::{push_number, push_subnet};
 use bosh_cloudcfg::{Config, check};
 use bosh_yaml::{Node, read};
 use std::alloc::{AllocError, Global};
@@ -8,9 +9,6 @@ const NETWORKS: u32 = 16;
 
 /// The subnets of each.
 const SUBNETS: u32 = 16;
-
-/// The reserved ranges of each subnet, and the static ones.
-const RANGES: usize = 64;
 
 /// How many networks a config has, how many subnets each has, and how many bits of an address stand for a subnet.
 #[derive(Clone, Copy)]
@@ -43,43 +41,13 @@ impl Shape {
     }
 }
 
-fn push_ranges(alloc: Global, text: &mut String, key: &str, front: &str) -> Result<(), AllocError> {
-    text.push_str(format!(in alloc; "    {key}: [")?.as_str())?;
-    for place in 0..RANGES {
-        let first = 2 * place;
-        let last = first + 1;
-        text.push_str(format!(in alloc; "{front}.{first}-{front}.{last}, ")?.as_str())?;
-    }
-    text.push_str("]\n")
-}
-
-fn push_subnet(alloc: Global, text: &mut String, number: u64, bits: u32) -> Result<(), AllocError> {
-    text.push_str(format!(in alloc; "  - range: 10.{number}.0.0/{bits}\n")?.as_str())?;
-    text.push_str(format!(in alloc; "    gateway: 10.{number}.0.1\n")?.as_str())?;
-    push_ranges(
-        alloc,
-        text,
-        "reserved",
-        format!(in alloc; "10.{number}.1")?.as_str(),
-    )?;
-    push_ranges(
-        alloc,
-        text,
-        "static",
-        format!(in alloc; "10.{number}.2")?.as_str(),
-    )
-}
-
-fn push_network(
-    alloc: Global,
-    text: &mut String,
-    number: u32,
-    shape: Shape,
-) -> Result<(), AllocError> {
-    text.push_str(format!(in alloc; "- name: n{number}\n  subnets:\n")?.as_str())?;
+fn push_network(text: &mut String, number: u32, shape: Shape) -> Result<(), AllocError> {
+    text.push_str("- name: n")?;
+    push_number(text, number)?;
+    text.push_str("\n  subnets:\n")?;
+    let first = SUBNETS.saturating_mul(number);
     for place in 0..shape.subnets {
-        let subnet = u64::from(SUBNETS) * u64::from(number) + u64::from(place);
-        push_subnet(alloc, text, subnet, shape.bits)?;
+        push_subnet(text, first.saturating_add(place), shape.bits)?;
     }
     Ok(())
 }
@@ -89,7 +57,7 @@ fn text_of(alloc: Global, shape: Shape) -> Result<String, AllocError> {
     text.push_str("azs: [{name: z1}]\nvm_types: [{name: small}]\n")?;
     text.push_str("compilation: {workers: 1, az: z1, vm_type: small, network: n0}\nnetworks:\n")?;
     for number in 0..shape.networks {
-        push_network(alloc, &mut text, number, shape)?;
+        push_network(&mut text, number, shape)?;
     }
     Ok(text)
 }

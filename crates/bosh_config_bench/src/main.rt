@@ -7,6 +7,7 @@
 
 mod configs;
 mod holders;
+mod text;
 
 use crate::configs::{Shape, config_of, node_of};
 use crate::holders::{kept_by, taken_by, wants_of};
@@ -37,9 +38,9 @@ fn work_of(word: &str) -> Option<Work> {
 
 fn time_of_check(clock: &impl Clock, alloc: Global, node: &Node) -> Option<Duration> {
     let start = Instant::now(clock).ok()?;
-    let config = check(alloc, node);
+    let is_checked = check(alloc, node).is_ok();
     let took = start.elapsed(clock).ok()?;
-    if config.is_ok() { Some(took) } else { None }
+    is_checked.then_some(took)
 }
 
 fn time_of_assign(
@@ -51,9 +52,9 @@ fn time_of_assign(
 ) -> Option<Duration> {
     let (taken, kept) = held;
     let start = Instant::now(clock).ok()?;
-    let addrs = assign(alloc, wants, plan, taken, kept);
+    let are_assigned = assign(alloc, wants, plan, taken, kept).is_ok();
     let took = start.elapsed(clock).ok()?;
-    if addrs.is_ok() { Some(took) } else { None }
+    are_assigned.then_some(took)
 }
 
 fn check_networks(clock: &impl Clock, alloc: Global, networks: u32) -> Option<Duration> {
