@@ -4,8 +4,9 @@
 # before it and where each needs all before it. And how long it takes to read texts of 64 KiB, 256 KiB and 1 MiB of one
 # form, and to look up each key of a mapping; and to read a MiB of each form, beside other readers. Then how fast the
 # body of a large entry is written and read, beside a plain copy of its bytes; and how long it takes to collect releases
-# of 64, 128 and 256 packages, each of which needs all before it. And how long ten calls take on each of 5,000 and 10,000
-# machines of a cloud, and a load of what they leave. Each time is the least of five runs; only the ratios within one run
+# of 64, 128 and 256 packages, each of which needs all before it. And how long it takes to check cloud configs of 8 and 16
+# networks, and to assign 512 addresses of which none, 16,384 and 32,768 are held. And how long ten calls take on each of
+# 5,000 and 10,000 machines of a cloud, and a load of what they leave. Each time is the least of five runs; only the ratios within one run
 # say something.
 set -u
 here=$(cd "$(dirname "$0")" && pwd)
@@ -15,6 +16,7 @@ levels=$top/crates/bosh_compile_bench/out/bosh_compile_bench
 reader=$top/crates/bosh_yaml_bench/out/bosh_yaml_bench
 codec=$top/crates/bosh_entry_bench/out/bosh_entry_bench
 releases=$top/crates/bosh_release_bench/out/bosh_release_bench
+config=$top/crates/bosh_config_bench/out/bosh_config_bench
 cloud=$top/crates/bosh_cloud_bench/out/bosh_cloud_bench
 folder=$(mktemp -d)
 trap 'rm -rf "$folder"' EXIT
@@ -134,5 +136,8 @@ for size in 64 128 256; do
     time=$(least_told "$releases" "$size")
     line "$size" "packages of a release" "$time" "${first:=$time}" "the first"
 done
+table_of "$config" check "networks of 16 subnets, checked" "the first" 8 16
+table_of "$config" assign "held, 512 addresses assigned" "the first" 0
+table_of "$config" assign "held, 512 addresses assigned" "the first" 16384 32768
 table_of "$cloud" calls "machines with ten calls each" "the first" 5000 10000
 table_of "$cloud" load "machines with ten calls, loaded" "the first" 5000 10000
