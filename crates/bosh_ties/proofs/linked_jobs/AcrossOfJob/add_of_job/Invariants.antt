@@ -1,0 +1,8 @@
+use Rattle.std.proofs.Common.{◌≡◌, ◌++◌, filter_map, take}
+use Rattle.bosh_ties.specs.Links.{across, consume_of, joint_of}
+use Rattle.bosh_ties.proofs.linked_jobs.AcrossOfJob.add_of_job.Given as goal
+
+abbrev pub invariant-loop-link : goal.invariant-loop-link
+invariant-loop-link l =
+    l.items.items ≡ l.initial.items.items
+    ++ filter_map (λ link. across (joint_of l.dep l.group l.job link) link (consume_of l.job link)) (take l.link-index l.links)

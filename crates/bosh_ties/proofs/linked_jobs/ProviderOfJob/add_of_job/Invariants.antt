@@ -1,0 +1,8 @@
+use Rattle.std.proofs.Common.{◌≡◌, ◌++◌, filter_map, take}
+use Rattle.bosh_ties.specs.Links.{joint_of, provide_of, provider}
+use Rattle.bosh_ties.proofs.linked_jobs.ProviderOfJob.add_of_job.Given as goal
+
+abbrev pub invariant-loop-link : goal.invariant-loop-link
+invariant-loop-link l =
+    l.items.items ≡ l.initial.items.items
+    ++ filter_map (λ link. provider (joint_of l.dep l.group l.job link) link (provide_of l.job link)) (take l.link-index l.links)
