@@ -8,6 +8,7 @@ use crate::Member;
 use crate::unoffered::is_text;
 use bosh_base::{Name, Text};
 use bosh_fields::{FieldFault, check_mapping, optional};
+use bosh_lookup::Named;
 use bosh_yaml::Node;
 use std::alloc::Global;
 
@@ -43,6 +44,22 @@ pub struct Consume {
     pub link: Name,
     /// None where the manifest blocks the link.
     pub origin: Option<Origin>,
+}
+
+impl Named for Provide {
+    ghost name_of = { λ provide. provide.link };
+
+    fn name(&self) -> &[u8] {
+        self.link.as_bytes()
+    }
+}
+
+impl Named for Consume {
+    ghost name_of = { λ consume. consume.link };
+
+    fn name(&self) -> &[u8] {
+        self.link.as_bytes()
+    }
 }
 
 fn is_nil(node: &Node) -> bool

@@ -18,7 +18,7 @@ use Rattle.bosh_manifest_parts.specs.declared.link.Provide.{Provide}
 use Rattle.bosh_share.specs.Shared.{across_resolution}
 use Rattle.bosh_share.specs.declared.across.Across.{Across}
 use Rattle.bosh_uses.specs.Answer.{◌>>=◌, with_fault}
-use Rattle.bosh_uses.specs.Table.{named}
+use Rattle.bosh_lookup.specs.Table.{named}
 use Rattle.bosh_uses.specs.Used.{UsedGroup, UsedJob}
 use Rattle.bosh_uses.specs.declared.fault.GoalFault.{GoalFault}
 use Rattle.bosh_uses.specs.declared.fault.GoalFault.TheVariants.{Link, Share}

@@ -6,4 +6,6 @@ mod linked_jobs;
 mod spot;
 mod tying;
 
+pub use linked_jobs::provider;
+pub use spot::Spot;
 pub use tying::ties;

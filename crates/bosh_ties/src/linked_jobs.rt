@@ -8,9 +8,9 @@ use crate::gathering::{OfJob, push_some};
 use crate::spot::Spot;
 use bosh_base::{CopyFault, Copyable, LinkSpec, Name, Text, copy_three};
 use bosh_links::{Consumer, Provider, Source};
+use bosh_lookup::{find, table_of};
 use bosh_manifest_parts::{Consume, Origin, Provide};
 use bosh_share::Across;
-use bosh_uses::table::{find, table_of};
 use bosh_uses::{GoalFault, UsedJob};
 use std::alloc::Global;
 
@@ -42,7 +42,8 @@ fn public_provider(
     })
 }
 
-fn provider(
+/// What a job provides by a link, which the manifest may change or withdraw.
+pub fn provider(
     alloc: Global,
     spot: Spot<'_>,
     said: Option<&Provide>,
@@ -75,7 +76,10 @@ impl OfJob for Provider {
         let links = job.spec().provides.as_slice();
         for link in links {
             let spot = Spot::of(dep, group, job, link);
-            push_some(provider(alloc, spot, find(&said, &link.name))?, items)?;
+            push_some(
+                provider(alloc, spot, find(&said, link.name.as_bytes()))?,
+                items,
+            )?;
         }
         Ok(())
     }
@@ -151,7 +155,10 @@ impl OfJob for Consumer {
         let links = job.spec().consumes.as_slice();
         for link in links {
             let spot = Spot::of(dep, group, job, link);
-            push_some(consumer(alloc, spot, find(&said, &link.name))?, items)?;
+            push_some(
+                consumer(alloc, spot, find(&said, link.name.as_bytes()))?,
+                items,
+            )?;
         }
         Ok(())
     }
@@ -223,7 +230,10 @@ impl OfJob for Across {
         let links = job.spec().consumes.as_slice();
         for link in links {
             let spot = Spot::of(dep, group, job, link);
-            push_some(across(alloc, spot, find(&said, &link.name))?, items)?;
+            push_some(
+                across(alloc, spot, find(&said, link.name.as_bytes()))?,
+                items,
+            )?;
         }
         Ok(())
     }

@@ -6,22 +6,17 @@ use bosh_base::{CopyFault, Joint, LinkSpec, Name, copy_four};
 use bosh_uses::UsedJob;
 use std::alloc::Global;
 
-/// Where a link stands.
+/// Where a link stands: of which deployment, group and job it is.
 #[derive(Clone, Copy)]
-pub(crate) struct Spot<'a> {
-    pub(crate) dep: &'a Name,
-    pub(crate) group: &'a Name,
-    pub(crate) job: &'a Name,
-    pub(crate) link: &'a LinkSpec,
+pub struct Spot<'a> {
+    pub dep: &'a Name,
+    pub group: &'a Name,
+    pub job: &'a Name,
+    pub link: &'a LinkSpec,
 }
 
 impl<'a> Spot<'a> {
-    pub(crate) fn of(
-        dep: &'a Name,
-        group: &'a Name,
-        job: &UsedJob<'a>,
-        link: &'a LinkSpec,
-    ) -> Spot<'a>
+    pub fn of(dep: &'a Name, group: &'a Name, job: &UsedJob<'a>, link: &'a LinkSpec) -> Spot<'a>
         ensures joint { spot_joint result ≡ joint_of dep.now group.now job.now link.now }
         ensures link { result.link.now ≡ link.now }
     {

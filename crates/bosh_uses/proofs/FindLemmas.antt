@@ -1,5 +1,5 @@
 -- The first of several that passes a test.
-use Rattle.std.proofs.Common.{◌≡◌, Bool, true, false, List, [], ◌∷◌, Option, Some, None, cond, find, map, refl}
+use Rattle.std.proofs.Common.{◌≡◌, Bool, true, false, List, [], ◌∷◌, Some, cond, find, map, refl}
 use Rattle.std.specs.Option.{option_map}
 
 pub find-map :

@@ -1,5 +1,4 @@
 pub mod Answer
-pub mod Table
 pub mod Edition
 pub mod Used
 pub mod Uses

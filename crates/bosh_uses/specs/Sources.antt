@@ -5,7 +5,7 @@ use Rattle.std.specs.Option.{option_copied}
 use denote.Ref.{Bor}
 use Rattle.bosh_base.specs.declared.release.Release.{Release}
 use Rattle.bosh_base.specs.declared.stemcell.Stemcell.{Stemcell}
-use Rattle.bosh_uses.specs.Table.{found_at, named}
+use Rattle.bosh_lookup.specs.Table.{found_at, named}
 use Rattle.bosh_uses.specs.Uses.{aliased, release_name}
 use Rattle.bosh_uses.specs.declared.sources.Sources.{Sources}
 

@@ -20,7 +20,7 @@ use Rattle.bosh_manifest_parts.specs.declared.source.ReleaseUse.{ReleaseUse}
 use Rattle.bosh_manifest_parts.specs.declared.source.StemcellUse.{StemcellUse}
 use Rattle.bosh_uses.specs.Answer.{◌>>=◌, each, or_fault}
 use Rattle.bosh_uses.specs.Edition.{edition}
-use Rattle.bosh_uses.specs.Table.{named}
+use Rattle.bosh_lookup.specs.Table.{named}
 use Rattle.bosh_uses.specs.Used.{UsedGroup, UsedJob}
 use Rattle.bosh_uses.specs.declared.fault.GoalFault.{GoalFault}
 use Rattle.bosh_uses.specs.declared.fault.GoalFault.TheVariants.{Unknown}

@@ -5,7 +5,6 @@ mod edition;
 mod fault;
 mod known;
 mod sources;
-pub mod table;
 mod usage;
 mod used;
 

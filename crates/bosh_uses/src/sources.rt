@@ -5,15 +5,15 @@ ghost use Rattle.bosh_base.specs.declared.release.Release.{Release};
 ghost use Rattle.bosh_base.specs.declared.stemcell.Stemcell.{Stemcell};
 ghost use Rattle.bosh_uses.specs.Answer.{IsAnswerFor, IsAnswerSeen, each};
 ghost use Rattle.bosh_uses.specs.Sources.{AreReleases, AreSources, AreStemcells};
-ghost use Rattle.bosh_uses.specs.Table.{named};
+ghost use Rattle.bosh_lookup.specs.Table.{named};
 ghost use Rattle.bosh_uses.specs.Uses.{aliased, job_name, known, release_name, sources, stemcell_for, used_release, used_stemcell};
 ghost use Rattle.bosh_uses.specs.declared.fault.Kind.TheVariants as kinds;
 
 use crate::edition::edition;
 use crate::known::known;
-use crate::table::{Table, add, find, table_of};
 use crate::{GoalFault, Kind};
 use bosh_base::{JobSpec, Name, Release, Stemcell};
+use bosh_lookup::{Table, add, find, table_of};
 use bosh_manifest_parts::{ReleaseUse, StemcellUse};
 use std::alloc::{AllocError, Global};
 use std::collections::BTreeMap;
@@ -34,7 +34,7 @@ impl<'a> Model for Listed<'a> {
 
     ghost coded = { Prim.hlevel codes };
 
-    ghost use Rattle.bosh_uses.specs.Table.{IsTable};
+    ghost use Rattle.bosh_lookup.specs.Table.{IsTable};
     ghost use Rattle.bosh_uses.specs.Uses.{job_name};
 
     ghost view = { λ listed. listed.release.now };
@@ -60,7 +60,7 @@ impl<'a> Listed<'a> {
     pub(crate) fn job(&self, alloc: Global, name: &Name) -> Result<&'a JobSpec, GoalFault>
         ensures { IsAnswerSeen (λ spec. spec.now) result (known kinds.Job name.now (named job_name self.now.jobs name.now)) }
     {
-        known(alloc, Kind::Job, name, find(&self.jobs, name))
+        known(alloc, Kind::Job, name, find(&self.jobs, name.as_bytes()))
     }
 }
 
@@ -104,7 +104,11 @@ fn listed_releases<'a>(
     let mut table = BTreeMap::new(alloc);
     for asked in asked {
         let release = used_release(alloc, releases, asked)?;
-        add(&mut table, &release.name, Listed::of(alloc, release)?)?;
+        add(
+            &mut table,
+            release.name.as_bytes(),
+            Listed::of(alloc, release)?,
+        )?;
     }
     Ok(table)
 }
@@ -119,7 +123,7 @@ fn listed_stemcells<'a>(
     let mut table = BTreeMap::new(alloc);
     for asked in asked {
         let stemcell = used_stemcell(alloc, stemcells, asked)?;
-        add(&mut table, &asked.alias, stemcell)?;
+        add(&mut table, asked.alias.as_bytes(), stemcell)?;
     }
     Ok(table)
 }

@@ -7,7 +7,7 @@ ghost use Rattle.bosh_base.specs.declared.stemcell.Stemcell.{Stemcell};
 ghost use Rattle.bosh_uses.specs.Answer.{IsAnswer, IsAnswerSeen, each};
 ghost use Rattle.bosh_uses.specs.Disk.{want_of};
 ghost use Rattle.bosh_uses.specs.Sources.{AreReleases, AreSources};
-ghost use Rattle.bosh_uses.specs.Table.{named};
+ghost use Rattle.bosh_lookup.specs.Table.{named};
 ghost use Rattle.bosh_uses.specs.Uses.{all_known, disk_name, disk_of_type, disk_want, machine_name, machine_properties, net_name, used_disk, used_group, used_job, used_machine, uses};
 ghost use Rattle.bosh_uses.specs.declared.fault.Kind.TheVariants as kinds;
 

@@ -1,4 +1,4 @@
-use Rattle.std.proofs.Common.{◌≡◌, ◌⊎◌, [], ◌∷◌, ◌++◌, Err, ap, sym, subst, inl, inr, rules}
+use Rattle.std.proofs.Common.{◌≡◌, ◌∙◌, ◌⊎◌, [], ◌∷◌, ◌++◌, Err, ap, sym, subst, inl, inr, rules}
 use Rattle.bosh_uses.specs.Answer.{each}
 use Rattle.bosh_uses.specs.Sources.{AreReleases}
 use Rattle.bosh_uses.specs.Uses.{used_release}
@@ -22,4 +22,4 @@ loop-asked-preserved c =
     stands-more AreReleases (used_release c.args.releases.now) c.args.asked.now c.loop-asked.asked-index c.asked-item.result release
     c.loop-asked.table c.add.new.table c.loop-asked-test.true c.asked-item.is c.loop-asked.invariant c.in_ok-release.ensures
     (λ done h. subst (λ r. AreReleases (done ++ r ∷ []) c.add.new.table) c.in_ok-of.ensures
-    (AreReleases-add done c.in_ok-of.field-0 release.name c.loop-asked.table c.add.new.table (sym (ap (λ r. r.name) c.in_ok-of.ensures)) h c.in_ok-add.ensures))
+    (AreReleases-add done c.in_ok-of.field-0 c.as_bytes.result.now c.loop-asked.table c.add.new.table (c.as_bytes.ensures.bytes ∙ sym (ap (λ r. r.name) c.in_ok-of.ensures)) h c.in_ok-add.ensures))

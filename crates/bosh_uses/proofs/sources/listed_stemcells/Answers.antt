@@ -1,4 +1,5 @@
-use Rattle.std.proofs.Common.{◌≡◌, ◌⊎◌, Ok, Err, ap, inl, inr, rules}
+use Rattle.std.proofs.Common.{◌≡◌, ◌⊎◌, ℕ, List, Ok, Err, ap, inl, inr, rules, subst}
+use Rattle.bosh_lookup.specs.Table.{IsAdded}
 use Rattle.bosh_uses.specs.Answer.{◌>>=◌, each}
 use Rattle.bosh_uses.specs.Sources.{AreStemcells}
 use Rattle.bosh_uses.specs.Uses.{used_stemcell}
@@ -24,4 +25,5 @@ loop-asked-preserved c =
     stands-more AreStemcells (used_stemcell c.args.stemcells.now) c.args.asked.now c.loop-asked.asked-index c.asked-item.result (alias, stemcell.now)
     c.loop-asked.table c.add.new.table c.loop-asked-test.true c.asked-item.is c.loop-asked.invariant
     (ap (λ answer. answer >>= λ found. Ok (alias, found)) c.in_ok-stemcell.ensures)
-    (λ done h. AreStemcells-add done alias stemcell c.loop-asked.table c.add.new.table h c.in_ok-add.ensures)
+    (λ done h. AreStemcells-add done alias stemcell c.loop-asked.table c.add.new.table h
+    (subst (λ (name : List ℕ). IsAdded c.loop-asked.table name stemcell c.add.new.table) c.as_bytes.ensures.bytes c.in_ok-add.ensures))

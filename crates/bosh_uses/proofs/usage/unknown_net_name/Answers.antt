@@ -1,4 +1,4 @@
-use Rattle.std.proofs.Common.{◌≡◌, ◌∙◌, List, ℕ, Option, not, find, ap, sym}
+use Rattle.std.proofs.Common.{◌∙◌, not, ap, sym}
 use Rattle.std.specs.Option.{option_copied, option_map}
 use Rattle.bosh_base.specs.Plan.{is_listed}
 use Rattle.bosh_uses.specs.Uses.{net_name}

@@ -1,6 +1,5 @@
-use Rattle.std.proofs.Common.{◌≡◌, ◌∙◌, ◌⊎◌, List, [], ◌∷◌, ◌++◌, Err, ap, inl, inr, rules}
+use Rattle.std.proofs.Common.{◌≡◌, ◌∙◌, ◌⊎◌, [], ◌∷◌, ◌++◌, Err, ap, inl, inr, rules}
 use Rattle.bosh_uses.specs.Answer.{each}
-use Rattle.bosh_uses.specs.Used.{UsedGroup}
 use Rattle.bosh_uses.specs.Uses.{used_group}
 use Rattle.bosh_uses.specs.declared.fault.GoalFault.TheVariants.{Memory}
 use Rattle.bosh_uses.proofs.EachLemmas.{Are, stands-more, stands-refused}

@@ -2,7 +2,7 @@ use Rattle.std.proofs.Common.{◌≡◌, ◌∙◌, ap, subst}
 use Rattle.std.specs.Option.{option_copied}
 use Rattle.bosh_base.specs.declared.stemcell.Stemcell.{Stemcell}
 use Rattle.bosh_uses.specs.Answer.{IsAnswerSeen}
-use Rattle.bosh_uses.specs.Table.{found_at}
+use Rattle.bosh_lookup.specs.Table.{found_at}
 use Rattle.bosh_uses.specs.Uses.{aliased, known}
 use Rattle.bosh_uses.specs.declared.fault.Kind.TheVariants as kinds
 use Rattle.bosh_uses.proofs.sources.Sources.stemcell.Goals as goal

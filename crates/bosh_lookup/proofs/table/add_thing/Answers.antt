@@ -1,5 +1,5 @@
-use Rattle.bosh_uses.proofs.TableLemmas.{IsTable-add}
-use Rattle.bosh_uses.proofs.table.add_thing.Goals as goal
+use Rattle.bosh_lookup.proofs.TableLemmas.{IsTable-add}
+use Rattle.bosh_lookup.proofs.table.add_thing.Goals as goal
 
 pub returns : goal.returns
 returns g c = λ all before.

@@ -1,7 +1,7 @@
 use Rattle.std.proofs.Common.{◌≡◌, ◌∙◌, ◌+◌, [], ◌∷◌, ◌++◌, take, ap, sym, subst}
 use Rattle.std.proofs.lemmas.List.{take_more}
-use Rattle.bosh_uses.specs.Table.{IsTable}
-use Rattle.bosh_uses.proofs.table.table_of.Goals as goal
+use Rattle.bosh_lookup.specs.Table.{IsTable}
+use Rattle.bosh_lookup.proofs.table.table_of.Goals as goal
 
 pub loop-thing-preserved : goal.loop-thing-preserved
 loop-thing-preserved g c =

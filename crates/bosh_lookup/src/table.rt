@@ -1,71 +1,29 @@
-//! Things by their names.
+//! Tables of things by their names.
 ghost use Rattle.std.specs.Prelude.{◌≡◌, ◌++◌, ◌∷◌, [], List, IfOk, OnOk};
+ghost use Rattle.std.specs.List.{list_any};
 ghost use Rattle.std.specs.Option.{option_copied};
-ghost use Rattle.bosh_uses.specs.Table.{IsAdded, IsTable, named};
+ghost use Rattle.std.specs.Str.{bytes_eq};
+ghost use Rattle.bosh_lookup.specs.Table.{IsAdded, IsTable, named};
 
-use bosh_base::{JobSpec, Name, PackageSpec};
-use bosh_manifest_parts::{Consume, Provide};
+use crate::Named;
 use std::alloc::{AllocError, Global};
 use std::collections::BTreeMap;
 
 /// What is found under a name.
 pub type Table<'a, V> = BTreeMap<&'a [u8], V>;
 
-/// A thing that has a name.
-pub trait Named {
-    ghost use Rattle.std.specs.Prelude.{List, ℕ};
-
-    ghost name_of: { Self → List ℕ };
-
-    fn name(&self) -> &Name
-        ensures { result.now ≡ name_of self.now };
-}
-
-impl Named for JobSpec {
-    ghost name_of = { λ job. job.name };
-
-    fn name(&self) -> &Name {
-        &self.name
-    }
-}
-
-impl Named for PackageSpec {
-    ghost name_of = { λ spec. spec.name };
-
-    fn name(&self) -> &Name {
-        &self.name
-    }
-}
-
-impl Named for Provide {
-    ghost name_of = { λ provide. provide.link };
-
-    fn name(&self) -> &Name {
-        &self.link
-    }
-}
-
-impl Named for Consume {
-    ghost name_of = { λ consume. consume.link };
-
-    fn name(&self) -> &Name {
-        &self.link
-    }
-}
-
 /// Puts a value under a name, unless the name has one.
 pub fn add<'a, V: Drop>(
     table: &mut Table<'a, V>,
-    name: &'a Name,
+    name: &'a [u8],
     value: V,
 ) -> Result<(), AllocError>
     ensures { OnOk result (IsAdded table.old name.now value table.new) }
 {
-    let key = name.as_bytes();
-    if table.contains_key(key) {
+    if table.contains_key(name) {
         return Ok(());
     }
-    table.insert(key, value)?;
+    table.insert(name, value)?;
     Ok(())
 }
 
@@ -89,9 +47,17 @@ pub fn table_of<T: Named>(alloc: Global, things: &[T]) -> Result<Table<'_, &T>, 
     Ok(table)
 }
 
-/// What a table has under a name.
-pub fn find<'a, T: Named>(table: &Table<'a, &'a T>, name: &Name) -> Option<&'a T>
+/// What a table has under a name. It takes a logarithm of the number of the things.
+pub fn find<'a, T: Named>(table: &Table<'a, &'a T>, name: &[u8]) -> Option<&'a T>
     ensures { (all : List T) → IsTable T.name_of all table.now → option_copied result ≡ named T.name_of all name.now }
 {
-    table.get(name.as_bytes()).copied()
+    table.get(name).copied()
+}
+
+/// Whether a table has something under a name.
+pub fn has<'a, T: Named>(table: &Table<'a, &'a T>, name: &[u8]) -> bool
+    ensures { (all : List T) → IsTable T.name_of all table.now
+        → result ≡ list_any (λ thing. bytes_eq (T.name_of thing) name.now) all }
+{
+    table.contains_key(name)
 }
