@@ -1,13 +1,33 @@
 //! Templates.
-use bosh_base::{Seq, Text};
+use bosh_base::{Addr, Name, Prop, PropSpec, Seq, Text};
 use bosh_cases::{CaseFault, Given, Outcome, both, four, joined, two};
-use bosh_template::{Env, LinkEnv, TemplateFault, parse_template, render};
+use bosh_template::{Env, JobEnv, LinkEnv, TemplateFault, parse_template, render};
 use bosh_yaml::{Copied, Node};
 use std::alloc::{AllocError, Global};
 
-fn link(alloc: Global, node: &Node) -> Result<LinkEnv, CaseFault> {
+/// What the provider of a link gives in a case.
+#[derive(Drop)]
+struct GivenLink {
+    name: Name,
+    listed: Seq<Text>,
+    props: Seq<Prop>,
+    addrs: Seq<Addr>,
+}
+
+/// What a template looks up in a case.
+#[derive(Drop)]
+struct Setting {
+    dep: Name,
+    group: Name,
+    az: Name,
+    declared: Seq<PropSpec>,
+    given: Node,
+    links: Vec<GivenLink>,
+}
+
+fn link(alloc: Global, node: &Node) -> Result<GivenLink, CaseFault> {
     let (name, listed, props, addrs) = four(alloc, node, ["name", "listed", "props", "addrs"])?;
-    Ok(LinkEnv {
+    Ok(GivenLink {
         name,
         listed,
         props,
@@ -15,7 +35,7 @@ fn link(alloc: Global, node: &Node) -> Result<LinkEnv, CaseFault> {
     })
 }
 
-fn links(alloc: Global, node: &Node) -> Result<Seq<LinkEnv>, CaseFault> {
+fn links(alloc: Global, node: &Node) -> Result<Vec<GivenLink>, CaseFault> {
     let Some(Node::List(items)) = node.find(b"links") else {
         return Err(CaseFault::Form);
     };
@@ -23,7 +43,7 @@ fn links(alloc: Global, node: &Node) -> Result<Seq<LinkEnv>, CaseFault> {
     for item in items.as_slice() {
         links.push(link(alloc, item)?)?;
     }
-    Ok(Seq::from(links))
+    Ok(links)
 }
 
 // The properties that a manifest gives.
@@ -34,26 +54,50 @@ fn properties(alloc: Global, node: &Node) -> Result<Node, CaseFault> {
     }
 }
 
-fn environment(alloc: Global, node: &Node) -> Result<Env, CaseFault> {
-    let (index, addr) = two(alloc, node, ["index", "addr"])?;
+fn setting(alloc: Global, node: &Node) -> Result<Setting, CaseFault> {
     let own = four(alloc, node, ["dep", "group", "az", "declared"]);
     let looked_up = both(properties(alloc, node), links(alloc, node));
     let ((dep, group, az, declared), (given, links)) = both(own, looked_up)?;
-    Ok(Env {
+    Ok(Setting {
         dep,
         group,
-        index,
         az,
-        addr,
         declared,
         given,
         links,
     })
 }
 
-fn rendered(alloc: Global, text: &[u8], env: &Env) -> Result<Text, TemplateFault> {
+fn link_envs<'a>(alloc: Global, links: &'a [GivenLink]) -> Result<Vec<LinkEnv<'a>>, AllocError> {
+    let mut envs = Vec::new(alloc);
+    for link in links {
+        let listed = link.listed.as_slice();
+        let props = link.props.as_slice();
+        let addrs = link.addrs.as_slice();
+        envs.push(LinkEnv::of(alloc, &link.name, listed, props, addrs)?)?;
+    }
+    Ok(envs)
+}
+
+fn rendered(
+    alloc: Global,
+    text: &[u8],
+    setting: &Setting,
+    index: u32,
+    addr: Addr,
+) -> Result<Text, TemplateFault> {
     let template = parse_template(alloc, text)?;
-    render(alloc, &template, env)
+    let links = link_envs(alloc, setting.links.as_slice())?;
+    let declared = setting.declared.as_slice();
+    let job = JobEnv::of(
+        alloc,
+        &setting.dep,
+        &setting.group,
+        declared,
+        &setting.given,
+        links.as_slice(),
+    )?;
+    render(alloc, &template, &Env::of(&job, index, &setting.az, addr))
 }
 
 // A refusal and the name that it tells.
@@ -81,9 +125,10 @@ fn refusal(alloc: Global, fault: &TemplateFault) -> Result<Outcome, CaseFault> {
 }
 
 /// The text of a template, with what the setting lets it look up.
-pub(crate) fn text(alloc: Global, setting: &Node, given: &Node) -> Result<Outcome, CaseFault> {
-    let (template, env) = both(Text::of(alloc, given), environment(alloc, setting))?;
-    match rendered(alloc, template.as_slice(), &env) {
+pub(crate) fn text(alloc: Global, given_setting: &Node, given: &Node) -> Result<Outcome, CaseFault> {
+    let (index, addr) = two(alloc, given_setting, ["index", "addr"])?;
+    let (template, setting) = both(Text::of(alloc, given), setting(alloc, given_setting))?;
+    match rendered(alloc, template.as_slice(), &setting, index, addr) {
         Ok(text) => Ok(Outcome::bytes(Vec::from_slice(alloc, text.as_slice())?)),
         Err(fault) => refusal(alloc, &fault),
     }

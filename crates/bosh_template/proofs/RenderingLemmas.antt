@@ -4,7 +4,7 @@ use Rattle.std.specs.List.{flat_map}
 use Rattle.std.proofs.lemmas.Grind.{common_steps}
 use Rattle.std.proofs.lemmas.List.{flat_map_more, take_more}
 use Rattle.bosh_base.specs.declared.addr.Addr.{Addr}
-use Rattle.bosh_template.specs.declared.environment.Env.{Env}
+use Rattle.bosh_template.specs.Environment.{Env}
 use Rattle.bosh_template.specs.declared.fault.TemplateFault.{TemplateFault}
 use Rattle.bosh_template.specs.declared.output.Output.{Output}
 use Rattle.bosh_template.specs.declared.template.Part.{Part}

@@ -1,7 +1,9 @@
 pub mod Answer
+pub mod Environment
 pub mod Grammar
 pub mod Output
 pub mod Piece
+pub mod Property
 pub mod Reading
 pub mod Rendering
 pub mod Setting

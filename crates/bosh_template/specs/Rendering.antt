@@ -7,9 +7,7 @@ use Rattle.bosh_base.specs.declared.release.Prop.{Prop}
 use Rattle.bosh_base.specs.declared.release.PropSpec.{PropSpec}
 use Rattle.bosh_base.specs.declared.release.Setting.{Setting}
 use Rattle.bosh_ip.specs.Address.{spelling_of_addr}
-use Rattle.bosh_yaml.specs.View.{tree_of}
-use Rattle.bosh_template.specs.declared.environment.Env.{Env}
-use Rattle.bosh_template.specs.declared.environment.LinkEnv.{LinkEnv}
+use Rattle.bosh_template.specs.Environment.{Env, JobEnv, LinkEnv}
 use Rattle.bosh_template.specs.declared.fault.TemplateFault.{TemplateFault}
 use Rattle.bosh_template.specs.declared.fault.TemplateFault.TheVariants.{Undeclared, NoLink, NoInstance, Limit}
 use Rattle.bosh_template.specs.declared.template.Part.{Part}
@@ -25,13 +23,13 @@ abbrev pub addr_text : Addr → List ℕ
 addr_text addr = spelling_of_addr addr.0
 
 -- a property of the job: the manifest's value, else the default, else the literal
-abbrev pub own_from : Env → List ℕ → Option (List ℕ) → Option PropSpec → Result (List ℕ) TemplateFault
-own_from env name fallback None = Err (Undeclared name)
-own_from env name fallback (Some spec) =
-    setting_text name (or_else (given_setting name (tree_of env.given)) (or_else spec.fallback (literal fallback)))
+abbrev pub own_from : JobEnv → List ℕ → Option (List ℕ) → Option PropSpec → Result (List ℕ) TemplateFault
+own_from job name fallback None = Err (Undeclared name)
+own_from job name fallback (Some spec) =
+    setting_text name (or_else (given_setting name job.given) (or_else spec.fallback (literal fallback)))
 
-abbrev pub own_text : Env → List ℕ → Option (List ℕ) → Result (List ℕ) TemplateFault
-own_text env name fallback = own_from env name fallback (find (λ spec. bytes_eq spec.name name) env.declared)
+abbrev pub own_text : JobEnv → List ℕ → Option (List ℕ) → Result (List ℕ) TemplateFault
+own_text job name fallback = own_from job name fallback (find (λ spec. bytes_eq spec.name name) job.declared)
 
 -- the value of a property of a provider, where it has one
 abbrev pub value_of : Option Prop → Option Setting
@@ -56,11 +54,11 @@ separated between [] = []
 separated between (first ∷ others) = addr_text first ++ flat_map (λ addr. between ++ addr_text addr) others
 
 abbrev pub word_text : Env → SpecWord → List ℕ
-word_text env Name = env.group
+word_text env Name = env.job.group
 word_text env Index = decimal env.index
 word_text env Az = env.az
 word_text env Address = addr_text env.addr
-word_text env Deployment = env.dep
+word_text env Deployment = env.job.dep
 word_text env Bootstrap = truth (env.index == 0)
 
 -- a lookup in a link, by the link of that name
@@ -68,16 +66,16 @@ abbrev pub through : List ℕ → (LinkEnv → Result (List ℕ) TemplateFault) 
 through name look None = Err (NoLink name)
 through name look (Some link) = look link
 
-abbrev pub link_named : Env → List ℕ → Option LinkEnv
-link_named env name = find (λ link. bytes_eq link.name name) env.links
+abbrev pub link_named : JobEnv → List ℕ → Option LinkEnv
+link_named job name = find (λ link. bytes_eq link.name name) job.links
 
 -- what a part comes to
 abbrev pub part_text : Env → Part → Result (List ℕ) TemplateFault
 part_text env (Literal text) = Ok text
-part_text env (Own name fallback) = own_text env name fallback
-part_text env (Linked link name fallback) = through link (λ tied. linked_text tied name fallback) (link_named env link)
-part_text env (OneAddr link index) = through link (λ tied. one_addr link index (slice_get tied.addrs index)) (link_named env link)
-part_text env (AllAddrs link between) = through link (λ tied. Ok (separated between tied.addrs)) (link_named env link)
+part_text env (Own name fallback) = own_text env.job name fallback
+part_text env (Linked link name fallback) = through link (λ tied. linked_text tied name fallback) (link_named env.job link)
+part_text env (OneAddr link index) = through link (λ tied. one_addr link index (slice_get tied.addrs index)) (link_named env.job link)
+part_text env (AllAddrs link between) = through link (λ tied. Ok (separated between tied.addrs)) (link_named env.job link)
 part_text env (Word word) = Ok (word_text env word)
 
 -- the parts' texts one after another, or the fault of the first that has one

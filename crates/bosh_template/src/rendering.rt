@@ -1,8 +1,6 @@
 //! The text of a template for an instance.
-ghost use Rattle.std.specs.Prelude.{◌≡◌, ◌⊎◌, ◌++◌, find, slice_get, None, Some, Ok, IfErr, IfOk};
-ghost use Rattle.std.specs.List.{flat_map, list_any};
-ghost use Rattle.std.specs.Option.{option_copied};
-ghost use Rattle.std.specs.Str.{bytes_eq};
+ghost use Rattle.std.specs.Prelude.{◌≡◌, ◌⊎◌, ◌++◌, slice_get, None, Some, Ok, IfErr, IfOk};
+ghost use Rattle.std.specs.List.{flat_map};
 ghost use Rattle.bosh_template.specs.Answer.{IsAnswer};
 ghost use Rattle.bosh_template.specs.Output.{Adds};
 ghost use Rattle.bosh_template.specs.Rendering.{addr_text, linked_text, link_named, one_addr, own_text, part_text, parts_text, rendered, separated, word_text};
@@ -10,51 +8,30 @@ ghost use Rattle.bosh_template.specs.declared.fault.TemplateFault.TheVariants.{M
 
 use crate::output::Output;
 use crate::value::{add_truth, add_value, given_value, literal_value, setting_value};
-use crate::{Env, LinkEnv, Part, SpecWord, Template, TemplateFault};
-use bosh_base::{Addr, Copyable, Prop, PropSpec, Text, is_same};
+use crate::{Env, JobEnv, LinkEnv, Part, SpecWord, Template, TemplateFault};
+use bosh_base::{Addr, Copyable, Text};
 use std::alloc::Global;
-
-// The declaration of a property.
-fn declared<'a>(env: &'a Env, name: &Text) -> Option<&'a PropSpec>
-    ensures { option_copied result ≡ find (λ spec. bytes_eq spec.name name.now) env.now.declared }
-{
-    env.declared.iter().find(|spec| is_same(&spec.name, name))
-}
 
 // Adds a property of the job.
 fn add_own(
     alloc: Global,
-    env: &Env,
+    job: &JobEnv,
     name: &Text,
     fallback: &Option<Text>,
     output: &mut Output,
 ) -> Result<(), TemplateFault>
-    ensures { Adds result output.old output.new (own_text env.now name.now fallback.now) }
+    ensures { Adds result output.old output.new (own_text job.now name.now fallback.now) }
 {
-    let Some(spec) = declared(env, name) else {
+    let Some(spec) = job.declared(name) else {
         return Err(TemplateFault::Undeclared {
             name: name.copy(alloc)?,
         });
     };
     let default = spec.fallback.as_ref().map(setting_value);
-    let value = given_value(&env.given, name)
+    let value = given_value(job.given(), name)
         .or(default)
         .or(literal_value(fallback));
     add_value(alloc, name, value, output)
-}
-
-// The property of a provider that has a value.
-fn prop_named<'a>(link: &'a LinkEnv, name: &Text) -> Option<&'a Prop>
-    ensures { option_copied result ≡ find (λ prop. bytes_eq prop.name name.now) link.now.props }
-{
-    link.props.iter().find(|prop| is_same(&prop.name, name))
-}
-
-// Whether the provider lists a property.
-fn lists(link: &LinkEnv, name: &Text) -> bool
-    ensures { result ≡ list_any (λ listed. bytes_eq listed name.now) link.now.listed }
-{
-    link.listed.iter().any(|listed| is_same(listed, name))
 }
 
 // Adds a property of a link's provider.
@@ -67,12 +44,12 @@ fn add_linked(
 ) -> Result<(), TemplateFault>
     ensures { Adds result output.old output.new (linked_text link.now name.now fallback.now) }
 {
-    if !lists(link, name) {
+    if !link.lists(name) {
         return Err(TemplateFault::Undeclared {
             name: name.copy(alloc)?,
         });
     }
-    let given = prop_named(link, name).map(|prop| setting_value(&prop.value));
+    let given = link.prop(name).map(|prop| setting_value(&prop.value));
     add_value(alloc, name, given.or(literal_value(fallback)), output)
 }
 
@@ -95,7 +72,7 @@ fn add_one_addr(
 ) -> Result<(), TemplateFault>
     ensures { Adds result output.old output.new (one_addr name.now index (slice_get link.now.addrs index)) }
 {
-    match link.addrs.get(index as usize) {
+    match link.addrs().get(index as usize) {
         Some(addr) => add_addr(alloc, *addr, output),
         None => Err(TemplateFault::NoInstance {
             name: name.copy(alloc)?,
@@ -148,33 +125,24 @@ fn add_word(
     ensures { Adds result output.old output.new (Ok (word_text env.now word)) }
 {
     match word {
-        SpecWord::Name => output.add(env.group.as_bytes()),
+        SpecWord::Name => output.add(env.job().group().as_bytes()),
         SpecWord::Index => {
             let mut digits = itoa::Buffer::new();
-            output.add(digits.format(env.index).as_bytes())
+            output.add(digits.format(env.index()).as_bytes())
         }
-        SpecWord::Az => output.add(env.az.as_bytes()),
-        SpecWord::Address => add_addr(alloc, env.addr, output),
-        SpecWord::Deployment => output.add(env.dep.as_bytes()),
-        SpecWord::Bootstrap => add_truth(output, env.index == 0),
+        SpecWord::Az => output.add(env.az().as_bytes()),
+        SpecWord::Address => add_addr(alloc, env.addr(), output),
+        SpecWord::Deployment => output.add(env.job().dep().as_bytes()),
+        SpecWord::Bootstrap => add_truth(output, env.index() == 0),
     }
 }
 
-// The link of a name.
-fn link_named<'a>(env: &'a Env, name: &Text) -> Option<&'a LinkEnv>
-    ensures { option_copied result ≡ link_named env.now name.now }
-{
-    env.links
-        .iter()
-        .find(|link| link.name.as_bytes() == name.as_slice())
-}
-
 // The link of a name, or the refusal where it has no provider.
-fn tied<'a>(alloc: Global, env: &'a Env, name: &Text) -> Result<&'a LinkEnv, TemplateFault>
-    ensures ok { IfOk result (λ link. link_named env.now name.now ≡ Some link.now) }
-    ensures err { IfErr result (λ fault. (fault ≡ Memory) ⊎ ((fault ≡ NoLink name.now) × (link_named env.now name.now ≡ None))) }
+fn tied<'a>(alloc: Global, job: &JobEnv<'a>, name: &Text) -> Result<&'a LinkEnv<'a>, TemplateFault>
+    ensures ok { IfOk result (λ link. link_named job.now name.now ≡ Some link.now) }
+    ensures err { IfErr result (λ fault. (fault ≡ Memory) ⊎ ((fault ≡ NoLink name.now) × (link_named job.now name.now ≡ None))) }
 {
-    match link_named(env, name) {
+    match job.link(name) {
         Some(link) => Ok(link),
         None => Err(TemplateFault::NoLink {
             name: name.copy(alloc)?,
@@ -188,17 +156,17 @@ fn add_part(alloc: Global, env: &Env, part: &Part, output: &mut Output) -> Resul
 {
     match part {
         Part::Literal(text) => output.add(text.as_slice()),
-        Part::Own { name, fallback } => add_own(alloc, env, name, fallback, output),
+        Part::Own { name, fallback } => add_own(alloc, env.job(), name, fallback, output),
         Part::Linked {
             link,
             name,
             fallback,
-        } => add_linked(alloc, tied(alloc, env, link)?, name, fallback, output),
+        } => add_linked(alloc, tied(alloc, env.job(), link)?, name, fallback, output),
         Part::OneAddr { link, index } => {
-            add_one_addr(alloc, tied(alloc, env, link)?, link, *index, output)
+            add_one_addr(alloc, tied(alloc, env.job(), link)?, link, *index, output)
         }
         Part::AllAddrs { link, between } => {
-            let addrs = tied(alloc, env, link)?.addrs.as_slice();
+            let addrs = tied(alloc, env.job(), link)?.addrs();
             add_all_addrs(alloc, addrs, between, output)
         }
         Part::Word(word) => add_word(alloc, env, *word, output),
