@@ -1,5 +1,5 @@
 -- The level of a work: without a cycle it is one more than the greatest level of a listed dependency.
-use Rattle.std.proofs.Common.{◌≡◌, ◌⊎◌, ◌∙◌, refl, inl, inr, ⊎_elim, ℕ, zero, suc, ◌+◌, ◌≤◌, ◌<◌, Bool, true, false, cond, leb, List, length, arith}
+use Rattle.std.proofs.Common.{◌≡◌, ◌⊎◌, ◌∙◌, refl, ap, inl, inr, ⊎_elim, ℕ, zero, suc, ◌+◌, ◌≤◌, ◌<◌, Bool, true, false, cond, leb, List, length, arith}
 use Rattle.std.specs.List.{All, Contains}
 use Rattle.std.specs.List.Sorted.{IsPermutation}
 use Rattle.std.proofs.lemmas.Bool.{cases_lt}
@@ -130,6 +130,21 @@ module _ (works : List KeyWork) where
       let a = within-mono n other in
       let b = le-one_above (level_within works (suc n)) work other c needed in
       omega arith)
+
+  -- and stands where it ended after any further dependencies
+  pub settled-later :
+      (more n : ℕ) (work : KeyWork) → level_within works n work < n
+      → level_within works (n + more) work ≡ level_within works n work
+  settled-later zero n work h =
+      let none : n + 0 ≡ n = omega arith in
+      ap (λ (rounds : ℕ). level_within works rounds work) none
+  settled-later (suc more) n work h =
+      let before = settled-later more n work h in
+      let settled = within_settled (n + more) work (omega arith) in
+      let mono = within-mono (n + more) work in
+      let next : level_within works (suc (n + more)) work ≡ level_within works n work = omega arith in
+      let count : n + suc more ≡ suc (n + more) = omega arith in
+      ap (λ (rounds : ℕ). level_within works rounds work) count ∙ next
 
   last_level-one_above : IsAcyclic works → (work : KeyWork) → Contains works work → last_level works work ≡ one_above works (last_level works) work
   unfolding last_level

@@ -1,6 +1,6 @@
 -- How far the rounds come with each work.
-use Rattle.std.proofs.Common.{◌≡◌, ◌≢◌, ◌∙◌, refl, sym, ap, subst, ⊎_elim, ℕ, suc, ◌≤◌, ◌<◌, Bool, true, false, Option, Some, List, [], ◌∷◌, map, length, get_or, replicate, arith}
-use Rattle.std.specs.List.{All, Contains}
+use Rattle.std.proofs.Common.{◌≡◌, ◌≢◌, ◌∙◌, refl, sym, ap, subst, ⊎_elim, ℕ, zero, suc, ◌+◌, ◌-◌, ◌≤◌, ◌<◌, slice_index_or, true≢false, Bool, true, false, Option, Some, List, [], ◌∷◌, map, length, get_or, replicate, arith}
+use Rattle.std.specs.List.{All, Contains, list_any}
 use Rattle.std.specs.Option.{unwrap_or}
 use Rattle.std.proofs.lemmas.Bool.{cases_lt, cases_eq}
 use Rattle.std.proofs.lemmas.List.{length-map, get_or-map, get_or_default, length-replicate, get_or-replicate}
@@ -11,7 +11,7 @@ use Rattle.bosh_compile.specs.declared.level.Progress.{Progress}
 use Rattle.bosh_compile.specs.declared.table.Node.{Node}
 use Rattle.bosh_compile.specs.Rounds.{level_within, last_level, Closed, IsPending, Advances, IsFitting, AllAdvance, IsAfter}
 use Rattle.bosh_compile.specs.Table.{IsGraph, node_by, numbers_by}
-use Rattle.bosh_compile.proofs.LevelLemmas.{within-le}
+use Rattle.bosh_compile.proofs.LevelLemmas.{settled-later, within-le}
 use Rattle.bosh_compile.proofs.RoundLemmas.{stays_closed, level_kept, level_raised, level_found}
 use Rattle.bosh_compile.proofs.TableLemmas.{number_of_key, has_number}
 
@@ -30,6 +30,15 @@ no_key = record { fingerprint = record { 0 = [] }; os = []; version = [] }
 
 abbrev no_work : KeyWork
 no_work = record { name = []; key = no_key; deps = [] }
+
+abbrev no_node : Node
+no_node = record { key = 0; needs = [] }
+
+some_true : (all : List Bool) (k : ℕ) → slice_index_or all k false ≡ true → list_any (λ is. is) all ≡ true
+some_true [] k is = is
+some_true (true ∷ all) k is = refl
+some_true (false ∷ all) zero is = absurd (true≢false (sym is))
+some_true (false ∷ all) (suc k) is = some_true all k is
 
 abbrev no_progress : Progress
 no_progress = record { level = 0; met = 0 }
@@ -82,7 +91,35 @@ module _ (works : List KeyWork) (nodes : List Node) (graph : IsGraph works nodes
         let same = after.same_length in
         after.levels k e d (omega arith) ∙ ap (λ (n : ℕ). level_within works n (get_or works k e)) all)
 
+    -- where no work came as far as the round, all levels are found
+    pub at_rest :
+        ((place : ℕ) (e : Progress) → place < length works → (slice_index_or progress place e).level ≢ round)
+        → round ≤ length works → map (λ p. p.level) progress ≡ map (last_level works) works
+    unfolding last_level
+    at_rest none fits = maps_agree (λ (p : Progress). p.level) (level_within works (length works)) progress works after.same_length (λ k d e low.
+        let same = after.same_length in
+        let here : k < length works = omega arith in
+        let work = get_or works k e in
+        let is = after.levels k e d here in
+        let ne = none k d here in
+        let le = within-le works round work in
+        let differs : level_within works round work ≢ round = λ came. ne (is ∙ came) in
+        let found : level_within works round work < round = omega arith in
+        let whole : round + (length works - round) ≡ length works = omega arith in
+        is ∙ sym (settled-later works (length works - round) round work found)
+        ∙ ap (λ (n : ℕ). level_within works n work) whole)
+
     module _ (pending : List Bool) (seen : IsPending nodes progress round pending) where
+      -- no key is pending, so no work came as far
+      pub none_came :
+          list_any (λ is. is) pending ≡ false
+          → (place : ℕ) (e : Progress) → place < length works → (slice_index_or progress place e).level ≢ round
+      none_came none place e in' came =
+          let count = length_nodes in
+          let here : place < length nodes = omega arith in
+          let marked = seen.marked place no_node e here came in
+          true≢false (sym (some_true pending (slice_index_or nodes place no_node).key marked) ∙ none)
+
       pub fitting : IsFitting nodes (length pending) progress
       fitting = record {
         needs = λ place k d in' low.

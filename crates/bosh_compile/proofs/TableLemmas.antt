@@ -1,11 +1,12 @@
 -- The numbers of keys tell the keys apart.
-use Rattle.std.proofs.Common.{◌≡◌, ◌⊎◌, ◌∙◌, refl, sym, ap, subst, inl, inr, ⊎_elim, ℕ, ◌≤◌, ◌<◌, Bool, true, false, cond, ◌&&◌, Option, None, Some, List, [], ◌∷◌, ◌++◌, length, take, get_or, append-nil, ◌+◌, arith}
+use Rattle.std.proofs.Common.{◌≡◌, ◌⊎◌, ◌∙◌, refl, sym, ap, subst, inl, inr, ⊎_elim, ℕ, ◌≤◌, ◌<◌, Bool, true, false, cond, ◌&&◌, ◌||◌, Option, None, Some, List, [], ◌∷◌, ◌++◌, length, take, get_or, append-nil, ◌+◌, arith}
 use Rattle.std.specs.declared.cmp.Ordering.{Ordering}
 use Rattle.std.specs.declared.cmp.Ordering.TheVariants.{Less, Equal, Greater}
-use Rattle.std.specs.BTreeMap.{BTreeMap, UpdatesBy}
+use Rattle.std.specs.BTreeMap.{BTreeMap, UpdatesBy, get_by}
 use Rattle.std.specs.Cmp.Lexicographic.{slice_cmp}
 use Rattle.std.specs.List.{Contains, HoldsAt}
-use Rattle.std.specs.Option.{IsSome, option_to_list}
+use Rattle.std.proofs.lemmas.List.Folds.{list_any-append}
+use Rattle.std.specs.Option.{IsSome, is_some, option_to_list}
 use Rattle.std.specs.Ordering.{nat_cmp, ordering_then, is_eq}
 use Rattle.std.specs.Str.{bytes_eq}
 use Rattle.std.proofs.lemmas.Bool.{cases_lt}
@@ -17,7 +18,8 @@ use denote.Ref.{Bor}
 use Rattle.bosh_base.specs.declared.key.Key.{Key}
 use Rattle.bosh_base.specs.declared.key.KeyWork.{KeyWork}
 use Rattle.bosh_compile.specs.CompileOrder.{key_cmp}
-use Rattle.bosh_compile.specs.Readiness.{same_key}
+use Rattle.bosh_compile.specs.KeySet.{AreKeys, has_key}
+use Rattle.bosh_compile.specs.Readiness.{is_among, same_key}
 use Rattle.bosh_compile.specs.Table.{StandsAt, IsNumbering, numbers_by, place_in}
 use Rattle.bosh_compile.proofs.KeyLemmas.{same_key_decides}
 use Rattle.bosh_compile.proofs.GreatestLemmas.{here, there, contains_cases}
@@ -123,3 +125,25 @@ module _ (m n : BTreeMap (Bor Key) ℕ) (place : ℕ) (key : Key)
         subst (λ (j : ℕ). StandsAt works other j) added.1 (record { in_range = in'; has_key = λ d. at d ∙ added.0 }))
         (λ (before : place_in m other ≡ Some k). right other k before)
         (place_cases other k found)
+
+-- the table of keys after one more
+pub keys_more :
+    (m n : BTreeMap (Bor Key) (Unit {0})) (key : Key) (keys : List Key)
+    → UpdatesBy (λ a b. key_cmp a.now b.now) (λ k. key_cmp key k.now) m n (Some tt) → AreKeys keys m → AreKeys (keys ++ key ∷ []) n
+keys_more m n key keys updates are other =
+    ap is_some (updates.0 (record { ref_ptr = (0, 0); now = other }))
+    ∙ (either (is_eq (key_cmp key other)) (get_by (λ k. key_cmp other k.now) m)
+    ∙ (ap (λ (b : Bool). b || has_key m other) (is_eq-key_cmp key other)
+    ∙ (ap (λ (b : Bool). same_key key other || b) (are other)
+    ∙ (swapped (same_key key other) (is_among other keys)
+    ∙ sym (list_any-append (λ each. same_key each other) keys (key ∷ []))))))
+  where
+    either : (b : Bool) (found : Option (Unit {0})) → is_some (cond b (Some tt) found) ≡ (b || is_some found)
+    either true found = refl
+    either false found = refl
+
+    swapped : (a b : Bool) → (a || b) ≡ (b || (a || false))
+    swapped true true = refl
+    swapped true false = refl
+    swapped false true = refl
+    swapped false false = refl

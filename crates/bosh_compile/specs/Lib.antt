@@ -1,4 +1,5 @@
 pub mod CompileOrder
+pub mod KeySet
 pub mod Level
 pub mod Leveled
 pub mod Listing

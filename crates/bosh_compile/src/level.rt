@@ -1,4 +1,5 @@
 ghost use Rattle.std.specs.Prelude.{◌≡◌, ◌<◌, ◌≤◌, ◌^◌, length, map, All, IfOk};
+ghost use Rattle.std.specs.List.{list_any};
 ghost use Rattle.bosh_compile.specs.Rounds.{last_level, IsFitting, IsPending, IsNextPending, Advances, AllAdvance};
 
 use crate::CompileFault;
@@ -32,6 +33,12 @@ fn pending_keys(
         }
     }
     Ok(pending)
+}
+
+fn is_some_pending(pending: &[bool]) -> bool
+    ensures { result ≡ list_any (λ is. is) pending.now }
+{
+    pending.iter().any(|is| *is)
 }
 
 // The place of the first pending key from a place on.
@@ -81,7 +88,8 @@ fn levels_in(alloc: Global, progress: &[Progress]) -> Result<Seq<usize>, Compile
 }
 
 /// The level of each work. A round finds the works of one level: those whose needs have all been found before. It goes
-/// on with the needs of a work where the last round stopped, so all rounds look at each need once.
+/// on with the needs of a work where the last round stopped, so all rounds look at each need once. There are no more rounds
+/// than levels, and one.
 pub(crate) fn levels_of(alloc: Global, works: &[KeyWork]) -> Result<Seq<usize>, CompileFault>
     ensures { IfOk result (λ levels. levels ≡ map (last_level works.now) works.now) }
 {
@@ -90,6 +98,9 @@ pub(crate) fn levels_of(alloc: Global, works: &[KeyWork]) -> Result<Seq<usize>, 
     let mut progress = vec![in alloc; start; works.len()]?;
     for round in 0..works.len() {
         let pending = pending_keys(alloc, &nodes, &progress, round)?;
+        if !is_some_pending(pending.as_slice()) {
+            return levels_in(alloc, progress.as_slice());
+        }
         advance(&mut progress, &nodes, &pending, round);
     }
     levels_in(alloc, &progress)

@@ -2,6 +2,7 @@
 #![tactic(auto)]
 
 mod fault;
+mod key_set;
 mod laws;
 mod level;
 mod listing;
@@ -10,6 +11,7 @@ mod readiness;
 mod table;
 
 pub use fault::CompileFault;
+pub use key_set::KeySet;
 pub use laws::{levels_are_determined, rank_shows_no_cycle};
 pub use listing::built;
 pub use order::levels;

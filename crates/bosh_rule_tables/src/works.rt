@@ -4,7 +4,7 @@ ghost use Rattle.bosh_rule_tables.specs.Works.{rank_of, NeedsLower};
 
 use bosh_base::{Digest, Key, KeyWork, Seq};
 use bosh_cases::{CaseFault, Given, Outcome, two};
-use bosh_compile::{CompileFault, built, levels, ready};
+use bosh_compile::{CompileFault, KeySet, built, levels, ready};
 use bosh_yaml::Node;
 use std::alloc::{AllocError, Global};
 
@@ -64,7 +64,8 @@ pub(crate) fn ordered(alloc: Global, given: &Node) -> Result<Outcome, CaseFault>
 /// Whether all that a work needs is compiled.
 pub(crate) fn is_ready(alloc: Global, given: &Node) -> Result<Outcome, CaseFault> {
     let (work, compiled): (KeyWork, Seq<Key>) = two(alloc, given, ["work", "compiled"])?;
-    Outcome::flag(alloc, ready(&work, compiled.as_slice()))
+    let compiled = KeySet::of(alloc, compiled.as_slice())?;
+    Outcome::flag(alloc, ready(&work, &compiled))
 }
 
 fn digits(alloc: Global, digest: Digest) -> Result<Outcome, CaseFault> {

@@ -1,10 +1,10 @@
-use Rattle.std.proofs.Common.{◌≡◌, ◌∙◌, sym, ap, subst, add-one, suc, ◌+◌, length, take, drop, List, [], ◌∷◌, ◌++◌, Bool, refl, ℕ, ◌<◌, map, arith}
-use Rattle.std.specs.List.{All}
+use Rattle.std.proofs.Common.{◌≡◌, ◌∙◌, sym, ap, subst, add-one, suc, ◌+◌, length, take, drop, List, [], ◌∷◌, ◌++◌, Bool, false, refl, ℕ, ◌<◌, ◌≤◌, map, arith}
+use Rattle.std.specs.List.{All, list_any}
 use Rattle.std.proofs.lemmas.Result.{IfOk-weaker}
 use Rattle.bosh_compile.specs.declared.level.Progress.{Progress}
 use Rattle.bosh_compile.specs.declared.table.Node.{Node}
 use Rattle.bosh_compile.specs.Rounds.{IsAfter, IsPending, IsFitting, AllAdvance, last_level}
-use Rattle.bosh_compile.proofs.ProgressLemmas.{all_start, at_the_end, length_nodes, keys_fit, fitting, one_round_more}
+use Rattle.bosh_compile.proofs.ProgressLemmas.{all_start, at_rest, at_the_end, length_nodes, none_came, keys_fit, fitting, one_round_more}
 use Rattle.bosh_compile.proofs.level.levels_of.Goals as goal
 
 take_front : (xs ys : List Progress) → take (length xs) (xs ++ ys) ≡ xs
@@ -71,5 +71,23 @@ returns c =
     let works = c.args.works.now in
     let all : c.loop-round.round ≡ length works = omega arith in
     let found = at_the_end works c.in_ok-nodes.nodes.items c.loop-round.invariant.0 c.loop-round.round c.loop-round.progress.items c.loop-round.invariant.1 all in
-    IfOk-weaker c.levels_in.result (λ levels. levels ≡ map (λ (each : Progress). each.level) c.deref-2.result.now) (λ levels. levels ≡ map (last_level works) works)
-    (λ levels is. is ∙ ap (map (λ (each : Progress). each.level)) c.deref-2.ensures.value ∙ found) c.levels_in.ensures
+    IfOk-weaker c.levels_in-2.result (λ levels. levels ≡ map (λ (each : Progress). each.level) c.deref-2.result.now) (λ levels. levels ≡ map (last_level works) works)
+    (λ levels is. is ∙ ap (map (λ (each : Progress). each.level)) c.deref-2.ensures.value ∙ found) c.levels_in-2.ensures
+
+pub returns-then-not-is_some_pending : goal.returns-then-not-is_some_pending
+returns-then-not-is_some_pending c =
+    let works = c.args.works.now in
+    let nodes = c.in_ok-nodes.nodes.items in
+    let graph = c.loop-round.invariant.0 in
+    let round = c.loop-round.round in
+    let progress = c.loop-round.progress.items in
+    let pending = c.in_ok-pending.pending.items in
+    let seen : IsPending nodes progress round pending =
+    subst (λ (ns : List Node). IsPending ns progress round pending) c.deref.ensures.value
+    (subst (λ (ps : List Progress). IsPending c.deref.result.now ps round pending) c.deref-in-loop-round.ensures.value c.in_ok-pending.ensures) in
+    let none : list_any (λ is. is) pending ≡ false =
+    ap (list_any (λ is. is)) (sym c.as_slice.ensures.value) ∙ (sym c.is_some_pending.ensures ∙ c.if-not-is_some_pending.true) in
+    let fits : round ≤ length works = omega arith in
+    let found = at_rest works nodes graph round progress c.loop-round.invariant.1 (none_came works nodes graph round progress c.loop-round.invariant.1 pending seen none) fits in
+    IfOk-weaker c.levels_in.result (λ levels. levels ≡ map (λ (each : Progress). each.level) c.as_slice-then-not-is_some_pending.result.now) (λ levels. levels ≡ map (last_level works) works)
+    (λ levels is. is ∙ ap (map (λ (each : Progress). each.level)) c.as_slice-then-not-is_some_pending.ensures.value ∙ found) c.levels_in.ensures
