@@ -6,3 +6,4 @@ pub mod SafeLemmas
 pub mod SearchLemmas
 pub mod SpotLemmas
 pub mod TableLemmas
+pub mod SpareLemmas

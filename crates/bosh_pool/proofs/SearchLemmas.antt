@@ -63,16 +63,16 @@ spread true false false = refl
 spread false b u = refl
 
 -- the least over one subnet more
-pub least_more : (want : Want) (used : BTreeSet ℕ) (subnets : List Subnet) (i : ℕ) (subnet : Subnet) (best found : Option Addr) → i < length subnets → subnet ≡ get_or subnets i subnet
-    → Finds (is_free_in want used (take i subnets)) best → Finds (is_free_for want used subnet) found → Finds (is_free_in want used (take (i + 1) subnets)) (lesser best found)
-least_more want used subnets i subnet best found within is h k =
-    let gives : Subnet → Addr → Bool = λ s addr. has_dynamic s want.net want.az addr in
+pub least_more : (net az : List ℕ) (used : BTreeSet ℕ) (subnets : List Subnet) (i : ℕ) (subnet : Subnet) (best found : Option Addr) → i < length subnets → subnet ≡ get_or subnets i subnet
+    → Finds (is_free_in net az used (take i subnets)) best → Finds (is_free_for net az used subnet) found → Finds (is_free_in net az used (take (i + 1) subnets)) (lesser best found)
+least_more net az used subnets i subnet best found within is h k =
+    let gives : Subnet → Addr → Bool = λ s addr. has_dynamic s net az addr in
     let more : take (i + 1) subnets ≡ take i subnets ++ subnet ∷ [] = take_more subnets i subnet within ∙ ap (λ s. take i subnets ++ s ∷ []) (sym is) in
-    let same : (addr : Addr) → (is_free_in want used (take i subnets) addr || is_free_for want used subnet addr) ≡ is_free_in want used (take (i + 1) subnets) addr =
+    let same : (addr : Addr) → (is_free_in net az used (take i subnets) addr || is_free_for net az used subnet addr) ≡ is_free_in net az used (take (i + 1) subnets) addr =
     λ addr. sym (spread (list_any (λ s. gives s addr) (take i subnets)) (gives subnet addr) (not (is_used used addr)))
     ∙ ap (λ b. b && not (is_used used addr)) (ap (λ b. list_any (λ s. gives s addr) (take i subnets) || b) (sym (or-false (gives subnet addr))) ∙ sym (list_any-append (λ s. gives s addr) (take i subnets) (subnet ∷ [])))
-    ∙ ap (λ xs. is_free_in want used xs addr) (sym more) in
-    Finds-same _ _ (lesser best found) same (Finds-lesser (is_free_in want used (take i subnets)) (is_free_for want used subnet) best found h k)
+    ∙ ap (λ xs. is_free_in net az used xs addr) (sym more) in
+    Finds-same _ _ (lesser best found) same (Finds-lesser (is_free_in net az used (take i subnets)) (is_free_for net az used subnet) best found h k)
 
 still_not_free : (open_ old new : Bool) → (old ≡ true → new ≡ true) → (open_ && not old) ≡ false → (open_ && not new) ≡ false
 still_not_free false old new more h = refl

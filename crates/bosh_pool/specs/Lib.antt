@@ -7,4 +7,5 @@ pub mod Free
 pub mod Kept
 pub mod Safe
 pub mod Search
+pub mod Spare
 pub mod Table

@@ -10,25 +10,24 @@ use Rattle.bosh_bands.specs.Least.{IsLeast, PassesNowhere}
 use Rattle.bosh_pool.specs.Free.{IsReady, is_used}
 use Rattle.bosh_pool.specs.declared.closed.Closed.{Closed}
 use Rattle.bosh_pool.specs.declared.spot.Spot.{Spot}
-use Rattle.bosh_pool.specs.declared.want.Want.{Want}
 
 -- the least address that passes a test, or none where none does
 abbrev pub Finds : (Addr → Bool) → Option Addr → Type 0
 Finds test None = PassesNowhere test
 Finds test (Some addr) = IsLeast test addr × (addr.0 < 2 ^ 32)
 
--- a subnet is of the network of a want, and lies in its zone
-abbrev pub serves : Want → Subnet → Bool
-serves want subnet = bytes_eq subnet.net want.net && is_listed want.az subnet.azs
+-- a subnet is of a network, and lies in a zone
+abbrev pub serves : List ℕ → List ℕ → Subnet → Bool
+serves net az subnet = bytes_eq subnet.net net && is_listed az subnet.azs
 
--- a subnet gives the address to a want, and nobody has it
-abbrev pub is_free_for : Want → BTreeSet ℕ → Subnet → Addr → Bool
-is_free_for want used subnet addr = has_dynamic subnet want.net want.az addr && not (is_used used addr)
+-- a subnet gives the address to whoever asks for any on the network and in the zone, and nobody has it
+abbrev pub is_free_for : List ℕ → List ℕ → BTreeSet ℕ → Subnet → Addr → Bool
+is_free_for net az used subnet addr = has_dynamic subnet net az addr && not (is_used used addr)
 
--- some subnet gives it to the want, and nobody has it
-abbrev pub is_free_in : Want → BTreeSet ℕ → List Subnet → Addr → Bool
-is_free_in want used subnets addr =
-    list_any (λ subnet. has_dynamic subnet want.net want.az addr) subnets && not (is_used used addr)
+-- some subnet does
+abbrev pub is_free_in : List ℕ → List ℕ → BTreeSet ℕ → List Subnet → Addr → Bool
+is_free_in net az used subnets addr =
+    list_any (λ subnet. has_dynamic subnet net az addr) subnets && not (is_used used addr)
 
 abbrev pub lesser : Option Addr → Option Addr → Option Addr
 lesser None other = other

@@ -26,8 +26,8 @@ use bosh_base::{Addr, Band, Copyable, Held, NetPlan, Seq, Subnet};
 use std::alloc::{AllocError, Global};
 use std::collections::BTreeSet;
 
-// Notes the number of an address.
-fn note(addr: Addr, used: &mut BTreeSet<u32>) -> Result<(), AllocError>
+/// Notes the number of an address.
+pub(crate) fn note(addr: Addr, used: &mut BTreeSet<u32>) -> Result<(), AllocError>
     ensures { OnOk result ((other : Addr) → is_used used.new other ≡ (is_used used.old other || same_addr other addr)) }
 {
     used.insert(addr.0)?;
@@ -84,8 +84,8 @@ fn first_spot(subnet: &Subnet, bands: &[Band], used: &BTreeSet<u32>) -> Spot
     }
 }
 
-// Where the search in each subnet begins.
-fn first_spots(
+/// Where the search in each subnet begins.
+pub(crate) fn first_spots(
     alloc: Global,
     subnets: &[Subnet],
     closed: &[Closed],
@@ -130,7 +130,14 @@ fn place(
     match own {
         Some(addr) => Ok(addr),
         None => {
-            let addr = least_free(want, plan.subnets.as_slice(), closed, used, spots);
+            let addr = least_free(
+                &want.net,
+                &want.az,
+                plan.subnets.as_slice(),
+                closed,
+                used,
+                spots,
+            );
             found(alloc, want, addr)
         }
     }

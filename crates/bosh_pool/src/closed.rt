@@ -78,18 +78,20 @@ fn is_listed(name: &Name, names: &Seq<Name>) -> bool
     names.iter().any(|listed| *listed == *name)
 }
 
-/// Whether a subnet is of the network of a want, and lies in its zone.
-pub(crate) fn serves(want: &Want, subnet: &Subnet) -> bool
-    ensures { result ≡ serves want.now subnet.now }
+/// Whether a subnet is of a network, and lies in a zone.
+pub(crate) fn serves(net: &Name, az: &Name, subnet: &Subnet) -> bool
+    ensures { result ≡ serves net.now az.now subnet.now }
 {
-    subnet.net == want.net && is_listed(&want.az, &subnet.azs)
+    subnet.net == *net && is_listed(az, &subnet.azs)
 }
 
 fn lends(want: &Want, subnet: &Subnet, closed: &Closed, addr: Addr) -> bool
     requires { IsClosed subnet.now closed.now }
     ensures { result ≡ has_dynamic subnet.now want.now.net want.now.az addr }
 {
-    serves(want, subnet) && is_within(addr, subnet.range) && !is_closed(subnet, closed, addr)
+    serves(&want.net, &want.az, subnet)
+        && is_within(addr, subnet.range)
+        && !is_closed(subnet, closed, addr)
 }
 
 /// Whether some subnet gives an address to whoever asks for any, on the network and in the zone of a want. The work is the

@@ -12,6 +12,7 @@ mod laws;
 mod networks;
 mod owner;
 mod search;
+mod spares;
 mod spot;
 mod table;
 mod want;
@@ -22,4 +23,5 @@ pub use laws::{
     assigned_addresses_are_different, each_address_is_one_of_its_network,
     nobody_else_holds_an_assigned_address, what_is_given_is_assigned,
 };
+pub use spares::spare;
 pub use want::Want;

@@ -4,10 +4,9 @@ ghost use Rattle.bosh_bands.specs.Least.{least};
 ghost use Rattle.bosh_pool.specs.Free.{FreeAt, IsReady, is_free};
 ghost use Rattle.bosh_pool.specs.Search.{AreReady, Finds, is_free_for, is_free_in, lesser};
 
-use crate::Want;
 use crate::closed::{Closed, serves};
 use crate::spot::{Spot, look};
-use bosh_base::{Addr, Band, Subnet};
+use bosh_base::{Addr, Band, Name, Subnet};
 use std::collections::BTreeSet;
 
 // The address at the next number, where that is in the range of the subnet.
@@ -34,9 +33,10 @@ fn lesser(one: Option<Addr>, other: Option<Addr>) -> Option<Addr>
     }
 }
 
-// Where the search in a subnet stands then, and the least address that a want may have there.
+// Where the search in a subnet stands then, and the least address that it gives.
 fn visit(
-    want: &Want,
+    net: &Name,
+    az: &Name,
     subnet: &Subnet,
     bands: &[Band],
     used: &BTreeSet<u32>,
@@ -44,18 +44,19 @@ fn visit(
 ) -> (Spot, Option<Addr>)
     requires { IsReady subnet.now bands.now used.now from }
     ensures ready { IsReady subnet.now bands.now used.now result.0 }
-    ensures found { Finds (is_free_for want.now used.now subnet.now) result.1 }
+    ensures found { Finds (is_free_for net.now az.now used.now subnet.now) result.1 }
 {
-    if !serves(want, subnet) {
+    if !serves(net, az, subnet) {
         return (from, None);
     }
     let spot = look(subnet, bands, used, from);
     (spot, at_next(subnet, bands, used, spot))
 }
 
-/// The least address that a want may have and that is not used.
+/// The least address that is given on a network and in a zone, and that is not used.
 pub(crate) fn least_free(
-    want: &Want,
+    net: &Name,
+    az: &Name,
     subnets: &[Subnet],
     closed: &[Closed],
     used: &BTreeSet<u32>,
@@ -63,11 +64,11 @@ pub(crate) fn least_free(
 ) -> Option<Addr>
     requires { AreReady subnets.now closed.now used.now spots.old }
     ensures ready { AreReady subnets.now closed.now used.now spots.new }
-    ensures least { result ≡ least (is_free_in want.now used.now subnets.now) }
+    ensures least { result ≡ least (is_free_in net.now az.now used.now subnets.now) }
 {
     let mut best = None;
     for (i, subnet) in subnets.iter().enumerate() {
-        let (spot, found) = visit(want, subnet, closed[i].bands.as_slice(), used, spots[i]);
+        let (spot, found) = visit(net, az, subnet, closed[i].bands.as_slice(), used, spots[i]);
         spots[i] = spot;
         best = lesser(best, found);
     }

@@ -24,11 +24,11 @@ loop-i-preserved c =
     record {
       ready = AreReady-set subnets closed used c.loop-i.spots i spot subnet one c.loop-i-test.true both c.loop-i.invariant.ready;
       best =
-          subst (Finds (is_free_in c.args.want.now used (take (i + 1) subnets))) (sym c.lesser-best.ensures)
-          (least_more c.args.want.now used subnets i subnet c.loop-i.best c.visit-found.result.1 c.loop-i-test.true c.index-subnets-i.is c.loop-i.invariant.best c.visit-found.ensures.found);
+          subst (Finds (is_free_in c.args.net.now c.args.az.now used (take (i + 1) subnets))) (sym c.lesser-best.ensures)
+          (least_more c.args.net.now c.args.az.now used subnets i subnet c.loop-i.best c.visit-found.result.1 c.loop-i-test.true c.index-subnets-i.is c.loop-i.invariant.best c.visit-found.ensures.found);
     }
 
 pub returns-clause-least : goal.returns-clause-least
 returns-clause-least c =
     let all : take c.loop-i.i c.args.subnets.now ≡ c.args.subnets.now = take_all c.loop-i.i c.args.subnets.now c.loop-i-test.false in
-    Finds-least _ c.loop-i.best (subst (λ (xs : List Subnet). Finds (is_free_in c.args.want.now c.args.used.now xs) c.loop-i.best) all c.loop-i.invariant.best)
+    Finds-least _ c.loop-i.best (subst (λ (xs : List Subnet). Finds (is_free_in c.args.net.now c.args.az.now c.args.used.now xs) c.loop-i.best) all c.loop-i.invariant.best)

@@ -6,5 +6,5 @@ use Rattle.bosh_pool.proofs.search.least_free.Given as goal
 abbrev pub invariant-loop-i : goal.invariant-loop-i
 invariant-loop-i l = record {
   ready : AreReady l.subnets l.closed l.used l.spots;
-  best : Finds (is_free_in l.want l.used (take l.i l.subnets)) l.best;
+  best : Finds (is_free_in l.net l.az l.used (take l.i l.subnets)) l.best;
 }
