@@ -1,0 +1,3 @@
+pub mod Sited
+pub mod Offers
+pub mod Tied
