@@ -37,7 +37,7 @@ number_takes (object ms) a e = absurd cc
 pub number_law : (levels : ℕ) → IsCoding levels number_data is_number number_from
 number_law levels = record { takes = number_takes; again = λ a h. rw h refl; plain = λ a h. ltb-true a (2 ^ 64) h }
 
-small_is_number : (n : ℕ) → is_small n ≡ true → is_number n ≡ true
+pub small_is_number : (n : ℕ) → is_small n ≡ true → is_number n ≡ true
 small_is_number n h = let below = ltb-true n (2 ^ 32) h in lt-ltb n (2 ^ 64) (omega arith)
 
 pub small_law : (levels : ℕ) → IsCoding levels number_data is_small small_from
