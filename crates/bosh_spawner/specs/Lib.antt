@@ -1,0 +1,3 @@
+pub mod Spawner
+pub mod Outputs
+pub mod MemSpawner

@@ -1,0 +1,10 @@
+pub mod Fault
+pub mod Json
+pub mod Object
+pub mod Decimal
+pub mod Owner
+pub mod Method
+pub mod Call
+pub mod Request
+pub mod Reply
+pub mod Port

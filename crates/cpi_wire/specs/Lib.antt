@@ -1,0 +1,9 @@
+pub mod Reading
+pub mod Number
+pub mod Text
+pub mod Choice
+pub mod List
+pub mod Fields
+pub mod Make
+pub mod Spec
+pub mod Key
