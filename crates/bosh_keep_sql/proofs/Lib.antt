@@ -1,0 +1,2 @@
+pub mod KeeperLemmas
+pub mod RowLemmas

@@ -1,0 +1,4 @@
+pub mod SqlView
+pub mod Statements
+pub mod Faults
+pub mod Rows

@@ -1,0 +1,155 @@
+ghost use Rattle.std.specs.Prelude.{◌≡◌, ◌≢◌, ◌++◌, [], ◌∷◌, false, length, Some, IfErr, IfOk, OnOk};
+ghost use Rattle.bosh_keep_sql.specs.Rows.{row_of, rows_from};
+ghost use Rattle.bosh_keep_sql.specs.SqlView.{Fails};
+ghost use Rattle.bosh_keep_sql.specs.Statements.{insert_text, Lists, Runs};
+ghost use Rattle.bosh_ports.specs.Faults.{NeverFalls};
+ghost use Rattle.bosh_ports.specs.Keeper.{FailsByCount, Leaves, TellsBroken, TellsMended};
+ghost use Rattle.sqlite.specs.Held.{state};
+ghost use Rattle.sqlite.specs.State.{HasCleanDisk};
+
+use crate::store::{check, found, put, put_all};
+use bosh_ports::{Bodies, KeepFault, Keeper};
+use sqlite::{Alter, Connection};
+use std::alloc::Global;
+use std::marker::Model;
+
+/// A keeper over one table of a database. It holds the bodies of the table in memory too: what it tells is what it has
+/// stored, whatever the disk does, and what the disk gives back is held against it.
+#[derive(Drop)]
+pub struct SqlKeeper<S: Alter + Drop> {
+    alloc: Global,
+    connection: Connection<S>,
+    bodies: Vec<Vec<u8>>,
+    faults: u64,
+    is_broken: bool,
+}
+
+impl<S: Alter + Drop> Model for SqlKeeper<S> {
+    ghost use Rattle.bosh_keep_sql.specs.SqlView.{SqlView, view_code};
+    ghost use Rattle.bosh_ports.specs.Contents.{contents};
+
+    ghost Value = { SqlView S };
+
+    ghost coded = { view_code S.code };
+
+    ghost view = { λ keeper. record {
+      connection = keeper.connection;
+      bodies = contents keeper.bodies.items;
+      faults = keeper.faults;
+      is_broken = keeper.is_broken;
+    } };
+}
+
+impl<S: Alter + Drop> SqlKeeper<S> {
+    /// The keeper over a database that has no table yet, or the keeper's alone. Whatever else it has is refused, and so
+    /// are rows that are no bodies or whose positions have a gap; then nothing is written.
+    pub fn load(alloc: Global, connection: Connection<S>) -> Result<SqlKeeper<S>, KeepFault>
+        ensures fresh { IfOk result (λ keeper. keeper ≡ record keeper { faults = 0; is_broken = false }) }
+        ensures read { IfOk result (λ keeper. HasCleanDisk (state S.Store keeper.connection) →
+            Lists S.Store keeper.connection (rows_from 0 keeper.bodies)) }
+        ensures refused { IfErr result (λ fault. fault ≢ KeepFault.Broken) }
+    {
+        let mut connection = connection;
+        match found(alloc, &mut connection) {
+            Ok(bodies) => Ok(SqlKeeper {
+                alloc,
+                connection,
+                bodies,
+                faults: 0,
+                is_broken: false,
+            }),
+            Err(fault) => Err(fault),
+        }
+    }
+
+    /// Counts a failure, which breaks the keeper.
+    fn fail(&mut self, fault: KeepFault) -> KeepFault
+        ensures fault { result ≡ fault }
+        ensures fails { Fails fault self.old self.new }
+        ensures count { NeverFalls self.old.faults self.new.faults }
+    {
+        match fault {
+            KeepFault::Failed => {
+                self.faults = self.faults.saturating_add(1);
+                self.is_broken = true;
+            }
+            KeepFault::Broken | KeepFault::Memory => {}
+        }
+        fault
+    }
+}
+
+impl<S: Alter + Drop> Keeper for SqlKeeper<S> {
+    ghost bodies = { λ keeper. Some keeper.bodies };
+
+    ghost faults = { λ keeper. keeper.faults };
+
+    ghost is_broken = { λ keeper. keeper.is_broken };
+
+    fn faults(&self) -> u64 {
+        self.faults
+    }
+
+    fn broken(&self) -> bool {
+        self.is_broken
+    }
+
+    fn len(&self) -> u64 {
+        self.bodies.len() as u64
+    }
+
+    fn read(&mut self, alloc: Global, k: u64) -> Result<Vec<u8>, KeepFault> {
+        if self.is_broken {
+            return Err(KeepFault::Broken);
+        }
+        match self.bodies.get(k as usize) {
+            Some(body) => Ok(body.to_vec(alloc)?),
+            None => unreachable!(),
+        }
+    }
+
+    fn append(&mut self, body: &[u8]) -> Result<(), KeepFault>
+        ensures stored { HasCleanDisk (state S.Store self.new.connection) → OnOk result
+            (Runs insert_text (row_of (length self.old.bodies) body.now)
+            (state S.Store self.old.connection) (state S.Store self.new.connection)) }
+        ensures list { Leaves result self.old.bodies (self.old.bodies ++ body.now ∷ []) (Some self.new.bodies) }
+        ensures broken { TellsBroken result self.old.is_broken self.new.is_broken }
+        ensures count { NeverFalls self.old.faults self.new.faults }
+        ensures failed { FailsByCount result self.old.faults self.new.faults }
+    {
+        if self.is_broken {
+            return Err(KeepFault::Broken);
+        }
+        match put(self.alloc, &mut self.connection, &mut self.bodies, body) {
+            Ok(()) => Ok(()),
+            Err(fault) => Err(self.fail(fault)),
+        }
+    }
+
+    fn replace(&mut self, list: &Bodies) -> Result<(), KeepFault> {
+        if self.is_broken {
+            return Err(KeepFault::Broken);
+        }
+        match put_all(self.alloc, &mut self.connection, &mut self.bodies, list) {
+            Ok(()) => Ok(()),
+            Err(fault) => Err(self.fail(fault)),
+        }
+    }
+
+    fn reload(&mut self) -> Result<(), KeepFault>
+        ensures read { HasCleanDisk (state S.Store self.new.connection) → OnOk result
+            (Lists S.Store self.new.connection (rows_from 0 self.new.bodies)) }
+        ensures list { Some self.new.bodies ≡ Some self.old.bodies }
+        ensures mended { TellsMended result self.old.is_broken self.new.is_broken }
+        ensures count { NeverFalls self.old.faults self.new.faults }
+        ensures failed { FailsByCount result self.old.faults self.new.faults }
+    {
+        match check(self.alloc, &mut self.connection, &self.bodies) {
+            Ok(()) => {
+                self.is_broken = false;
+                Ok(())
+            }
+            Err(fault) => Err(self.fail(fault)),
+        }
+    }
+}
