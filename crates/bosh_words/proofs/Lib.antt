@@ -1,0 +1,3 @@
+pub mod GrammarLemmas
+pub mod TextLemmas
+pub mod WordLemmas
