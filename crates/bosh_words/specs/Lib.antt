@@ -1,2 +1,4 @@
 pub mod Grammar
+pub mod Kinds
+pub mod Owners
 pub mod Words

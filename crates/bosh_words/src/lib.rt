@@ -2,13 +2,27 @@
 #![tactic(auto)]
 
 mod fault;
+mod inst;
+mod method;
+mod name;
+mod number;
+mod owner;
+mod path;
 mod choice;
 mod place;
 mod text;
+mod version;
 mod word;
 
 pub use fault::LineFault;
+pub use inst::{InstWord, Member};
+pub use method::METHODS;
+pub use name::{NameWord, name_of};
+pub use number::Number;
+pub use owner::{DiskWord, OwnerWord, Whose};
+pub use path::Path;
 pub use choice::{Choice, end, has, options};
 pub use place::{Place, take};
 pub use text::is_text;
+pub use version::{VersionOption, VersionWord};
 pub use word::{Rest, Word};
