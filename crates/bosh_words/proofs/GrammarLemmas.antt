@@ -1,14 +1,14 @@
 -- The fault of a line, word by word.
-use Rattle.std.proofs.Common.{◌≡◌, ℕ, suc, ◌+◌, ◌<◌, ◌&&◌, ◌||◌, Bool, true, false, not, cond, List, [], ◌∷◌, length, drop, Option, Some, None, Result, Ok, Err, refl, ap, sym, ◌∙◌, arith, nat_lt}
+use Rattle.std.proofs.Common.{◌≡◌, ℕ, suc, ◌+◌, ◌<◌, ◌&&◌, ◌||◌, Bool, true, false, not, cond, List, [], ◌∷◌, length, drop, Option, Some, None, Result, Ok, Err, refl, ap, subst, sym, ◌∙◌, arith, nat_lt}
 use Rattle.std.specs.Prelude.{IfErr, IsErrAnd, count_by, find, map, is_some, option_and_then}
 use Rattle.std.specs.List.{list_any}
 use Rattle.bosh_words.specs.declared.fault.LineFault.{LineFault}
-use Rattle.bosh_words.specs.declared.fault.LineFault.TheVariants.{BadArgument, Missing, Extra}
+use Rattle.bosh_words.specs.declared.fault.LineFault.TheVariants.{UnknownCommand, BadArgument, Missing, Extra, TooLarge, BadTogether, Memory}
 use Rattle.std.specs.Option.{option_map}
 use Rattle.std.specs.Str.{bytes_eq, is_utf8}
 use Rattle.bosh_words.specs.declared.choice.Choice as code
 use Rattle.bosh_words.specs.Words.{Word}
-use Rattle.bosh_words.specs.Grammar.{Choice, Role, Stands, Names, Spare, fault_by, fault_of, faulty, choice_of, is_open, is_over, is_repeated, is_repeated_in, is_spare, named, naming, place_fault, roles, roles_after, suits, takes_value}
+use Rattle.bosh_words.specs.Grammar.{Choice, IsRefused, Role, Stands, Names, Spare, fault_by, fault_of, faulty, choice_of, is_open, is_over, is_repeated, is_repeated_in, is_spare, named, naming, place_fault, roles, roles_after, suits, takes_value}
 
 abbrev pub Fits : Type 0
 Fits = List ℕ → Bool
@@ -207,3 +207,45 @@ told (Ok value) fault at is refused = tt
 told (Err f) fault at is refused = refused ∙ ap (λ (x : LineFault). Some x) (sym is)
 
 pub ruleset leaves = (left_start, left_end, left_spare, left_bytes, left_flag, left_value, left_unfit)
+
+-- words are refused with their fault, which is never want of memory
+never_memory : (at : Option ℕ) (short over : Bool) → fault_by at short over ≡ Some Memory → ⊥
+never_memory (Some place) short over is = cc
+never_memory None true over is = cc
+never_memory None false true is = cc
+never_memory None false false is = cc
+
+pub refused : (places : List Fits) (options : List Choice) (words : List Word) (fault : LineFault) → fault_of places options words ≡ Some fault → IsRefused places options words fault
+unfolding fault_of
+refused places options words Memory is = absurd (never_memory _ _ _ is)
+refused places options words UnknownCommand is = is
+refused places options words (BadArgument place) is = is
+refused places options words Missing is = is
+refused places options words Extra is = is
+refused places options words TooLarge is = is
+refused places options words BadTogether is = is
+
+pub out_of_memory : (places : List Fits) (options : List Choice) (words : List Word) (fault : LineFault) → fault ≡ Memory → fault_of places options words ≡ None → IsRefused places options words fault
+out_of_memory places options words fault is none = subst (IsRefused places options words) (sym is) none
+
+-- the words after the first are refused, so all are
+pub refused_after : (place : Fits) (places : List Fits) (options : List Choice) (ws words : List Word) (fault : LineFault) → fault_of (place ∷ places) options ws ≡ fault_of places options words → IsRefused places options words fault → IsRefused (place ∷ places) options ws fault
+refused_after place places options ws words Memory same is = same ∙ is
+refused_after place places options ws words UnknownCommand same is = same ∙ is
+refused_after place places options ws words (BadArgument at) same is = same ∙ is
+refused_after place places options ws words Missing same is = same ∙ is
+refused_after place places options ws words Extra same is = same ∙ is
+refused_after place places options ws words TooLarge same is = same ∙ is
+refused_after place places options ws words BadTogether same is = same ∙ is
+
+pub refused_placed : (place : Fits) (places : List Fits) (options : List Choice) (ws : List Word) (fault : LineFault) → place_fault place ws ≡ Some fault → IsRefused (place ∷ places) options ws fault
+refused_placed place places options ws fault is = refused (place ∷ places) options ws fault (fault_placed place places options ws fault is)
+
+pub refused_taken : (place : Fits) (places : List Fits) (options : List Choice) (ws : List Word) (word : Word) (words : List Word) (fault : LineFault) → ws ≡ word ∷ words → place word.text ≡ true → IsRefused places options words fault → IsRefused (place ∷ places) options ws fault
+refused_taken place places options ws word words fault is suits after = refused_after place places options ws words fault (fault_taken place places options ws word words is suits) after
+
+pub told_refused : {T : Type 0} (result : Result T LineFault) (fault : LineFault) (places : List Fits) (words : List Word) → IsErrAnd result (λ f. f ≡ fault) → IsRefused places [] words fault → IfErr result (IsRefused places [] words)
+told_refused (Ok value) fault places words is refused = tt
+told_refused (Err f) fault places words is refused = subst (IsRefused places [] words) (sym is) refused
+
+pub ruleset reading = (fault_taken, refused, out_of_memory, refused_placed, refused_taken)

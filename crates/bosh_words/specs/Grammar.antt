@@ -3,7 +3,7 @@ use Rattle.std.specs.Prelude.{◌≡◌, ℕ, ◌&&◌, ◌||◌, nat_lt, not, B
 use Rattle.std.specs.List.{list_any}
 use Rattle.std.specs.Str.{bytes_eq, is_utf8}
 use Rattle.bosh_words.specs.declared.fault.LineFault.{LineFault}
-use Rattle.bosh_words.specs.declared.fault.LineFault.TheVariants.{BadArgument, Missing, Extra}
+use Rattle.bosh_words.specs.declared.fault.LineFault.TheVariants.{BadArgument, Missing, Extra, Memory}
 use Rattle.bosh_words.specs.declared.choice.Choice as code
 use Rattle.bosh_words.specs.Words.{Word}
 
@@ -121,3 +121,8 @@ count text words = count_by (λ word. bytes_eq word.text text) words
 -- an option of a table of code is named more than once that may not be
 abbrev pub is_repeated_in : List Word → code.Choice → Bool
 is_repeated_in words choice = not choice.repeats && nat_lt 1 (count choice.name.now words)
+
+-- Why words are refused. Memory may be short for words without a fault.
+abbrev pub IsRefused : List (List ℕ → Bool) → List Choice → List Word → LineFault → Type 0
+IsRefused places options words Memory = fault_of places options words ≡ None
+IsRefused places options words fault = fault_of places options words ≡ Some fault

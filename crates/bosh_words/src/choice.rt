@@ -20,6 +20,7 @@ pub struct Choice<'a> {
 #[tactic(auto, using(crate::proofs::GrammarLemmas::leaves))]
 pub fn end(rest: Rest<'_>) -> Result<(), LineFault>
     ensures ok { IfOk result (λ _. fault_of [] [] (words_in rest.entry) ≡ None) }
+    ensures none_left { IfOk result (λ _. words_in rest.entry ≡ []) }
     ensures refused { IfErr result (λ fault. fault_of [] [] (words_in rest.entry) ≡ Some fault) }
 {
     let mut spare = false;
