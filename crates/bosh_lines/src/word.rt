@@ -48,40 +48,48 @@ pub(crate) struct All;
 fn fate_of(text: &[u8]) -> Option<Fate>
     ensures { result ≡ fate_of text.now }
 {
-    match text {
-        b"lose" => Some(Fate::Lose),
-        b"late" => Some(Fate::Late),
-        _ => None,
+    if text == b"lose".as_slice() {
+        Some(Fate::Lose)
+    } else if text == b"late".as_slice() {
+        Some(Fate::Late)
+    } else {
+        None
     }
 }
 
 fn when_of(text: &[u8]) -> Option<When>
     ensures { result ≡ when_of text.now }
 {
-    match text {
-        b"before" => Some(When::Before),
-        b"after" => Some(When::After),
-        _ => None,
+    if text == b"before".as_slice() {
+        Some(When::Before)
+    } else if text == b"after".as_slice() {
+        Some(When::After)
+    } else {
+        None
     }
 }
 
 fn others_of(text: &[u8]) -> Option<Others>
     ensures { result ≡ others_of text.now }
 {
-    match text {
-        b"none" => Some(Others::Undone),
-        b"all" => Some(Others::Done),
-        _ => None,
+    if text == b"none".as_slice() {
+        Some(Others::Undone)
+    } else if text == b"all".as_slice() {
+        Some(Others::Done)
+    } else {
+        None
     }
 }
 
 fn lost_of(text: &[u8]) -> Option<Lost>
     ensures { result ≡ lost_of text.now }
 {
-    match text {
-        b"vm" => Some(Lost::Vm),
-        b"agent" => Some(Lost::Agent),
-        _ => None,
+    if text == b"vm".as_slice() {
+        Some(Lost::Vm)
+    } else if text == b"agent".as_slice() {
+        Some(Lost::Agent)
+    } else {
+        None
     }
 }
 
