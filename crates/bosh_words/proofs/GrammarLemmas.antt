@@ -244,6 +244,28 @@ refused_placed place places options ws fault is = refused (place ∷ places) opt
 pub refused_taken : (place : Fits) (places : List Fits) (options : List Choice) (ws : List Word) (word : Word) (words : List Word) (fault : LineFault) → ws ≡ word ∷ words → place word.text ≡ true → IsRefused places options words fault → IsRefused (place ∷ places) options ws fault
 refused_taken place places options ws word words fault is suits after = refused_after place places options ws words fault (fault_taken place places options ws word words is suits) after
 
+spare_never : (at : Option ℕ) (short : Bool) → fault_by at short true ≡ None → ⊥
+spare_never (Some place) short is = cc
+spare_never None true is = cc
+spare_never None false is = cc
+
+follows_by : (choice : Choice) (fits : Fits) (ws more : List Word) (word : Word) (fault : LineFault) (names utf8 : Bool) → choice.value ≡ Some fits → fault_of [] (choice ∷ []) ws ≡ None → ws ≡ word ∷ more → place_fault fits more ≡ Some fault → bytes_eq word.text choice.name ≡ names → is_utf8 word.text ≡ utf8 → ⊥
+follows_by choice fits ws more word fault true utf8 takes none is lacks names text =
+    let named_it : named (choice ∷ []) word.text ≡ Some choice = rw names refl in
+    let found = left_start (choice ∷ []) ws ∙ left_unfit false (choice ∷ []) ws ws more word choice fits fault is named_it takes lacks in
+    cc
+follows_by choice fits ws more word fault false true takes none is lacks names text =
+    let named_none : named (choice ∷ []) word.text ≡ None = rw names refl in
+    spare_never _ _ (sym (left_start (choice ∷ []) ws ∙ left_spare false (choice ∷ []) ws ws more word is named_none text) ∙ none)
+follows_by choice fits ws more word fault false false takes none is lacks names text =
+    let named_none : named (choice ∷ []) word.text ≡ None = rw names refl in
+    let found = left_start (choice ∷ []) ws ∙ left_bytes false (choice ∷ []) ws ws more word is named_none text in
+    cc
+
+-- where the one option takes a value, and words have no fault, a fitting word follows the first
+pub value_follows : (choice : Choice) (fits : Fits) (ws more : List Word) (word : Word) (fault : LineFault) → choice.value ≡ Some fits → fault_of [] (choice ∷ []) ws ≡ None → ws ≡ word ∷ more → place_fault fits more ≡ Some fault → ⊥
+value_follows choice fits ws more word fault takes none is lacks = follows_by choice fits ws more word fault _ _ takes none is lacks refl refl
+
 pub told_refused : {T : Type 0} (result : Result T LineFault) (fault : LineFault) (places : List Fits) (words : List Word) → IsErrAnd result (λ f. f ≡ fault) → IsRefused places [] words fault → IfErr result (IsRefused places [] words)
 told_refused (Ok value) fault places words is refused = tt
 told_refused (Err f) fault places words is refused = subst (IsRefused places [] words) (sym is) refused

@@ -18,7 +18,7 @@ mod word;
 pub use fault::LineFault;
 pub use inst::{InstWord, Member};
 pub use method::METHODS;
-pub use name::{NameWord, name_of};
+pub use name::{NameWord, is_name, name_of};
 pub use number::Number;
 pub use owner::{DiskWord, OwnerWord, Whose};
 pub use path::Path;

@@ -23,7 +23,8 @@ fn are_name_bytes(bytes: &[u8]) -> bool
     bytes.iter().all(|byte| is_name_byte(*byte))
 }
 
-pub(crate) fn is_name(bytes: &[u8]) -> bool
+/// Whether a word is a name.
+pub fn is_name(bytes: &[u8]) -> bool
     ensures { result ≡ is_name bytes.now }
 {
     match bytes {
@@ -35,12 +36,12 @@ pub(crate) fn is_name(bytes: &[u8]) -> bool
 }
 
 impl<'a> Place<'a> for NameWord<'a> {
-    ghost use Rattle.std.specs.Prelude.{◌≡◌};
+    ghost use Rattle.std.specs.Prelude.{◌≡◌, true};
     ghost use Rattle.bosh_base.specs.Name.{is_name};
 
     ghost fits = { is_name };
 
-    ghost reads = { λ text name. name.0.now ≡ text };
+    ghost reads = { λ text name. (name.0.now ≡ text) × (is_name name.0.now ≡ true) };
 
     fn read(text: &'a [u8]) -> Option<Self> {
         if is_name(text) {

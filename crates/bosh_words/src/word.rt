@@ -24,13 +24,12 @@ fn next_space(bytes: &[u8]) -> Option<usize>
 
 impl<'a> Rest<'a> {
     ghost use Rattle.std.specs.Prelude.{◌≡◌, ◌+◌, ◌≤◌, [], ◌∷◌, MatchOption, length, take, drop};
-    ghost use Rattle.bosh_words.specs.Words.{begins_word, word_of, words_in};
+    ghost use Rattle.bosh_words.specs.Words.{begins_word, word_of, words, words_in};
 
     /// The whole of a line.
     pub fn of(line: &'a [u8]) -> Rest<'a>
         requires { length line.now ≤ 1048576 }
-        ensures bytes { result.bytes.now ≡ line.now }
-        ensures place { result.place ≡ 0 }
+        ensures { words_in result ≡ words 0 line.now }
     {
         Rest {
             bytes: line,
