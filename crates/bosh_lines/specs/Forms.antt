@@ -217,10 +217,10 @@ deploy_command dep (path ∷ options) =
 
 abbrev pub deploy_form : List ℕ → Form
 deploy_form dep = record {
-    places = is_path ∷ [];
-    options = record { name = codes "-v"; value = Some (λ text. is_some (variable_of text)); repeats = true } ∷ flag (codes "--recreate") ∷ flag (codes "--fix") ∷ [];
-    command = deploy_command dep
-  }
+  places = is_path ∷ [];
+  options = record { name = codes "-v"; value = Some (λ text. is_some (variable_of text)); repeats = true } ∷ flag (codes "--recreate") ∷ flag (codes "--fix") ∷ [];
+  command = deploy_command dep;
+}
 
 -- `-d DEP instances`, `-d DEP delete-deployment`
 abbrev pub instances_form : List ℕ → Form
@@ -261,7 +261,7 @@ cloud_check_command dep (resolve ∷ member ∷ words) = option_map (λ m. comma
 
 abbrev pub cloud_check_form : List ℕ → Form
 cloud_check_form dep = record {
-    places = [];
-    options = record { name = codes "--resolve"; value = Some is_member; repeats = false } ∷ [];
-    command = cloud_check_command dep
-  }
+  places = [];
+  options = record { name = codes "--resolve"; value = Some is_member; repeats = false } ∷ [];
+  command = cloud_check_command dep;
+}

@@ -58,12 +58,16 @@ form_on dep action.Stop = stop_form dep
 form_on dep action.DeleteDeployment = delete_deployment_form dep
 form_on dep action.CloudCheck = cloud_check_form dep
 
--- The words of a line that writes: the first, and as the second all that follows the one space after it, as it stands.
+-- all that follows the one space after a word of a line, as it stands
+abbrev pub written_text : List ℕ → Word → List Word
+written_text line word =
+    let end = word.place + length word.text in
+    if nat_lt end (length line) then record { place = end + 1; text = drop (end + 1) line } ∷ [] else []
+
+-- The words of a line that writes: the first, and as the second what follows the one space after it.
 abbrev pub written : List ℕ → List Word → List Word
 written line [] = []
-written line (inst ∷ words) =
-    let end = inst.place + length inst.text in
-    inst ∷ (if nat_lt end (length line) then record { place = end + 1; text = drop (end + 1) line } ∷ [] else [])
+written line (inst ∷ words) = inst ∷ written_text line inst
 
 -- the words that follow a verb
 abbrev pub words_of : Verb → List ℕ → List Word → List Word

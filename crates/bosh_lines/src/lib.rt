@@ -4,6 +4,7 @@
 mod call;
 mod command;
 mod deployment;
+mod line;
 mod site;
 mod variable;
 mod verb;
@@ -11,5 +12,6 @@ mod word;
 
 pub use bosh_words::LineFault;
 pub use command::{Command, Deploy, StopCall};
+pub use line::parse_line;
 pub use variable::Variable;
 pub use word::{Lost, Others, When};

@@ -8,7 +8,10 @@ ghost use Rattle.bosh_words.specs.declared.fault.LineFault.TheVariants.{Memory};
 use crate::Command;
 use crate::word::{All, Orphaned};
 use bosh_base::{Stemcell, Text};
-use bosh_words::{DiskWord, LineFault, NameWord, Number, Path, Rest, VersionOption, VersionWord, end, name_of, one, two};
+use bosh_words::{
+    DiskWord, LineFault, NameWord, Number, Path, Rest, VersionOption, VersionWord, end, name_of,
+    one, two,
+};
 use std::alloc::Global;
 
 // The greatest number that a task may be asked for by.

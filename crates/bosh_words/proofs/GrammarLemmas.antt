@@ -271,3 +271,8 @@ told_refused (Ok value) fault places words is refused = tt
 told_refused (Err f) fault places words is refused = subst (IsRefused places [] words) (sym is) refused
 
 pub ruleset reading = (fault_taken, refused, out_of_memory, refused_placed, refused_taken)
+
+-- no words of no places have no fault
+pub none_left : fault_of [] [] [] ≡ None
+unfolding fault_of
+none_left = refl

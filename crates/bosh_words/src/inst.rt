@@ -4,8 +4,8 @@ ghost use Rattle.bosh_base.specs.Name.{is_name};
 ghost use Rattle.bosh_words.specs.Kinds.{halves, index_of, inst_from, inst_of, member_of, named_half};
 ghost use Rattle.bosh_words.specs.declared.fault.LineFault.TheVariants.{Memory};
 
-use crate::number::number_in;
 use crate::name::{is_name, name_of};
+use crate::number::number_in;
 use crate::{LineFault, Place};
 use bosh_base::Inst;
 use std::alloc::Global;

@@ -37,6 +37,10 @@ impl<'a> Place<'a> for Path<'a> {
     ghost reads = { λ text path. path.0.now ≡ text };
 
     fn read(text: &'a [u8]) -> Option<Self> {
-        if is_path(text) { Some(Path(text)) } else { None }
+        if is_path(text) {
+            Some(Path(text))
+        } else {
+            None
+        }
     }
 }

@@ -15,14 +15,14 @@ returns-clause-ok g c =
     let taken = c.in_ok-a.ensures.ok in
     let after = c.in_ok-b.ensures.ok in
     record {
-        one = taken.word;
-        two = after.one;
-        three = after.two;
-        four = after.three;
-        all = taken.first ∙ ap (λ (ws : List Word). taken.word ∷ ws) after.all;
-        means_one = taken.means;
-        means_two = after.means_one;
-        means_three = after.means_two;
-        means_four = after.means_three;
-        well = fault_taken g.A.Place.fits (g.B.Place.fits ∷ g.C.Place.fits ∷ g.D.Place.fits ∷ []) [] (words_in c.args.rest) taken.word (words_in c.in_ok-a.left) taken.first taken.suits ∙ after.well
+      one = taken.word;
+      two = after.one;
+      three = after.two;
+      four = after.three;
+      all = taken.first ∙ ap (λ (ws : List Word). taken.word ∷ ws) after.all;
+      means_one = taken.means;
+      means_two = after.means_one;
+      means_three = after.means_two;
+      means_four = after.means_three;
+      well = fault_taken g.A.Place.fits (g.B.Place.fits ∷ g.C.Place.fits ∷ g.D.Place.fits ∷ []) [] (words_in c.args.rest) taken.word (words_in c.in_ok-a.left) taken.first taken.suits ∙ after.well;
     }
