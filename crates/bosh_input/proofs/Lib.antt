@@ -1,0 +1,10 @@
+pub mod AskedLemmas
+pub mod BlockLemmas
+pub mod CommandLemmas
+pub mod FaultLemmas
+pub mod FrontLemmas
+pub mod LineLemmas
+pub mod NextLemmas
+pub mod PassedLemmas
+pub mod ReadsLemmas
+pub mod SeenLemmas
