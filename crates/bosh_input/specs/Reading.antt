@@ -145,13 +145,21 @@ pub record IsBlock (front : Front) (from to : ℕ) (block : List ℕ) : Type 0 w
   pub after : (whole : Bool) (input : List ℕ) → IsFrontOf front whole input → commands_of whole true (lines (drop from input)) ≡ commands whole (drop to input)
   pub ends : (whole : Bool) (input : List ℕ) → IsFrontOf front whole input → (whole || block_ends (lines (drop from input))) ≡ true
 
+-- a block was given, where there is one
+abbrev pub IsBlockIf : Bool → Front → ℕ → ℕ → List ℕ → Type 0
+IsBlockIf has_block front from to block = MatchBool has_block (IsBlock front from to block) ((block ≡ []) × (from ≡ to))
+
 -- the block of a command was given, where it has one
 abbrev pub IsBlockOf : Result Command LineFault → Front → ℕ → ℕ → List ℕ → Type 0
-IsBlockOf asked front from to block = MatchBool (keeps_file asked) (IsBlock front from to block) ((block ≡ []) × (from ≡ to))
+IsBlockOf asked front from to block = IsBlockIf (keeps_file asked) front from to block
+
+-- there is a block, and it has not ended
+abbrev pub IsOpenBlockIf : Bool → Front → ℕ → Type 0
+IsOpenBlockIf has_block front from = (has_block ≡ true) × (block_ends (lines (drop from front.bytes)) ≡ false)
 
 -- the block of a command has not ended
 abbrev pub IsOpenBlock : Result Command LineFault → Front → ℕ → Type 0
-IsOpenBlock asked front from = (keeps_file asked ≡ true) × (block_ends (lines (drop from front.bytes)) ≡ false)
+IsOpenBlock asked front from = IsOpenBlockIf (keeps_file asked) front from
 
 -- The next command was given: whatever follows, it is the first of the commands that were not given, and the others are
 -- those of the bytes that are left.

@@ -4,7 +4,7 @@ ghost use Rattle.std.specs.Vec.{vec_capacity};
 ghost use Rattle.bosh_lines.specs.Meaning.{asked_by};
 ghost use Rattle.bosh_input.specs.Commands.{block_ends, keeps_file};
 ghost use Rattle.bosh_input.specs.Lines.{block_text, has_end, lines};
-ghost use Rattle.bosh_input.specs.Reading.{FailsByCount, IsAtCommand, IsAtEnd, IsBlock, IsBlockOf, IsByteAt, IsCommandAt, IsCommandLine, IsEvent, IsLine, IsNext, IsOpenBlock, IsOpenLine, IsPassed, IsSeen, NoneBegun, NoneSettled, Reads, StopsWhere};
+ghost use Rattle.bosh_input.specs.Reading.{FailsByCount, IsAtCommand, IsAtEnd, IsBlock, IsBlockIf, IsByteAt, IsCommandAt, IsCommandLine, IsEvent, IsLine, IsNext, IsOpenBlockIf, IsOpenLine, IsPassed, IsSeen, NoneBegun, NoneSettled, Reads, StopsWhere};
 
 use crate::line::{line_feed, text_of};
 use crate::{InputFault, Request};
@@ -84,9 +84,13 @@ impl Reader {
             return Err(InputFault::Limit);
         }
         let asked = self.read_command(source)?;
-        let request = self.with_block(asked, source)?;
+        let has_block = keeps_file(&asked);
+        let (command, block) = self.with_block(asked, has_block, source)?;
         self.given += 1;
-        Ok(Some(request))
+        Ok(Some(Request {
+            asked: command,
+            block,
+        }))
     }
 
     // Goes to the next line that is a command, or to the end of the input.
@@ -152,25 +156,25 @@ impl Reader {
         Ok(asked)
     }
 
-    // The command, with its block where it has one.
-    fn with_block<S: Source>(
+    // A value, with the block that begins here where there is one.
+    fn with_block<T: Drop, S: Source>(
         &mut self,
-        asked: Result<Command, LineFault>,
+        value: T,
+        has_block: bool,
         source: &mut S,
-    ) -> Result<Request, InputFault>
+    ) -> Result<(T, Text), InputFault>
         ensures reads { Reads S.left S.faults source.old source.new self.old.front self.new.front }
         ensures failed { FailsByCount result (S.faults source.old) (S.faults source.new) }
         ensures same { self.new.given ≡ self.old.given }
-        ensures asked { IfOk result (λ request. request.asked ≡ asked) }
-        ensures block { IfOk result (λ request. IsBlockOf asked self.new.front self.old.at self.new.at request.block) }
-        ensures stopped { IfErr result (λ fault. StopsWhere fault self.new.front (IsOpenBlock asked self.new.front self.old.at)) }
+        ensures value { IfOk result (λ it. it.0 ≡ value) }
+        ensures block { IfOk result (λ it. IsBlockIf has_block self.new.front self.old.at self.new.at it.1) }
+        ensures stopped { IfErr result (λ fault. StopsWhere fault self.new.front (IsOpenBlockIf has_block self.new.front self.old.at)) }
     {
-        if !keeps_file(&asked) {
-            let block = Text::new(self.alloc);
-            return Ok(Request { asked, block });
+        if !has_block {
+            return Ok((value, Text::new(self.alloc)));
         }
         let block = self.read_block(source)?;
-        Ok(Request { asked, block })
+        Ok((value, block))
     }
 
     // The block that begins here.
