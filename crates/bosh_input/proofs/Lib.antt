@@ -1,3 +1,4 @@
+pub mod AskedLemmas
 pub mod BlockLemmas
 pub mod CommandLemmas
 pub mod FaultLemmas

@@ -1,25 +1,24 @@
 -- The commands of an input (this project's profile).
-use Rattle.std.specs.Prelude.{ℕ, Bool, true, false, not, ◌&&◌, ◌||◌, List, [], ◌∷◌, ◌++◌, Option, Some, None, if◌then◌else◌}
-use Rattle.bosh_lines.specs.Command.{command_of}
+use Rattle.std.specs.Prelude.{ℕ, Bool, true, false, not, ◌&&◌, ◌||◌, List, [], ◌∷◌, ◌++◌, Result, Ok, Err, if◌then◌else◌}
+use Rattle.bosh_words.specs.declared.fault.LineFault.{LineFault}
+use Rattle.bosh_lines.specs.Meaning.{asked_by}
 use Rattle.bosh_lines.specs.declared.command.Command.{Command}
-use Rattle.bosh_lines.specs.declared.command.Command.TheVariants.{File, Deploy, Cloud}
+use Rattle.bosh_lines.specs.declared.command.Command.TheVariants.{File}
 use Rattle.bosh_input.specs.Lines.{block_text, has_end, is_block_line, is_no_command, lines, text_of}
 use Rattle.bosh_input.specs.declared.request.Request.{Request}
 
 -- a file is to be kept
-abbrev pub keeps_file : Option Command → Bool
-keeps_file None = false
-keeps_file (Some (File path)) = true
-keeps_file (Some (Deploy dep path vars)) = false
-keeps_file (Some Cloud) = false
+abbrev pub keeps_file : Result Command LineFault → Bool
+keeps_file (Ok (File path)) = true
+keeps_file other = false
 
--- what a line asks for
-abbrev pub asked_by : List ℕ → Option Command
-asked_by line = command_of (text_of line)
+-- what a line of an input asks for
+abbrev pub asked_in : List ℕ → Result Command LineFault
+asked_in line = asked_by (text_of line)
 
 -- the line has a block
 abbrev pub has_block : List ℕ → Bool
-has_block line = keeps_file (asked_by line)
+has_block line = keeps_file (asked_in line)
 
 -- the block that lines begin with: the lines up to one that does not begin with `|`
 abbrev pub block_of : List (List ℕ) → List ℕ
@@ -33,7 +32,7 @@ block_ends (line ∷ more) = if is_block_line line then block_ends more else tru
 
 -- the command of a line, by the lines after it
 abbrev pub request_of : List ℕ → List (List ℕ) → Request
-request_of line after = record { asked = asked_by line; block = if has_block line then block_of after else [] }
+request_of line after = record { asked = asked_in line; block = if has_block line then block_of after else [] }
 
 -- more bytes cannot change it: its line has ended, and its block where it has one
 abbrev pub is_settled : List ℕ → List (List ℕ) → Bool

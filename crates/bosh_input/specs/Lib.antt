@@ -1,3 +1,4 @@
 pub mod Commands
+pub mod Ended
 pub mod Lines
 pub mod Reading

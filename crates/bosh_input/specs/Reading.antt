@@ -1,9 +1,10 @@
 -- What is read of an input for its next command.
 use Rattle.std.specs.Prelude.{◌≡◌, ◌≢◌, ◌⊎◌, ℕ, ◌+◌, ◌-◌, ◌<◌, ◌≤◌, Bool, true, false, ◌||◌, List, [], ◌∷◌, ◌++◌, drop, length, slice_index, take, Option, Some, None, Result, Err}
 use Rattle.std.specs.Bool.{MatchBool}
+use Rattle.bosh_words.specs.declared.fault.LineFault.{LineFault}
 use Rattle.bosh_lines.specs.declared.command.Command.{Command}
 use Rattle.bosh_ports.specs.Faults.{Rose}
-use Rattle.bosh_input.specs.Commands.{asked_by, block_ends, block_of, commands, commands_of, keeps_file}
+use Rattle.bosh_input.specs.Commands.{asked_in, block_ends, block_of, commands, commands_of, keeps_file}
 use Rattle.bosh_input.specs.Lines.{has_end, is_no_command, lines}
 use Rattle.bosh_input.specs.declared.fault.InputFault.{InputFault}
 use Rattle.bosh_input.specs.declared.fault.InputFault.TheVariants.{Source, Limit, Memory}
@@ -134,9 +135,9 @@ abbrev pub HasBegun : Front → ℕ → Type 0
 HasBegun front from = (input : List ℕ) → IsFrontOf front true input → commands true (drop from input) ≢ []
 
 -- the line of a command stands between two places
-pub record IsCommandLine (front : Front) (from to : ℕ) (asked : Option Command) : Type 0 where
+pub record IsCommandLine (front : Front) (from to : ℕ) (asked : Result Command LineFault) : Type 0 where
   pub line : IsLine front from to
-  pub asks : asked ≡ asked_by (part front from to)
+  pub asks : asked ≡ asked_in (part front from to)
 
 -- a block stands between two places, and ends there, whatever follows
 pub record IsBlock (front : Front) (from to : ℕ) (block : List ℕ) : Type 0 where
@@ -144,13 +145,21 @@ pub record IsBlock (front : Front) (from to : ℕ) (block : List ℕ) : Type 0 w
   pub after : (whole : Bool) (input : List ℕ) → IsFrontOf front whole input → commands_of whole true (lines (drop from input)) ≡ commands whole (drop to input)
   pub ends : (whole : Bool) (input : List ℕ) → IsFrontOf front whole input → (whole || block_ends (lines (drop from input))) ≡ true
 
+-- a block was given, where there is one
+abbrev pub IsBlockIf : Bool → Front → ℕ → ℕ → List ℕ → Type 0
+IsBlockIf has_block front from to block = MatchBool has_block (IsBlock front from to block) ((block ≡ []) × (from ≡ to))
+
 -- the block of a command was given, where it has one
-abbrev pub IsBlockOf : Option Command → Front → ℕ → ℕ → List ℕ → Type 0
-IsBlockOf asked front from to block = MatchBool (keeps_file asked) (IsBlock front from to block) ((block ≡ []) × (from ≡ to))
+abbrev pub IsBlockOf : Result Command LineFault → Front → ℕ → ℕ → List ℕ → Type 0
+IsBlockOf asked front from to block = IsBlockIf (keeps_file asked) front from to block
+
+-- there is a block, and it has not ended
+abbrev pub IsOpenBlockIf : Bool → Front → ℕ → Type 0
+IsOpenBlockIf has_block front from = (has_block ≡ true) × (block_ends (lines (drop from front.bytes)) ≡ false)
 
 -- the block of a command has not ended
-abbrev pub IsOpenBlock : Option Command → Front → ℕ → Type 0
-IsOpenBlock asked front from = (keeps_file asked ≡ true) × (block_ends (lines (drop from front.bytes)) ≡ false)
+abbrev pub IsOpenBlock : Result Command LineFault → Front → ℕ → Type 0
+IsOpenBlock asked front from = IsOpenBlockIf (keeps_file asked) front from
 
 -- The next command was given: whatever follows, it is the first of the commands that were not given, and the others are
 -- those of the bytes that are left.

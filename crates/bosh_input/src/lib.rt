@@ -4,6 +4,7 @@
 mod fault;
 mod input;
 mod line;
+mod reader;
 mod request;
 
 pub use fault::InputFault;

@@ -1,3 +1,1 @@
-pub mod TextLemmas
-pub mod VariableLemmas
-pub mod WordLemmas
+pub mod LineLemmas

@@ -1,5 +1,7 @@
-pub mod Command
-pub mod Fault
-pub mod Path
+pub mod Forms
+pub mod Lines
+pub mod Meaning
+pub mod Tasks
 pub mod Variable
+pub mod Verbs
 pub mod Words

@@ -1,16 +1,9 @@
-ghost use Rattle.std.specs.Prelude.{◌≡◌, IfErr, IfOk};
-ghost use Rattle.std.specs.Option.{option_copied};
-ghost use Rattle.bosh_lines.specs.Command.{cloud_of, command_of, deploy_of, file_of, of_deployment, path_of};
-ghost use Rattle.bosh_lines.specs.Fault.{Reads};
-ghost use Rattle.bosh_lines.specs.Words.{words};
-ghost use Rattle.bosh_lines.specs.declared.fault.LineFault.TheVariants.{Memory};
+ghost use Rattle.std.specs.Prelude.{◌≡◌};
+ghost use Rattle.bosh_lines.specs.Tasks.{is_refused_on_a_halted_site, opens_task};
 
-use crate::LineFault;
-use crate::path::is_path;
-use crate::variable::{Variable, are_variables, variables};
-use crate::word::{first_word, only_word};
-use bosh_base::{Name, Seq, Text};
-use std::alloc::Global;
+use crate::{Lost, Others, Variable, When};
+use bosh_base::{Inst, Method, Name, Owner, Seq, Stemcell, Text};
+use bosh_fates::{Doom, Fate};
 
 /// What a line asks for.
 #[derive(Drop)]
@@ -19,98 +12,160 @@ pub enum Command {
     File {
         path: Text,
     },
-    /// Brings a deployment to the state that the manifest of this path writes, with these variables in it.
-    Deploy {
-        dep: Name,
+    /// Uploads the release of a folder under a version.
+    UploadRelease {
+        folder: Text,
+        version: Text,
+    },
+    UploadStemcell(Stemcell),
+    /// Sets the cloud config that the file of this path is.
+    UpdateCloudConfig {
         path: Text,
-        /// In the order of the line, which may give several for one name.
-        vars: Seq<Variable>,
+    },
+    Deploy(Deploy),
+    /// Lists the instances of a deployment.
+    Instances {
+        dep: Name,
+    },
+    Recreate(Inst),
+    Start(Inst),
+    Stop {
+        inst: Inst,
+        /// Whether its machine is deleted too.
+        hard: bool,
+    },
+    DeleteDeployment {
+        dep: Name,
+    },
+    /// Lists where the records of a deployment and the cloud differ.
+    CloudCheck {
+        dep: Name,
+    },
+    /// Makes an instance agree with its records again.
+    Resolve(Inst),
+    /// Lists the orphaned disks.
+    OrphanedDisks,
+    DeleteDisk {
+        disk: u64,
+    },
+    /// Deletes all orphaned disks.
+    CleanUp,
+    /// Lists the tasks.
+    Tasks,
+    /// Shows one task.
+    Task {
+        task: u64,
+    },
+    /// Lists the releases.
+    Releases,
+    /// Lists the compiled packages.
+    Compiled,
+    /// Carries the next commands out at once.
+    Together {
+        count: u64,
+    },
+    /// Lets a call fail.
+    FailCall(Doom),
+    /// Lets an append to the director's store fail, with or without its effect.
+    FailStore {
+        fate: Fate,
+        /// How many appends from now on it is: 1 is the next one.
+        appends: u64,
+    },
+    /// Stops the director at a call.
+    StopCall(StopCall),
+    /// Stops the director at an append to its store.
+    StopStore {
+        when: When,
+        /// How many appends from now on it is: 1 is the next one.
+        appends: u64,
+    },
+    /// Starts the director again.
+    Restart,
+    /// Lets a job of an instance write to its disk.
+    Write {
+        inst: Inst,
+        text: Text,
+    },
+    /// Shows what an instance's disk has.
+    Read(Inst),
+    /// Shows a file of an instance's machine.
+    Show {
+        inst: Inst,
+        path: Text,
+    },
+    /// Lets an instance's machine vanish, or its agent fall silent.
+    Lose {
+        inst: Inst,
+        lost: Lost,
     },
     /// Lists the machines and disks of the cloud.
     Cloud,
+    /// Deploys a large deployment that is made from a number.
+    Generate {
+        instances: u64,
+    },
 }
 
-/// The command that a line is, without its line end. Its words have spaces between them, any number, and
-/// may have them at both ends. The forms are `file PATH`, `-d DEPLOYMENT deploy PATH`, after which any number
-/// of options `-v NAME=VALUE` may stand, and `!cloud`.
-pub fn parse_line(alloc: Global, line: &[u8]) -> Result<Command, LineFault>
-    ensures { Reads result (command_of line.now) }
-{
-    let Some((first, rest)) = first_word(line) else {
-        return Err(LineFault::UnknownCommand);
-    };
-    match first {
-        b"file" => file(alloc, rest),
-        b"-d" => for_deployment(alloc, rest),
-        b"!cloud" => cloud(rest),
-        _ => Err(LineFault::UnknownCommand),
+impl Command {
+    /// Whether it opens a task, so that it may be carried out together with others.
+    pub fn opens_task(&self) -> bool
+        ensures { result ≡ opens_task self.now }
+    {
+        matches!(
+            self,
+            Command::Deploy(_)
+                | Command::Recreate(_)
+                | Command::Start(_)
+                | Command::Stop { .. }
+                | Command::DeleteDeployment { .. }
+                | Command::Resolve(_)
+                | Command::DeleteDisk { .. }
+                | Command::CleanUp
+        )
+    }
+
+    /// Whether it is refused as a whole while the site is halted. `Generate` is none of these: each of the commands that it
+    /// stands for is.
+    pub fn is_refused_on_a_halted_site(&self) -> bool
+        ensures { result ≡ is_refused_on_a_halted_site self.now }
+    {
+        !matches!(
+            self,
+            Command::File { .. }
+                | Command::FailCall(_)
+                | Command::FailStore { .. }
+                | Command::StopCall(_)
+                | Command::StopStore { .. }
+                | Command::Together { .. }
+                | Command::Restart
+                | Command::Generate { .. }
+        )
     }
 }
 
-fn file(alloc: Global, line: &[u8]) -> Result<Command, LineFault>
-    ensures { Reads result (file_of (words line.now)) }
-{
-    let Some(path) = only_path(line) else {
-        return Err(LineFault::UnknownCommand);
-    };
-    Ok(Command::File {
-        path: copied(alloc, path)?,
-    })
+/// Brings a deployment to the state that a manifest writes.
+#[derive(Drop)]
+pub struct Deploy {
+    pub dep: Name,
+    /// The path of the manifest.
+    pub path: Text,
+    /// In the order of the line, which may give several for one name.
+    pub vars: Seq<Variable>,
+    /// Whether machines that stand are created anew.
+    pub recreate: bool,
+    /// Whether machines that are lost are looked for first.
+    pub fix: bool,
 }
 
-fn for_deployment(alloc: Global, line: &[u8]) -> Result<Command, LineFault>
-    ensures { Reads result (of_deployment (words line.now)) }
-{
-    let Some((dep, rest)) = first_word(line) else {
-        return Err(LineFault::UnknownCommand);
-    };
-    let Some((verb, rest)) = first_word(rest) else {
-        return Err(LineFault::UnknownCommand);
-    };
-    if verb == b"deploy".as_slice() {
-        deploy(alloc, dep, rest)
-    } else {
-        Err(LineFault::UnknownCommand)
-    }
-}
-
-fn deploy(alloc: Global, dep: &[u8], line: &[u8]) -> Result<Command, LineFault>
-    ensures { Reads result (deploy_of dep.now (words line.now)) }
-{
-    let Some((path, options)) = first_word(line) else {
-        return Err(LineFault::UnknownCommand);
-    };
-    if !is_path(path) || !are_variables(options) {
-        return Err(LineFault::UnknownCommand);
-    }
-    let dep = Name::of(alloc, dep)?;
-    let path = copied(alloc, path)?;
-    let vars = variables(alloc, options)?;
-    Ok(Command::Deploy { dep, path, vars })
-}
-
-fn cloud(line: &[u8]) -> Result<Command, LineFault>
-    ensures { Reads result (cloud_of (words line.now)) }
-{
-    match first_word(line) {
-        None => Ok(Command::Cloud),
-        Some(_) => Err(LineFault::UnknownCommand),
-    }
-}
-
-// The path that is the only word of a line.
-fn only_path(line: &[u8]) -> Option<&[u8]>
-    ensures { option_copied result ≡ path_of (words line.now) }
-{
-    match only_word(line) {
-        Some(word) if is_path(word) => Some(word),
-        _ => None,
-    }
-}
-
-fn copied(alloc: Global, word: &[u8]) -> Result<Text, LineFault>
-    ensures ok { IfOk result (λ text. text ≡ word.now) }
-    ensures refused { IfErr result (λ fault. fault ≡ Memory) }
-{
-    Ok(Text::from(Vec::from_slice(alloc, word)?))
+/// A stop of the director at a call.
+#[derive(Drop)]
+pub struct StopCall {
+    pub when: When,
+    pub method: Method,
+    /// Whose calls are meant, or everybody's.
+    pub owner: Option<Owner>,
+    /// How many matching calls from now on it is: 1 is the next one.
+    pub calls: u64,
+    pub others: Others,
 }

@@ -1,12 +1,17 @@
 //! The lines of a session, read as commands.
 #![tactic(auto)]
 
+mod call;
 mod command;
-mod fault;
-mod path;
+mod deployment;
+mod line;
+mod site;
 mod variable;
+mod verb;
 mod word;
 
-pub use command::{Command, parse_line};
-pub use fault::LineFault;
+pub use bosh_words::LineFault;
+pub use command::{Command, Deploy, StopCall};
+pub use line::parse_line;
 pub use variable::Variable;
+pub use word::{Lost, Others, When};

@@ -1,15 +1,13 @@
-ghost use Rattle.std.specs.Prelude.{◌≡◌, ◌==◌, IfErr, IfOk, IfSome, IsSome, is_some, position};
+ghost use Rattle.std.specs.Prelude.{◌≡◌, ◌==◌, IfErr, IfOk, IfSome, position};
 ghost use Rattle.std.specs.Option.{option_map};
 ghost use Rattle.std.specs.Str.{IsUtf8};
-ghost use Rattle.bosh_lines.specs.Variable.{first_variable, variable, variable_of, variables_of};
-ghost use Rattle.bosh_lines.specs.Words.{words};
-ghost use Rattle.bosh_lines.specs.declared.fault.LineFault.TheVariants.{Memory};
+ghost use Rattle.bosh_lines.specs.Variable.{variable, variable_of, variables_in};
+ghost use Rattle.bosh_words.specs.Words.{words_in};
+ghost use Rattle.bosh_words.specs.declared.fault.LineFault.TheVariants.{Memory};
 
-use crate::LineFault;
-use crate::path::is_text;
-use crate::word::first_word;
 use bosh_base::Seq;
 use bosh_vars::is_name;
+use bosh_words::{LineFault, Place, Rest, is_text};
 use bosh_yaml::Str;
 use std::alloc::Global;
 
@@ -20,12 +18,11 @@ pub struct Variable {
     pub value: Str,
 }
 
-// A variable where it stands in its line, and what follows it.
+/// A word `NAME=VALUE`, before it is copied.
 #[derive(Clone, Copy)]
-struct Found<'a> {
+pub(crate) struct VariableWord<'a> {
     name: &'a [u8],
     value: &'a [u8],
-    rest: &'a [u8],
 }
 
 fn equals_sign(word: &[u8]) -> Option<usize>
@@ -34,69 +31,55 @@ fn equals_sign(word: &[u8]) -> Option<usize>
     word.iter().position(|byte| *byte == b'=')
 }
 
-// The name and the value of a word `NAME=VALUE`.
-fn name_and_value(word: &[u8]) -> Option<(&[u8], &[u8])>
-    ensures parts { option_map (λ parts. variable parts.0.now parts.1.now) result ≡ variable_of word.now }
-    ensures utf8 { IfSome result (λ parts. IsUtf8 parts.0.now × IsUtf8 parts.1.now) }
+fn variable_of(word: &[u8]) -> Option<VariableWord<'_>>
+    ensures parts { option_map (λ word. variable word.name.now word.value.now) result ≡ variable_of word.now }
+    ensures utf8 { IfSome result (λ word. IsUtf8 word.name.now × IsUtf8 word.value.now) }
 {
     let end = equals_sign(word)?;
     let (name, value) = (&word[..end], &word[end + 1..]);
     if is_name(name) && is_text(value) {
-        Some((name, value))
+        Some(VariableWord { name, value })
     } else {
         None
     }
 }
 
-// The variable of the option that a line begins with.
-fn first_variable(line: &[u8]) -> Option<Found<'_>>
-    ensures found { option_map (λ found. (variable found.name.now found.value.now, words found.rest.now)) result
-        ≡ first_variable (words line.now) }
-    ensures utf8 { IfSome result (λ found. IsUtf8 found.name.now × IsUtf8 found.value.now) }
-{
-    let (option, rest) = first_word(line)?;
-    let (word, rest) = first_word(rest)?;
-    if option != b"-v".as_slice() {
-        return None;
+impl<'a> Place<'a> for VariableWord<'a> {
+    ghost use Rattle.std.specs.Prelude.{◌≡◌, Some, is_some};
+    ghost use Rattle.bosh_lines.specs.Variable.{variable, variable_of};
+
+    ghost fits = { λ text. is_some (variable_of text) };
+
+    ghost reads = { λ text word. variable_of text ≡ Some (variable word.name.now word.value.now) };
+
+    fn read(text: &'a [u8]) -> Option<Self> {
+        variable_of(text)
     }
-    let (name, value) = name_and_value(word)?;
-    Some(Found { name, value, rest })
 }
 
-/// Whether a line has nothing but the options of variables.
-pub(crate) fn are_variables(line: &[u8]) -> bool
-    ensures { result ≡ is_some (variables_of (words line.now)) }
-{
-    let mut rest = line;
-    while let Some(found) = first_variable(rest) {
-        rest = found.rest;
-    }
-    first_word(rest).is_none()
-}
-
-fn copied(alloc: Global, name: &[u8], value: &[u8]) -> Result<Variable, LineFault>
-    requires name { IsUtf8 name.now }
-    requires value { IsUtf8 value.now }
-    ensures ok { IfOk result (λ copy. copy ≡ variable name.now value.now) }
+fn copied(alloc: Global, word: VariableWord<'_>) -> Result<Variable, LineFault>
+    requires name { IsUtf8 word.name.now }
+    requires value { IsUtf8 word.value.now }
+    ensures ok { IfOk result (λ copy. copy ≡ variable word.entry.name.now word.entry.value.now) }
     ensures refused { IfErr result (λ fault. fault ≡ Memory) }
 {
-    Ok(Variable {
-        name: Str::from_utf8(alloc, name)?,
-        value: Str::from_utf8(alloc, value)?,
-    })
+    let name = Str::from_utf8(alloc, word.name)?;
+    let value = Str::from_utf8(alloc, word.value)?;
+    Ok(Variable { name, value })
 }
 
-/// The variables of a line that has nothing but their options.
-pub(crate) fn variables(alloc: Global, line: &[u8]) -> Result<Seq<Variable>, LineFault>
-    requires { IsSome (variables_of (words line.now)) }
-    ensures ok { IfOk result (λ all. variables_of (words line.now) ≡ Some all) }
+/// The variables among the words that are left.
+pub(crate) fn variables(alloc: Global, rest: Rest<'_>) -> Result<Seq<Variable>, LineFault>
+    ensures ok { IfOk result (λ all. all ≡ variables_in (words_in rest.entry)) }
     ensures refused { IfErr result (λ fault. fault ≡ Memory) }
 {
     let mut all = Vec::new(alloc);
-    let mut rest = line;
-    while let Some(found) = first_variable(rest) {
-        all.push(copied(alloc, found.name, found.value)?)?;
-        rest = found.rest;
+    let mut left = rest;
+    while let Some((word, more)) = left.next() {
+        if let Some(word) = variable_of(word.text) {
+            all.push(copied(alloc, word)?)?;
+        }
+        left = more;
     }
     Ok(Seq::from(all))
 }

@@ -1,8 +1,8 @@
 //! Inputs in pieces, at their limits, and that fail.
 use crate::repeated::followed;
-use bosh_input::{Input, InputFault};
-use bosh_lines::Command;
 use bosh_ports::MemSource;
+use first_input::{Input, InputFault};
+use first_lines::Command;
 use std::alloc::Global;
 use std::process::Abort;
 

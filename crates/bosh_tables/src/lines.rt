@@ -1,8 +1,8 @@
 //! Lines of a session.
 use bosh_base::{Name, Seq, Text};
 use bosh_cases::{CaseFault, Given, Outcome, joined, push_parts};
-use bosh_lines::{Command, LineFault, Variable, parse_line};
 use bosh_yaml::Node;
+use first_lines::{Command, LineFault, Variable, parse_line};
 use std::alloc::{AllocError, Global};
 
 fn push_variable(text: &mut Vec<u8>, var: &Variable) -> Result<(), AllocError> {

@@ -3,11 +3,11 @@ use Rattle.std.proofs.Common.{◌≡◌, inl, inr, ℕ, ◌+◌, ◌≤◌, Bool
 use Rattle.std.specs.List.{flat_map}
 use Rattle.bosh_base.specs.declared.moves.Move.{Move}
 use Rattle.bosh_base.specs.declared.reply.Reply.{Reply}
-use Rattle.bosh_input.proofs.ReadsLemmas.{reads_none, reads_then}
-use Rattle.bosh_input.specs.Reading.{FailsByCount, Front, InputView, IsAtEnd, IsEvent, Reads}
-use Rattle.bosh_input.specs.declared.fault.InputFault.{InputFault}
-use Rattle.bosh_input.specs.declared.fault.InputFault.TheVariants as faults
-use Rattle.bosh_input.specs.declared.request.Request as request
+use Rattle.first_input.proofs.ReadsLemmas.{reads_none, reads_then}
+use Rattle.first_input.specs.Reading.{FailsByCount, Front, InputView, IsAtEnd, IsEvent, Reads}
+use Rattle.first_input.specs.declared.fault.InputFault.{InputFault}
+use Rattle.first_input.specs.declared.fault.InputFault.TheVariants as faults
+use Rattle.first_input.specs.declared.request.Request as request
 use Rattle.bosh_ports.specs.Faults.{Rose}
 use Rattle.bosh_report.specs.Reply.{text_of}
 use Rattle.first_session.proofs.ReplyLemmas.{broken_says, transcript_more}

@@ -6,7 +6,7 @@ use Rattle.std.specs.Result.{result_map_both}
 use Rattle.std.specs.Str.{bytes_eq}
 use Rattle.bosh_base.specs.declared.entry.Entry.{Entry}
 use Rattle.bosh_base.specs.declared.reply.Reply.{Reply}
-use Rattle.bosh_lines.specs.declared.variable.Variable.{Variable}
+use Rattle.first_lines.specs.declared.variable.Variable.{Variable}
 use Rattle.first_manifest.specs.declared.bare.BareManifest.{BareManifest}
 use Rattle.bosh_vars.specs.Filled.{Values, filled, value_if, values_of}
 use Rattle.bosh_vars.specs.Result as fills

@@ -10,8 +10,8 @@ use Rattle.bosh_base.specs.declared.moves.Move.{Move}
 use Rattle.bosh_base.specs.declared.moves.Move.TheVariants.{Note, Did, Wrote, Lost, Halt, Stop, Said}
 use Rattle.bosh_base.specs.declared.reply.Reply.{Reply}
 use Rattle.first_crew.specs.Work.{IsWork}
-use Rattle.bosh_lines.specs.declared.command.Command.{Command}
-use Rattle.bosh_lines.specs.declared.command.Command.TheVariants.{File, Deploy, Cloud}
+use Rattle.first_lines.specs.declared.command.Command.{Command}
+use Rattle.first_lines.specs.declared.command.Command.TheVariants.{File, Deploy, Cloud}
 use Rattle.first_history.specs.Moves.{nothing, durable}
 use Rattle.bosh_report.specs.Reply.{text_of}
 use Rattle.first_session.specs.Answers.{IsBroken, IsCommand, said}

@@ -1,11 +1,11 @@
 -- A session, command by command.
 use Rattle.std.proofs.Common.{◌≡◌, ℕ, ◌+◌, ◌≤◌, Bool, false, ◌||◌, List, [], ◌∷◌, ◌++◌, Option, Some, length, drop, refl, sym, ap, ◌∙◌, subst, arith, append_assoc, append-nil, length-append}
 use Rattle.bosh_base.specs.declared.moves.Move.{Move}
-use Rattle.bosh_input.proofs.FrontLemmas.{front_before}
-use Rattle.bosh_input.proofs.ReadsLemmas.{reads_none, reads_then}
-use Rattle.bosh_input.specs.Commands.{commands}
-use Rattle.bosh_input.specs.Reading.{Front, InputView, IsNext, Reads}
-use Rattle.bosh_input.specs.declared.request.Request as request
+use Rattle.first_input.proofs.FrontLemmas.{front_before}
+use Rattle.first_input.proofs.ReadsLemmas.{reads_none, reads_then}
+use Rattle.first_input.specs.Commands.{commands}
+use Rattle.first_input.specs.Reading.{Front, InputView, IsNext, Reads}
+use Rattle.first_input.specs.declared.request.Request as request
 use Rattle.bosh_report.specs.Reply.{text_of}
 use Rattle.first_session.proofs.ReplyLemmas.{command_says, error_more, replies_more, transcript_more}
 use Rattle.first_session.specs.Answers.{AreAnswered, IsCommand, files_after, files_of, said}

@@ -8,9 +8,9 @@ use Rattle.bosh_base.specs.declared.reply.Reply.{Reply}
 use Rattle.bosh_base.specs.declared.reply.Reply.TheVariants as replies
 use Rattle.first_history.specs.Effects.{effects_of}
 use Rattle.first_history.specs.Moves.{nothing, is_halted}
-use Rattle.bosh_input.specs.declared.request.Request as request
-use Rattle.bosh_lines.specs.declared.command.Command.{Command}
-use Rattle.bosh_lines.specs.declared.command.Command.TheVariants.{File, Deploy, Cloud}
+use Rattle.first_input.specs.declared.request.Request as request
+use Rattle.first_lines.specs.declared.command.Command.{Command}
+use Rattle.first_lines.specs.declared.command.Command.TheVariants.{File, Deploy, Cloud}
 use Rattle.first_session.specs.Deploys.{IsBrokenOff, IsDeploy}
 use Rattle.first_session.specs.Listing.{listing}
 use Rattle.first_session.specs.Refusals.{stopped, unknown_command}

@@ -3,7 +3,7 @@ use Rattle.std.specs.Prelude.{◌≡◌, ℕ, List, [], ◌∷◌, None, Result,
 use Rattle.std.specs.Option.{ok_or, option_or}
 use Rattle.std.specs.Result.{result_map_both}
 use Rattle.std.specs.Str.{bytes_eq}
-use Rattle.bosh_lines.specs.declared.variable.Variable.{Variable}
+use Rattle.first_lines.specs.declared.variable.Variable.{Variable}
 use Rattle.first_manifest.specs.Bare.{bare_manifest}
 use Rattle.first_manifest.specs.declared.bare.BareManifest.{BareManifest}
 use Rattle.first_manifest.specs.declared.fault.ManFault.{ManFault}

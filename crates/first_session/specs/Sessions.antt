@@ -6,9 +6,9 @@ use Rattle.first_history.specs.Moves.{nothing}
 use Rattle.first_history.specs.Permitted.{IsRun}
 use Rattle.first_history.specs.Safety.{IsSafe}
 use Rattle.first_history.specs.Ties.{AreTied}
-use Rattle.bosh_input.specs.Commands.{commands}
-use Rattle.bosh_input.specs.Reading.{Front, HasBegun, IsAtEnd, IsFrontOf, NoneBegun, NoneSettled, Reads}
-use Rattle.bosh_input.specs.declared.request.Request as request
+use Rattle.first_input.specs.Commands.{commands}
+use Rattle.first_input.specs.Reading.{Front, HasBegun, IsAtEnd, IsFrontOf, NoneBegun, NoneSettled, Reads}
+use Rattle.first_input.specs.declared.request.Request as request
 use Rattle.bosh_ports.specs.Faults.{Rose}
 use Rattle.first_session.specs.Answers.{AreAnswered, IsBroken, files_of}
 use Rattle.first_session.specs.Replies.{has_error, transcript}

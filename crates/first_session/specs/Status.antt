@@ -1,7 +1,7 @@
 -- How a session ends.
 use Rattle.std.specs.Prelude.{ℕ}
-use Rattle.bosh_input.specs.declared.fault.InputFault.{InputFault}
-use Rattle.bosh_input.specs.declared.fault.InputFault.TheVariants as faults
+use Rattle.first_input.specs.declared.fault.InputFault.{InputFault}
+use Rattle.first_input.specs.declared.fault.InputFault.TheVariants as faults
 use Rattle.first_session.specs.declared.status.Status.{Status}
 use Rattle.first_session.specs.declared.status.Status.TheVariants.{Good, Failed, Usage, Source, Sink, Memory, Limit, Unloaded}
 

@@ -2,7 +2,7 @@
 use Rattle.std.specs.Prelude.{◌≡◌, ℕ, ◌≤◌, Bool, List, [], ◌∷◌, ◌++◌, Option, Some}
 use Rattle.bosh_base.specs.declared.moves.Move.{Move}
 use Rattle.bosh_base.specs.declared.reply.Reply.{Reply}
-use Rattle.bosh_input.specs.declared.request.Request as request
+use Rattle.first_input.specs.declared.request.Request as request
 use Rattle.bosh_ports.specs.Faults.{Rose}
 use Rattle.bosh_report.specs.Reply.{text_of}
 use Rattle.first_session.specs.Answers.{IsBroken, IsCommand, said}

@@ -7,9 +7,9 @@ use crate::ask::Asked;
 use crate::deploy::deploy;
 use crate::{Files, KeptFile, Status, cloud_listing, stopped, unknown_command};
 use bosh_base::Reply;
-use bosh_input::Request;
-use bosh_lines::Command;
 use bosh_ports::Keeper;
+use first_input::Request;
+use first_lines::Command;
 use first_world::Site;
 use std::alloc::Global;
 

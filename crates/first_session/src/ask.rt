@@ -7,8 +7,8 @@ use crate::refusal::refusal_of;
 use crate::{Files, NotYet, Status, not_yet};
 use bosh_base::{Goal, Name, Reply, Seq, Text};
 use bosh_goal::bare_goal;
-use bosh_lines::Variable;
 use first_fold::Records;
+use first_lines::Variable;
 use std::alloc::Global;
 
 /// A deploy, as its line asks for it.

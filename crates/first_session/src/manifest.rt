@@ -6,9 +6,9 @@ ghost use Rattle.first_session.specs.declared.text_fault.TextFault.TheVariants.{
 
 use crate::text_fault::TextFault;
 use bosh_base::Name;
-use bosh_lines::Variable;
 use bosh_vars::{Var, fill};
 use bosh_yaml::{Copied, Node, read, scalar};
+use first_lines::Variable;
 use first_manifest::{BareManifest, read_bare};
 use std::alloc::Global;
 

@@ -11,9 +11,9 @@ use crate::answer::answer;
 use crate::reply::is_error;
 use crate::{Files, Status, write_all};
 use bosh_base::Reply;
-use bosh_input::{Input, Request};
 use bosh_ports::{Keeper, Shelf, Sink, Source};
 use bosh_report::say;
+use first_input::{Input, Request};
 use first_world::{Site, Unloaded};
 use std::alloc::Global;
 

@@ -4,8 +4,8 @@ ghost use Rattle.first_session.specs.declared.status.Status.TheVariants.{Memory}
 
 use bosh_base::CopyFault;
 use bosh_goal::GoalFault;
-use bosh_input::InputFault;
 use bosh_report::ReportFault;
+use first_input::InputFault;
 use std::alloc::{AllocError, AllocFailed};
 
 /// How a session ended.

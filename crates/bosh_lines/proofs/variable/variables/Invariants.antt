@@ -1,12 +1,11 @@
-use Rattle.std.proofs.Common.{◌≡◌, length}
-use Rattle.bosh_lines.specs.Variable.{variables_of}
-use Rattle.bosh_lines.specs.Words.{words}
-use Rattle.bosh_lines.proofs.VariableLemmas.{with_front}
+use Rattle.std.proofs.Common.{◌≡◌, ◌++◌, length}
+use Rattle.bosh_words.specs.Words.{words_in}
+use Rattle.bosh_lines.specs.Variable.{variables_in}
 use Rattle.bosh_lines.proofs.variable.variables.Given as goal
 
 -- the variables so far, and those of the words that are left, are those of all
-abbrev pub invariant-loop-found : goal.invariant-loop-found
-invariant-loop-found l = with_front l.all.items (variables_of (words l.rest)) ≡ variables_of (words l.fn.line)
+abbrev pub invariant-loop-word : goal.invariant-loop-word
+invariant-loop-word l = variables_in (words_in l.fn.rest) ≡ l.all.items ++ variables_in (words_in l.left)
 
-abbrev pub decreases-loop-found : goal.decreases-loop-found
-decreases-loop-found l = length (words l.rest)
+abbrev pub decreases-loop-word : goal.decreases-loop-word
+decreases-loop-word l = length (words_in l.left)

@@ -1,6 +1,6 @@
 use Rattle.std.proofs.Common.{◌≡◌, ◌∙◌, ◌||◌, Bool, List, Option, sym, ap, subst, arith}
-use Rattle.bosh_input.specs.Reading.{IsAtEnd}
-use Rattle.bosh_input.specs.declared.request.Request as request
+use Rattle.first_input.specs.Reading.{IsAtEnd}
+use Rattle.first_input.specs.declared.request.Request as request
 use Rattle.first_crew.proofs.WorkLemmas.{stores-then}
 use Rattle.first_session.proofs.EndLemmas.{counted_fault, over_at_end, over_before, over_by_event, over_interrupted}
 use Rattle.first_session.proofs.SessionLemmas.{IsTaken, IsUnderWay, way_begins, way_more}

@@ -1,0 +1,4 @@
+pub mod GrammarLemmas
+pub mod NumberLemmas
+pub mod TextLemmas
+pub mod WordLemmas

@@ -1,0 +1,5 @@
+pub mod Grammar
+pub mod Kinds
+pub mod Owners
+pub mod Places
+pub mod Words

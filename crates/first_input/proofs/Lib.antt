@@ -1,0 +1,9 @@
+pub mod BlockLemmas
+pub mod CommandLemmas
+pub mod FaultLemmas
+pub mod FrontLemmas
+pub mod LineLemmas
+pub mod NextLemmas
+pub mod PassedLemmas
+pub mod ReadsLemmas
+pub mod SeenLemmas
