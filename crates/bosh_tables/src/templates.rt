@@ -125,7 +125,11 @@ fn refusal(alloc: Global, fault: &TemplateFault) -> Result<Outcome, CaseFault> {
 }
 
 /// The text of a template, with what the setting lets it look up.
-pub(crate) fn text(alloc: Global, given_setting: &Node, given: &Node) -> Result<Outcome, CaseFault> {
+pub(crate) fn text(
+    alloc: Global,
+    given_setting: &Node,
+    given: &Node,
+) -> Result<Outcome, CaseFault> {
     let (index, addr) = two(alloc, given_setting, ["index", "addr"])?;
     let (template, setting) = both(Text::of(alloc, given), setting(alloc, given_setting))?;
     match rendered(alloc, template.as_slice(), &setting, index, addr) {
