@@ -2,7 +2,7 @@
 use crate::shown::shown;
 use bosh_base::Text;
 use bosh_cases::{Calls, CaseFault, Given, Outcome};
-use bosh_lines::{LineFault, parse_line};
+use bosh_lines::{Command, LineFault, parse_line};
 use bosh_yaml::Node;
 use std::alloc::{AllocError, Global};
 
@@ -27,13 +27,23 @@ impl Calls for LineCalls {
 fn command(alloc: Global, given: &Node) -> Result<Outcome, CaseFault> {
     let line = Text::of(alloc, given)?;
     match parse_line(alloc, line.as_slice()) {
-        Ok(command) => Ok(Outcome::bytes(shown(alloc, &command)?)),
-        Err(LineFault::Memory) => Err(CaseFault::Memory),
-        Err(fault) => Ok(refused(alloc, fault)?),
+        Ok(command) => told(alloc, &command),
+        Err(fault) => refused(alloc, fault),
     }
 }
 
-fn refused(alloc: Global, fault: LineFault) -> Result<Outcome, AllocError> {
+fn told(alloc: Global, command: &Command) -> Result<Outcome, CaseFault> {
+    Ok(Outcome::bytes(shown(alloc, command)?))
+}
+
+fn refused(alloc: Global, fault: LineFault) -> Result<Outcome, CaseFault> {
+    match fault {
+        LineFault::Memory => Err(CaseFault::Memory),
+        fault => Ok(refusal(alloc, fault)?),
+    }
+}
+
+fn refusal(alloc: Global, fault: LineFault) -> Result<Outcome, AllocError> {
     match fault {
         LineFault::BadArgument { place } => {
             let words = format!(in alloc; "BadArgument {place}")?;

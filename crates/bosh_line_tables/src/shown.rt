@@ -24,10 +24,10 @@ fn deploy(alloc: Global, deploy: &Deploy) -> Shown {
             deploy.dep.as_bytes(),
             b" ",
             deploy.path.as_slice(),
-            flag(deploy.recreate, b" recreate"),
-            flag(deploy.fix, b" fix"),
         ],
     )?;
+    text.extend_from_slice(flag(deploy.recreate, b" recreate"))?;
+    text.extend_from_slice(flag(deploy.fix, b" fix"))?;
     for var in &deploy.vars {
         push_variable(&mut text, var)?;
     }
@@ -115,7 +115,7 @@ fn stop_call(alloc: Global, stop: &StopCall) -> Shown {
     )
 }
 
-/// A command in words, of which the first tells its form.
+/// A command in words, of which the first tells its form. It has an arm for each form, and is proved once.
 pub(crate) fn shown(alloc: Global, command: &Command) -> Shown {
     match command {
         Command::File { path } => joined(alloc, &[b"file ", path.as_slice()]),

@@ -3,11 +3,13 @@ ghost use Rattle.std.specs.Prelude.{◌≡◌, IfErr, IfOk, true};
 ghost use Rattle.bosh_base.specs.Name.{is_name};
 ghost use Rattle.bosh_words.specs.Grammar.{IsRefused};
 ghost use Rattle.bosh_words.specs.Words.{words_in};
+ghost use Rattle.bosh_words.specs.declared.fault.LineFault.TheVariants.{Memory};
 ghost use Rattle.bosh_lines.specs.Forms.{IsRead, cloud_check_form, delete_deployment_form, deploy_form, instances_form, recreate_form, start_form, stop_form};
 
 use crate::site::copied;
 use crate::variable::{VariableWord, variables};
 use crate::{Command, Deploy};
+use bosh_base::{Name, Text};
 use bosh_words::{Choice, LineFault, Member, Path, Rest, end, has, name_of, one, options, take};
 use std::alloc::Global;
 
@@ -92,6 +94,17 @@ const CHECK_OPTIONS: [Choice<'static>; 1] = [Choice {
     repeats: false,
 }];
 
+// A deployment and a path.
+fn named_file(alloc: Global, dep: &[u8], path: &[u8]) -> Result<(Name, Text), LineFault>
+    requires { is_name dep.now ≡ true }
+    ensures ok { IfOk result (λ it. (it.0 ≡ dep.now) × (it.1 ≡ path.now)) }
+    ensures refused { IfErr result (λ fault. fault ≡ Memory) }
+{
+    let dep = name_of(alloc, dep)?;
+    let path = copied(alloc, path)?;
+    Ok((dep, path))
+}
+
 #[tactic(auto, using(bosh_words::proofs::GrammarLemmas::reading))]
 pub(crate) fn deploy(alloc: Global, dep: &[u8], rest: Rest<'_>) -> Result<Command, LineFault>
     requires { is_name dep.now ≡ true }
@@ -102,8 +115,7 @@ pub(crate) fn deploy(alloc: Global, dep: &[u8], rest: Rest<'_>) -> Result<Comman
     options::<VariableWord<'_>>(left, &DEPLOY_OPTIONS)?;
     let recreate = has(left, b"--recreate");
     let fix = has(left, b"--fix");
-    let dep = name_of(alloc, dep)?;
-    let path = copied(alloc, path)?;
+    let (dep, path) = named_file(alloc, dep, path)?;
     let vars = variables(alloc, left)?;
     Ok(Command::Deploy(Deploy {
         dep,

@@ -46,6 +46,7 @@ pub fn parse_line(alloc: Global, line: &[u8]) -> Result<Command, LineFault>
     }
 }
 
+// It has an arm for each verb, and is what the states of its proof are.
 fn by_verb(alloc: Global, verb: Verb, line: &[u8], rest: Rest<'_>) -> Result<Command, LineFault>
     requires { length line.now ≤ 1048576 }
     ensures { IsParsed (by_verb (Some verb) line.now (words_in rest.entry)) result }

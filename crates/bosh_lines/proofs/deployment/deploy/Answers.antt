@@ -28,16 +28,6 @@ returns-in_err-dep-clause-refused c =
     passed_on (IsRefused form.places form.options words) c.from_residual-in_err-dep.result fault c.from_residual-in_err-dep.ensures.1
     (out_of_memory form.places form.options words fault c.in_err-dep.ensures.refused (fault_taken is_path [] form.options words taken.word left taken.first taken.suits ∙ c.in_ok-options.ensures.ok))
 
-pub returns-in_err-path-2-clause-refused : goal.returns-in_err-path-2-clause-refused
-returns-in_err-path-2-clause-refused c =
-    let form = deploy_form c.args.dep.now in
-    let words = words_in c.args.rest in
-    let left = words_in c.in_ok-path.left in
-    let taken = c.in_ok-path.ensures.ok in
-    let fault = c.in_err-path-2.field-0.0 in
-    passed_on (IsRefused form.places form.options words) c.from_residual-in_err-path-2.result fault c.from_residual-in_err-path-2.ensures.1
-    (out_of_memory form.places form.options words fault c.in_err-path-2.ensures.refused (fault_taken is_path [] form.options words taken.word left taken.first taken.suits ∙ c.in_ok-options.ensures.ok))
-
 pub returns-in_err-vars-clause-refused : goal.returns-in_err-vars-clause-refused
 returns-in_err-vars-clause-refused c =
     let form = deploy_form c.args.dep.now in
@@ -57,6 +47,6 @@ returns-clause-ok c =
     let taken = c.in_ok-path.ensures.ok in (
       fault_taken is_path [] form.options words taken.word left taken.first taken.suits ∙ c.in_ok-options.ensures.ok,
       ap (deploy_command dep) taken.first
-          ∙ same_deploy dep c.in_ok-dep.dep taken.word.text c.in_ok-path-2.path (variables_in left) c.in_ok-vars.vars (has (codes "--recreate") left) c.has-recreate.result (has (codes "--fix") left) c.has-fix.result
-          c.in_ok-dep.ensures.ok (c.in_ok-path-2.ensures.ok ∙ taken.means) c.in_ok-vars.ensures.ok c.has-recreate.ensures c.has-fix.ensures,
+          ∙ same_deploy dep c.in_ok-dep.dep taken.word.text c.in_ok-dep.path (variables_in left) c.in_ok-vars.vars (has (codes "--recreate") left) c.has-recreate.result (has (codes "--fix") left) c.has-fix.result
+          c.in_ok-dep.ensures.ok.0 (c.in_ok-dep.ensures.ok.1 ∙ taken.means) c.in_ok-vars.ensures.ok c.has-recreate.ensures c.has-fix.ensures,
     )
