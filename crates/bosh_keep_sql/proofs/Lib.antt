@@ -1,2 +1,3 @@
 pub mod KeeperLemmas
 pub mod RowLemmas
+pub mod SurvivalLemmas

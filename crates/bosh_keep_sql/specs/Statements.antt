@@ -1,7 +1,8 @@
 -- The statements of a keeper, and that one was carried out (this project's profile).
-use Rattle.std.specs.Prelude.{ℕ, codes, List, [], Ok}
+use Rattle.std.specs.Prelude.{◌≡◌, ℕ, codes, List, [], Ok}
 use Rattle.sqlite.specs.Order.{Row}
-use Rattle.sqlite.specs.State.{Executes, Shown, State}
+use Rattle.sqlite.specs.Tree.{Trees}
+use Rattle.sqlite.specs.State.{Executes, Shown, State, Survives}
 use Rattle.sqlite.specs.Store.{Ghosts}
 use Rattle.sqlite.specs.Held.{Held, state}
 
@@ -28,3 +29,7 @@ Runs sql params old new = (count : ℕ) × Executes sql params old new (Ok count
 -- the database lists these rows by position, as its last statement
 abbrev pub Lists : {S : Type 0} → Ghosts S → Held S → List Row → Type 0
 Lists {S} store now rows = (before : Held S) × Shown list_text [] (state store before) (state store now) rows
+
+-- A crash leaves what it could leave before, or one other database: all of a change, or nothing of it.
+abbrev pub IsOneCommit : State → State → Type 0
+IsOneCommit old new = (after : Trees) × Survives old new (λ trees. trees ≡ after)

@@ -1,7 +1,7 @@
 ghost use Rattle.std.specs.Prelude.{◌≡◌, ◌≢◌, ◌++◌, [], ◌∷◌, false, length, Some, IfErr, IfOk, OnOk};
 ghost use Rattle.bosh_keep_sql.specs.Rows.{row_of, rows_from};
 ghost use Rattle.bosh_keep_sql.specs.SqlView.{Fails};
-ghost use Rattle.bosh_keep_sql.specs.Statements.{insert_text, Lists, Runs};
+ghost use Rattle.bosh_keep_sql.specs.Statements.{insert_text, IsOneCommit, Lists, Runs};
 ghost use Rattle.bosh_ports.specs.Faults.{NeverFalls};
 ghost use Rattle.bosh_ports.specs.Keeper.{FailsByCount, Leaves, TellsBroken, TellsMended};
 ghost use Rattle.sqlite.specs.Held.{state};
@@ -126,7 +126,13 @@ impl<S: Alter + Drop> Keeper for SqlKeeper<S> {
         }
     }
 
-    fn replace(&mut self, list: &Bodies) -> Result<(), KeepFault> {
+    fn replace(&mut self, list: &Bodies) -> Result<(), KeepFault>
+        ensures whole { IsOneCommit (state S.Store self.old.connection) (state S.Store self.new.connection) }
+        ensures list { Leaves result self.old.bodies list.now (Some self.new.bodies) }
+        ensures broken { TellsBroken result self.old.is_broken self.new.is_broken }
+        ensures count { NeverFalls self.old.faults self.new.faults }
+        ensures failed { FailsByCount result self.old.faults self.new.faults }
+    {
         if self.is_broken {
             return Err(KeepFault::Broken);
         }

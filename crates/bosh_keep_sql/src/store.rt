@@ -1,6 +1,6 @@
 ghost use Rattle.std.specs.Prelude.{◌≡◌, ◌≢◌, ◌++◌, [], ◌∷◌, length, IfErr, IfOk, OnErr, OnOk};
 ghost use Rattle.bosh_keep_sql.specs.Rows.{row_of, rows_from};
-ghost use Rattle.bosh_keep_sql.specs.Statements.{insert_text, Lists, Runs};
+ghost use Rattle.bosh_keep_sql.specs.Statements.{insert_text, IsOneCommit, Lists, Runs};
 ghost use Rattle.bosh_ports.specs.Contents.{contents};
 ghost use Rattle.sqlite.specs.Held.{state};
 ghost use Rattle.sqlite.specs.State.{HasCleanDisk};
@@ -70,6 +70,7 @@ pub(crate) fn put_all<S: Alter>(
 ) -> Result<(), KeepFault>
     ensures ok { OnOk result (contents bodies.new.items ≡ list.now) }
     ensures refused { OnErr result (contents bodies.new.items ≡ contents bodies.old.items) }
+    ensures whole { IsOneCommit (state S.Store connection.old) (state S.Store connection.new) }
     ensures fault { IfErr result (λ fault. fault ≢ KeepFault.Broken) }
 {
     let copies = copies_of(alloc, list.as_slice())?;

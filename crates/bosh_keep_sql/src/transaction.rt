@@ -1,4 +1,7 @@
-ghost use Rattle.std.specs.Prelude.{◌≢◌, IfErr};
+ghost use Rattle.std.specs.Prelude.{◌≡◌, ◌≢◌, IfErr};
+ghost use Rattle.bosh_keep_sql.specs.Statements.{IsOneCommit};
+ghost use Rattle.sqlite.specs.Held.{state};
+ghost use Rattle.sqlite.specs.State.{Survives};
 
 use crate::fault::fault_of;
 use bosh_ports::KeepFault;
@@ -10,16 +13,15 @@ pub(crate) fn rewrite<S: Alter>(
     connection: &mut Connection<S>,
     bodies: &[Vec<u8>],
 ) -> Result<(), KeepFault>
-    ensures { IfErr result (λ fault. fault ≢ KeepFault.Broken) }
+    ensures whole { IsOneCommit (state S.Store connection.old) (state S.Store connection.new) }
+    ensures fault { IfErr result (λ fault. fault ≢ KeepFault.Broken) }
 {
     if !connection.is_autocommit() {
         return Err(KeepFault::Failed);
     }
     let mut transaction = connection.transaction();
     clear_in(&mut transaction)?;
-    for (place, body) in bodies.iter().enumerate() {
-        insert_in(&mut transaction, place, body)?;
-    }
+    insert_all(&mut transaction, bodies)?;
     match transaction.commit() {
         Ok(()) => Ok(()),
         Err(error) => Err(fault_of(error)),
@@ -27,7 +29,10 @@ pub(crate) fn rewrite<S: Alter>(
 }
 
 fn clear_in<S: Alter>(transaction: &mut Transaction<'_, S>) -> Result<(), KeepFault>
-    ensures { IfErr result (λ fault. fault ≢ KeepFault.Broken) }
+    ensures same_reference { transaction.new.conn.ghost_name ≡ transaction.old.conn.ghost_name }
+    ensures survives { Survives (state S.Store transaction.old.conn.now)
+        (state S.Store transaction.new.conn.now) (λ _. ⊥) }
+    ensures fault { IfErr result (λ fault. fault ≢ KeepFault.Broken) }
 {
     match transaction.execute("DELETE FROM bodies", &[]) {
         Ok(_) => Ok(()),
@@ -40,7 +45,10 @@ fn insert_in<S: Alter>(
     place: usize,
     body: &[u8],
 ) -> Result<(), KeepFault>
-    ensures { IfErr result (λ fault. fault ≢ KeepFault.Broken) }
+    ensures same_reference { transaction.new.conn.ghost_name ≡ transaction.old.conn.ghost_name }
+    ensures survives { Survives (state S.Store transaction.old.conn.now)
+        (state S.Store transaction.new.conn.now) (λ _. ⊥) }
+    ensures fault { IfErr result (λ fault. fault ≢ KeepFault.Broken) }
 {
     let Ok(position) = u32::try_from(place) else {
         return Err(KeepFault::Failed);
@@ -52,4 +60,19 @@ fn insert_in<S: Alter>(
         Ok(_) => Ok(()),
         Err(error) => Err(fault_of(error)),
     }
+}
+
+fn insert_all<S: Alter>(
+    transaction: &mut Transaction<'_, S>,
+    bodies: &[Vec<u8>],
+) -> Result<(), KeepFault>
+    ensures same_reference { transaction.new.conn.ghost_name ≡ transaction.old.conn.ghost_name }
+    ensures survives { Survives (state S.Store transaction.old.conn.now)
+        (state S.Store transaction.new.conn.now) (λ _. ⊥) }
+    ensures fault { IfErr result (λ fault. fault ≢ KeepFault.Broken) }
+{
+    for (place, body) in bodies.iter().enumerate() {
+        insert_in(transaction, place, body)?;
+    }
+    Ok(())
 }
