@@ -15,7 +15,7 @@ use cpi_wire::WireFault;
 use serde_json::Value;
 use std::alloc::Global;
 
-// The values of `arguments`, `context` and `method`, where these are all keys.
+// The values of `arguments`, `context` and `method`, where these are all keys. Dear to prove, since the members are gone over.
 fn request_parts(value: &Value) -> Option<(&Value, &Value, &Value)>
     ensures { option_map (λ p. (view p.0.now, view p.1.now, view p.2.now)) result ≡ request_parts (view value.now) }
 {
@@ -28,6 +28,7 @@ fn request_parts(value: &Value) -> Option<(&Value, &Value, &Value)>
     Some((arguments, context, method))
 }
 
+// Dear to prove: what was read is alive where the rest may be refused.
 #[tactic(auto, unfolding(crate::specs::Request::request_from))]
 fn request_in(alloc: Global, value: &Value) -> Result<Request, WireFault>
     ensures { Gives result (request_from (view value.now)) }
