@@ -1,8 +1,11 @@
-ghost use Rattle.std.specs.Prelude.{◌≡◌, option_map};
+ghost use Rattle.std.specs.Prelude.{◌≡◌, Err, IfOk, option_map};
 ghost use Rattle.serde_json.specs.View.{view};
 ghost use Rattle.cpi_wire.specs.Reading.{Gives};
-ghost use Rattle.cpi_proc.specs.Request.{request_from, request_of, request_parts};
+ghost use Rattle.cpi_proc.specs.Request.{IsRequest, request_from, request_of, request_parts, wire};
 ghost use Rattle.cpi_proc.specs.Fault.{GivesRequest};
+ghost use Rattle.cpi_proc.specs.Json.{json_of};
+ghost use Rattle.cpi_proc.specs.declared.fault.PortFault.TheVariants.{NotAReply};
+ghost use Rattle.cpi_proc.specs.declared.request.Request.{Request};
 
 use crate::arguments::read_call;
 use crate::context::read_context;
@@ -55,9 +58,17 @@ fn request_of(alloc: Global, bytes: &[u8]) -> Result<Request, WireFault>
     request_in(alloc, &value)
 }
 
-/// The request that a text spells, however it is spelled: `NotAReply` where its JSON value is that of no request's text.
-pub fn read_request(alloc: Global, bytes: &[u8]) -> Result<Request, PortFault>
+fn request_or_fault(alloc: Global, bytes: &[u8]) -> Result<Request, PortFault>
     ensures { GivesRequest result (request_of bytes.now) }
 {
     Ok(request_of(alloc, bytes)?)
+}
+
+/// The request that a text spells, however it is spelled: `NotAReply` where its JSON value is that of no request's text.
+pub fn read_request(alloc: Global, bytes: &[u8]) -> Result<Request, PortFault>
+    ensures found { IfOk result (λ r. IsRequest r × (json_of bytes.now ≡ json_of (wire r))) }
+    ensures none { result ≡ Err NotAReply → (r : Request) → IsRequest r → json_of bytes.now ≡ json_of (wire r) → ⊥ }
+    ensures exact { GivesRequest result (request_of bytes.now) }
+{
+    request_or_fault(alloc, bytes)
 }
