@@ -4,7 +4,7 @@ use crate::shown::answer_text;
 use bosh_cases::{CaseFault, Outcome, bytes_of};
 use bosh_spawner::{MemSpawner, Outputs, Spawner};
 use bosh_yaml::Node;
-use cpi_proc::ProcPort;
+use cpi_proc::{ProcPort, Request};
 use std::alloc::Global;
 
 fn output_of(alloc: Global, node: &Node) -> Result<Option<Vec<u8>>, CaseFault> {
@@ -33,6 +33,15 @@ fn outputs_of(alloc: Global, node: &Node) -> Result<Outputs, CaseFault> {
     Ok(outputs)
 }
 
+fn ask_of(
+    alloc: Global,
+    port: &mut ProcPort<MemSpawner>,
+    request: &Request,
+) -> Result<Vec<u8>, CaseFault> {
+    let answer = port.ask(alloc, request);
+    answer_text(alloc, &request.call, &answer)
+}
+
 // What one request came to.
 fn ask_one(
     alloc: Global,
@@ -40,8 +49,7 @@ fn ask_one(
     node: &Node,
 ) -> Result<Vec<u8>, CaseFault> {
     let request = request_of(alloc, node)?;
-    let answer = port.ask(alloc, &request);
-    answer_text(alloc, &request.call, &answer)
+    ask_of(alloc, port, &request)
 }
 
 fn push_part(text: &mut Vec<u8>, part: &[u8]) -> Result<(), CaseFault> {
@@ -85,13 +93,24 @@ fn counts(alloc: Global, port: &ProcPort<MemSpawner>) -> Result<String, CaseFaul
     Ok(format!(in alloc; " | asked {asked}, failed {failed}, faults {faults}")?)
 }
 
+fn ask_all(
+    alloc: Global,
+    port: &mut ProcPort<MemSpawner>,
+    node: &Node,
+    text: &mut Vec<u8>,
+) -> Result<(), CaseFault> {
+    ask_each(alloc, port, node, text)?;
+    let counts = counts(alloc, port)?;
+    text.extend_from_slice(counts.as_bytes())?;
+    Ok(())
+}
+
 /// What requests come to on a port whose children give these outputs, and how often was asked.
 pub(crate) fn ask(alloc: Global, given: &Node) -> Result<Outcome, CaseFault> {
+    let asks = there(given, "asks")?;
     let outputs = outputs_of(alloc, there(given, "outputs")?)?;
     let mut port = ProcPort::new(MemSpawner::new(alloc, outputs));
     let mut text = Vec::new(alloc);
-    ask_each(alloc, &mut port, there(given, "asks")?, &mut text)?;
-    let counts = counts(alloc, &port)?;
-    text.extend_from_slice(counts.as_bytes())?;
+    ask_all(alloc, &mut port, asks, &mut text)?;
     Ok(Outcome::bytes(text))
 }

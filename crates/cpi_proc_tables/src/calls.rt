@@ -52,13 +52,17 @@ fn text_of(alloc: Global, request: &Request) -> Result<Outcome, CaseFault> {
     }
 }
 
-// The text of the request that bytes are.
-fn read(alloc: Global, given: &Node) -> Result<Outcome, CaseFault> {
-    let bytes = bytes_of(alloc, given)?;
-    match read_request(alloc, bytes.as_slice()) {
+fn read_in(alloc: Global, bytes: &[u8]) -> Result<Outcome, CaseFault> {
+    match read_request(alloc, bytes) {
         Ok(request) => text_of(alloc, &request),
         Err(fault) => refusal(alloc, &fault),
     }
+}
+
+// The text of the request that bytes are.
+fn read(alloc: Global, given: &Node) -> Result<Outcome, CaseFault> {
+    let bytes = bytes_of(alloc, given)?;
+    read_in(alloc, bytes.as_slice())
 }
 
 /// The value at a key, which has to be there.
@@ -99,19 +103,33 @@ fn two_of(node: &Node) -> Result<(&Node, &Node), CaseFault> {
     Ok((first, second))
 }
 
+fn replied(alloc: Global, call: &Call, answer: &Answer) -> Result<Outcome, CaseFault> {
+    Ok(Outcome::bytes(reply_text(alloc, call, answer)?))
+}
+
+fn told_of(alloc: Global, call: &Call, bytes: &[u8]) -> Result<Outcome, CaseFault> {
+    match read_reply(alloc, call, bytes) {
+        Ok(answer) => replied(alloc, call, &answer),
+        Err(fault) => refusal(alloc, &fault),
+    }
+}
+
 // What bytes say as a reply to a call, as the text of that reply.
 fn told(alloc: Global, given: &Node) -> Result<Outcome, CaseFault> {
     let (call, bytes) = two_of(given)?;
-    let (call, bytes) = both(call_of(alloc, call), bytes_of(alloc, bytes))?;
-    match read_reply(alloc, &call, bytes.as_slice()) {
-        Ok(answer) => Ok(Outcome::bytes(reply_text(alloc, &call, &answer)?)),
-        Err(fault) => refusal(alloc, &fault),
-    }
+    let bytes = bytes_of(alloc, bytes)?;
+    let call = call_of(alloc, call)?;
+    told_of(alloc, &call, bytes.as_slice())
+}
+
+fn reply_for(alloc: Global, call: &Call, answer: &Node) -> Result<Outcome, CaseFault> {
+    let answer = answer_of(alloc, answer)?;
+    replied(alloc, call, &answer)
 }
 
 // The text of an answer to a call.
 fn reply(alloc: Global, given: &Node) -> Result<Outcome, CaseFault> {
     let (call, answer) = two_of(given)?;
-    let (call, answer) = both(call_of(alloc, call), answer_of(alloc, answer))?;
-    Ok(Outcome::bytes(reply_text(alloc, &call, &answer)?))
+    let call = call_of(alloc, call)?;
+    reply_for(alloc, &call, answer)
 }
