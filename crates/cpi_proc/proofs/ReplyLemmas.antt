@@ -1,5 +1,5 @@
 -- Replies are read as what they say.
-use Rattle.std.proofs.Common.{◌≡◌, ◌≢◌, ◌≤◌, ◌<◌, ◌^◌, ℕ, zero, suc, Bool, true, false, ◌&&◌, cond, ltb, List, [], ◌∷◌, Option, Some, None, Result, Ok, Err, option_map, option_and_then, codes, refl, sym, ap, subst, ◌∙◌, arith}
+use Rattle.std.proofs.Common.{◌≡◌, ◌≢◌, ◌≤◌, ◌<◌, ◌^◌, ℕ, zero, suc, Bool, true, false, ◌&&◌, cond, ltb, List, [], ◌∷◌, Option, Some, None, Result, Ok, Err, IfOk, option_map, option_and_then, codes, refl, sym, ap, subst, ◌∙◌, arith}
 use Rattle.std.proofs.lemmas.Bool.{and_from, and_parts, lt-ltb, ltb-true}
 use Rattle.std.proofs.lemmas.Slice.Eq.{bytes_eq-Decides}
 use Rattle.std.specs.Option.{is_some}
@@ -408,3 +408,20 @@ reply_is_no_failure (Err (Refused kind)) read before after h = tt
 reply_is_no_failure (Err Memory) read before after h = tt
 reply_is_no_failure (Err SpawnFault) read before after h = absurd h
 reply_is_no_failure (Err TooLong) read before after h = absurd h
+
+-- ---- what a function answers
+
+pub reply_answers : (m : Method) (bytes : List ℕ) (answer : Result Answer PortFault) → GivesReply answer (reply_of m bytes) → IfOk answer (λ a. Replies m bytes a)
+reply_answers m bytes (Ok a) h = answer_is_said m bytes a h
+reply_answers m bytes (Err fault) h = tt
+
+pub reply_refuses : (m : Method) (bytes : List ℕ) (answer : Result Answer PortFault) → GivesReply answer (reply_of m bytes) → (kind : List ℕ) → answer ≡ Err (Refused kind) → Refuses bytes kind
+reply_refuses m bytes answer h kind e = refusal_is_said m bytes kind (subst (λ (x : Result Answer PortFault). GivesReply x (reply_of m bytes)) e h)
+
+-- the bytes say nothing
+pub reply_says_nothing : (m : Method) (bytes : List ℕ) (answer : Result Answer PortFault) → GivesReply answer (reply_of m bytes) → answer ≡ Err NotAReply → ((a : Answer) → Replies m bytes a → ⊥) × ((kind : List ℕ) → Refuses bytes kind → ⊥)
+reply_says_nothing m bytes answer h e =
+    let read : reply_of m bytes ≡ Err NotAReply = subst (λ (x : Result Answer PortFault). GivesReply x (reply_of m bytes)) e h in (
+      λ a said. ok_no a (sym (said_is_read m bytes a said) ∙ read),
+      λ kind refuses. refused_no kind (sym (refused_is_read m bytes kind refuses) ∙ read),
+    )

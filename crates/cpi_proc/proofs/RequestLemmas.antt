@@ -1,5 +1,5 @@
 -- Requests are read as they were written, and the text determines the request.
-use Rattle.std.proofs.Common.{◌≡◌, ◌≤◌, ℕ, zero, suc, Bool, true, false, ◌&&◌, cond, List, [], ◌∷◌, Option, Some, None, codes, decimal, IsUtf8, refl, sym, ap, ap₂, subst, ◌∙◌, arith}
+use Rattle.std.proofs.Common.{◌≡◌, ◌≤◌, ℕ, zero, suc, Bool, true, false, ◌&&◌, cond, List, [], ◌∷◌, Option, Some, None, Result, Ok, Err, IfOk, codes, decimal, IsUtf8, refl, sym, ap, ap₂, subst, ◌∙◌, arith}
 use Rattle.std.proofs.lemmas.Bool.{and_from, and_parts}
 use Rattle.std.proofs.lemmas.Slice.Eq.{bytes_eq-Decides}
 use Rattle.std.proofs.lemmas.Str.{is_utf8-from_IsUtf8}
@@ -22,11 +22,14 @@ use Rattle.cpi_wire.proofs.PlainLemmas.{IsPlain, plain_is_read, plain_is_utf8}
 use Rattle.cpi_wire.proofs.ValueLemmas.{name_law}
 use Rattle.cpi_proc.specs.Call.{arguments, call_from, is_call}
 use Rattle.cpi_proc.specs.Decimal.{number_in}
+use Rattle.cpi_proc.specs.Fault.{GivesRequest}
 use Rattle.cpi_proc.specs.Json.{json_of}
 use Rattle.cpi_proc.specs.Method.{method_data, method_from, named}
 use Rattle.cpi_proc.specs.Object.{first_member, first_two, if_last, is_last}
 use Rattle.cpi_proc.specs.Owner.{is_owner, owner_data, owner_from}
 use Rattle.cpi_proc.specs.Request.{IsRequest, context, context_from, context_of, context_parts, director_from, id_data, id_from, is_director, is_request, request_data, request_from, request_of, request_of_parts, request_parts, wire}
+use Rattle.cpi_proc.specs.declared.fault.PortFault.{PortFault}
+use Rattle.cpi_proc.specs.declared.fault.PortFault.TheVariants.{NotAReply, Memory}
 use Rattle.cpi_proc.specs.declared.request.Request.{Request}
 use Rattle.cpi_proc.proofs.CallLemmas.{call_again, call_plain, call_taken, named_again, named_taken}
 use Rattle.cpi_proc.proofs.DecimalLemmas.{number_again, number_taken}
@@ -282,3 +285,15 @@ read_has_value bytes r e =
 -- the text determines the request
 pub one_request : (a b : Request) → IsRequest a → IsRequest b → wire a ≡ wire b → a ≡ b
 one_request a b p q e = some_is a b (sym (written_is_read a p) ∙ ap request_of e ∙ written_is_read b q)
+
+-- ---- what a function answers
+
+pub request_found : (bytes : List ℕ) (answer : Result Request PortFault) → GivesRequest answer (request_of bytes) → IfOk answer (λ r. IsRequest r × (json_of bytes ≡ json_of (wire r)))
+request_found bytes (Ok r) h = read_has_value bytes r h
+request_found bytes (Err fault) h = tt
+
+pub request_none : (bytes : List ℕ) (answer : Result Request PortFault) → GivesRequest answer (request_of bytes) → answer ≡ Err NotAReply → (r : Request) → IsRequest r → json_of bytes ≡ json_of (wire r) → ⊥
+request_none bytes (Ok x) h e r fits same = cc
+request_none bytes (Err NotAReply) h e r fits same = let read = value_is_read bytes r fits same in cc
+request_none bytes (Err Memory) h e r fits same = cc
+request_none bytes (Err fault) h e r fits same = cc

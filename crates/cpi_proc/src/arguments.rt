@@ -14,6 +14,7 @@ use serde_json::Value;
 use std::alloc::Global;
 
 /// Adds the arguments of a call.
+// Dear to prove: one arm for each of 22 methods.
 #[tactic(auto, unfolding(crate::specs::Call::arguments, crate::specs::Call::is_call))]
 pub(crate) fn write_arguments(call: &Call, out: &mut Vec<u8>) -> Result<(), WireFault>
     ensures ok { OnOk result (out.new.items ≡ out.old.items ++ compact_text (arguments call.now)) }
@@ -126,7 +127,7 @@ fn compile_package(alloc: Global, value: &Value) -> Result<Call, WireFault>
 }
 
 /// The call of a method that has these arguments.
-// One arm for each of 22 methods; those of one number hold nothing where they may leave.
+// Dear to prove: one arm for each of 22 methods. Those of one number hold nothing where they may leave.
 #[tactic(auto, unfolding(crate::specs::Call::call_from))]
 pub(crate) fn read_call(alloc: Global, method: Method, value: &Value) -> Result<Call, WireFault>
     ensures { Gives result (call_from method (view value.now)) }

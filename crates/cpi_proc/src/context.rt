@@ -97,7 +97,8 @@ pub(crate) fn write_context(
     close_context(alloc, owner, n, out)
 }
 
-// The values of `deployment`, `director_uuid`, `owner` and `request_id`, where these are all keys.
+// The values of `deployment`, `director_uuid`, `owner` and `request_id`, where these are all keys. Dear to prove, since the
+// members are gone over.
 fn context_parts(value: &Value) -> Option<(&Value, &Value, &Value, &Value)>
     ensures { option_map (λ p. (view p.0.now, view p.1.now, view p.2.now, view p.3.now)) result ≡ context_parts (view value.now) }
 {

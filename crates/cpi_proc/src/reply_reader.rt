@@ -1,11 +1,13 @@
-ghost use Rattle.std.specs.Prelude.{◌≡◌, Err, option_map};
+ghost use Rattle.std.specs.Prelude.{◌≡◌, List, ℕ, Err, IfOk, option_map};
 ghost use Rattle.bosh_base.specs.Call.{method_of};
+ghost use Rattle.bosh_base.specs.declared.answer.Answer.{Answer};
 ghost use Rattle.serde_json.specs.Data.{null};
 ghost use Rattle.serde_json.specs.View.{view};
 ghost use Rattle.cpi_wire.specs.Choice.{is_option};
 ghost use Rattle.cpi_wire.specs.Reading.{Gives};
 ghost use Rattle.cpi_proc.specs.Object.{value_at};
-ghost use Rattle.cpi_proc.specs.Reply.{GivesReply, answer_from, built_from, by_error, by_type, cid_from, disks_from, done_from, facts_from, flag_answer_from, found_from, is_count, or_refused, reply_from, reply_of, type_of};
+ghost use Rattle.cpi_proc.specs.Reply.{GivesReply, Refuses, Replies, answer_from, built_from, by_error, by_type, cid_from, disks_from, done_from, facts_from, flag_answer_from, found_from, is_count, or_refused, reply_from, reply_of, type_of};
+ghost use Rattle.cpi_proc.specs.declared.fault.PortFault.TheVariants.{NotAReply, Refused};
 
 use crate::fault::PortFault;
 use crate::json_value::value_of;
@@ -193,15 +195,25 @@ fn reply_in(alloc: Global, method: Method, reply: &Value) -> Result<Answer, Port
     by_error(alloc, method, error, value)
 }
 
-/// What a text says as a reply to a call: an answer of the call's kind; `Refused` where it has an error of another type than
-/// `Gone`; `NotAReply` where it says neither.
 #[tactic(auto, unfolding(crate::specs::Reply::reply_of))]
-pub fn read_reply(alloc: Global, call: &Call, bytes: &[u8]) -> Result<Answer, PortFault>
-    ensures { GivesReply result (reply_of (method_of call.now) bytes.now) }
+fn reply_of(alloc: Global, method: Method, bytes: &[u8]) -> Result<Answer, PortFault>
+    ensures { GivesReply result (reply_of method bytes.now) }
 {
     match value_of(alloc, bytes) {
-        Ok(value) => reply_in(alloc, call.method(), &value),
+        Ok(value) => reply_in(alloc, method, &value),
         Err(WireFault::NotAValue) => Err(PortFault::NotAReply),
         Err(WireFault::Memory) => Err(PortFault::Memory),
     }
+}
+
+/// What a text says as a reply to a call: an answer of the call's kind; `Refused` where it has an error of another type than
+/// `Gone`; `NotAReply` where it says neither.
+pub fn read_reply(alloc: Global, call: &Call, bytes: &[u8]) -> Result<Answer, PortFault>
+    ensures answers { IfOk result (λ answer. Replies (method_of call.now) bytes.now answer) }
+    ensures refuses { (kind : List ℕ) → result ≡ Err (Refused kind) → Refuses bytes.now kind }
+    ensures none { result ≡ Err NotAReply
+        → ((answer : Answer) → Replies (method_of call.now) bytes.now answer → ⊥) × ((kind : List ℕ) → Refuses bytes.now kind → ⊥) }
+    ensures exact { GivesReply result (reply_of (method_of call.now) bytes.now) }
+{
+    reply_of(alloc, call.method(), bytes)
 }

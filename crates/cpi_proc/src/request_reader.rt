@@ -1,8 +1,11 @@
-ghost use Rattle.std.specs.Prelude.{◌≡◌, option_map};
+ghost use Rattle.std.specs.Prelude.{◌≡◌, Err, IfOk, option_map};
 ghost use Rattle.serde_json.specs.View.{view};
 ghost use Rattle.cpi_wire.specs.Reading.{Gives};
-ghost use Rattle.cpi_proc.specs.Request.{request_from, request_of, request_parts};
+ghost use Rattle.cpi_proc.specs.Request.{IsRequest, request_from, request_of, request_parts, wire};
 ghost use Rattle.cpi_proc.specs.Fault.{GivesRequest};
+ghost use Rattle.cpi_proc.specs.Json.{json_of};
+ghost use Rattle.cpi_proc.specs.declared.fault.PortFault.TheVariants.{NotAReply};
+ghost use Rattle.cpi_proc.specs.declared.request.Request.{Request};
 
 use crate::arguments::read_call;
 use crate::context::read_context;
@@ -15,7 +18,7 @@ use cpi_wire::WireFault;
 use serde_json::Value;
 use std::alloc::Global;
 
-// The values of `arguments`, `context` and `method`, where these are all keys.
+// The values of `arguments`, `context` and `method`, where these are all keys. Dear to prove, since the members are gone over.
 fn request_parts(value: &Value) -> Option<(&Value, &Value, &Value)>
     ensures { option_map (λ p. (view p.0.now, view p.1.now, view p.2.now)) result ≡ request_parts (view value.now) }
 {
@@ -28,6 +31,7 @@ fn request_parts(value: &Value) -> Option<(&Value, &Value, &Value)>
     Some((arguments, context, method))
 }
 
+// Dear to prove: what was read is alive where the rest may be refused.
 #[tactic(auto, unfolding(crate::specs::Request::request_from))]
 fn request_in(alloc: Global, value: &Value) -> Result<Request, WireFault>
     ensures { Gives result (request_from (view value.now)) }
@@ -54,9 +58,17 @@ fn request_of(alloc: Global, bytes: &[u8]) -> Result<Request, WireFault>
     request_in(alloc, &value)
 }
 
-/// The request that a text spells, however it is spelled: `NotAReply` where its JSON value is that of no request's text.
-pub fn read_request(alloc: Global, bytes: &[u8]) -> Result<Request, PortFault>
+fn request_or_fault(alloc: Global, bytes: &[u8]) -> Result<Request, PortFault>
     ensures { GivesRequest result (request_of bytes.now) }
 {
     Ok(request_of(alloc, bytes)?)
+}
+
+/// The request that a text spells, however it is spelled: `NotAReply` where its JSON value is that of no request's text.
+pub fn read_request(alloc: Global, bytes: &[u8]) -> Result<Request, PortFault>
+    ensures found { IfOk result (λ r. IsRequest r × (json_of bytes.now ≡ json_of (wire r))) }
+    ensures none { result ≡ Err NotAReply → (r : Request) → IsRequest r → json_of bytes.now ≡ json_of (wire r) → ⊥ }
+    ensures exact { GivesRequest result (request_of bytes.now) }
+{
+    request_or_fault(alloc, bytes)
 }

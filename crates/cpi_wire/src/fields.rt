@@ -68,6 +68,7 @@ pub fn write_three<A: Wired, B: Wired, C: Wired>(
 }
 
 /// Adds an array of five fields.
+// Dear to prove, as are that of three and their readers; each is proved once, for all structs of that many fields.
 pub(crate) fn write_five<A: Wired, B: Wired, C: Wired, D: Wired, E: Wired>(
     first: &A,
     second: &B,
