@@ -54,7 +54,7 @@ fn properties(alloc: Global, node: &Node) -> Result<Node, CaseFault> {
     }
 }
 
-fn setting(alloc: Global, node: &Node) -> Result<Setting, CaseFault> {
+fn looked_up(alloc: Global, node: &Node) -> Result<Setting, CaseFault> {
     let own = four(alloc, node, ["dep", "group", "az", "declared"]);
     let looked_up = both(properties(alloc, node), links(alloc, node));
     let ((dep, group, az, declared), (given, links)) = both(own, looked_up)?;
@@ -131,7 +131,7 @@ pub(crate) fn text(
     given: &Node,
 ) -> Result<Outcome, CaseFault> {
     let (index, addr) = two(alloc, given_setting, ["index", "addr"])?;
-    let (template, setting) = both(Text::of(alloc, given), setting(alloc, given_setting))?;
+    let (template, setting) = both(Text::of(alloc, given), looked_up(alloc, given_setting))?;
     match rendered(alloc, template.as_slice(), &setting, index, addr) {
         Ok(text) => Ok(Outcome::bytes(Vec::from_slice(alloc, text.as_slice())?)),
         Err(fault) => refusal(alloc, &fault),
