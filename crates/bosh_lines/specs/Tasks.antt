@@ -19,7 +19,7 @@ opens_task command = false
 abbrev pub is_answered_on_a_halted_site : Command → Bool
 is_answered_on_a_halted_site (File path) = true
 is_answered_on_a_halted_site (FailCall doom) = true
-is_answered_on_a_halted_site (FailStore fate appends) = true
+is_answered_on_a_halted_site (FailStore outcome appends) = true
 is_answered_on_a_halted_site (StopCall stop) = true
 is_answered_on_a_halted_site (StopStore when appends) = true
 is_answered_on_a_halted_site (Together count) = true
