@@ -131,7 +131,7 @@ fn add_links<'a>(
     dep: &'a Name,
     group: &Sited<'a>,
     used: &UsedJob<'a>,
-    job: &JobEnv<'a>,
+    job: &JobEnv<'a, 'a>,
     said: &Table<'a, &'a Provide>,
     offers: &mut Vec<Offer>,
 ) -> Result<(), CopyFault>

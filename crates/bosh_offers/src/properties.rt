@@ -14,7 +14,7 @@ pub(crate) fn giving<'a>(
     dep: &'a Name,
     group: &'a Name,
     used: &UsedJob<'a>,
-) -> Result<JobEnv<'a>, AllocError>
+) -> Result<JobEnv<'a, 'a>, AllocError>
     ensures { IfOk result (λ job. job ≡ giving dep.now group.now used.now) }
 {
     let declared = used.spec().properties.as_slice();

@@ -100,17 +100,17 @@ impl<'a> LinkEnv<'a> {
 
 /// What the templates of a job look up, in any instance of its group.
 #[derive(Drop)]
-pub struct JobEnv<'a> {
+pub struct JobEnv<'a, 'l> {
     dep: &'a Name,
     group: &'a Name,
     declared: &'a [PropSpec],
     declared_by_name: Table<'a, &'a PropSpec>,
     given: &'a Node,
-    links: &'a [LinkEnv<'a>],
-    links_by_name: Table<'a, &'a LinkEnv<'a>>,
+    links: &'l [LinkEnv<'a>],
+    links_by_name: Table<'l, &'l LinkEnv<'a>>,
 }
 
-impl<'a> Model for JobEnv<'a> {
+impl<'a, 'l> Model for JobEnv<'a, 'l> {
     ghost use Rattle.std.specs.Coded.{codes};
     ghost use Rattle.bosh_lookup.specs.Table.{IsTable};
     ghost use Rattle.bosh_yaml.specs.Code.{tree_code};
@@ -133,7 +133,7 @@ impl<'a> Model for JobEnv<'a> {
         × IsTable link_name job.links.now job.links_by_name };
 }
 
-impl<'a> JobEnv<'a> {
+impl<'a, 'l> JobEnv<'a, 'l> {
     /// A job of a group, with the properties that its specification declares, those that the manifest gives to it, and its
     /// links that have a provider.
     pub fn of(
@@ -142,8 +142,8 @@ impl<'a> JobEnv<'a> {
         group: &'a Name,
         declared: &'a [PropSpec],
         given: &'a Node,
-        links: &'a [LinkEnv<'a>],
-    ) -> Result<JobEnv<'a>, AllocError>
+        links: &'l [LinkEnv<'a>],
+    ) -> Result<JobEnv<'a, 'l>, AllocError>
         ensures { IfOk result (λ job. job ≡ record {
           dep = dep.now;
           group = group.now;
@@ -192,7 +192,7 @@ impl<'a> JobEnv<'a> {
     }
 
     /// The link of a name.
-    pub(crate) fn link(&self, name: &Text) -> Option<&'a LinkEnv<'a>>
+    pub(crate) fn link(&self, name: &Text) -> Option<&'l LinkEnv<'a>>
         ensures { option_copied result ≡ find (λ link. bytes_eq link.name name.now) self.now.links }
     {
         find(&self.links_by_name, name.as_slice())
@@ -201,14 +201,14 @@ impl<'a> JobEnv<'a> {
 
 /// What a template of a job is rendered with, for one instance.
 #[derive(Drop)]
-pub struct Env<'a> {
-    job: &'a JobEnv<'a>,
+pub struct Env<'a, 'l, 'e> {
+    job: &'e JobEnv<'a, 'l>,
     index: u32,
-    az: &'a Name,
+    az: &'e Name,
     addr: Addr,
 }
 
-impl<'a> Model for Env<'a> {
+impl<'a, 'l, 'e> Model for Env<'a, 'l, 'e> {
     ghost use Rattle.std.specs.Coded.{codes};
     ghost use Rattle.bosh_yaml.specs.Code.{tree_code};
     ghost use Rattle.bosh_template.specs.Environment.{Env};
@@ -220,9 +220,9 @@ impl<'a> Model for Env<'a> {
     ghost view = { λ env. record { job = env.job.now; index = env.index; az = env.az.now; addr = env.addr } };
 }
 
-impl<'a> Env<'a> {
+impl<'a, 'l, 'e> Env<'a, 'l, 'e> {
     /// An instance by its index in its group, from 0, with its availability zone and its address on the gateway's network.
-    pub fn of(job: &'a JobEnv<'a>, index: u32, az: &'a Name, addr: Addr) -> Env<'a>
+    pub fn of(job: &'e JobEnv<'a, 'l>, index: u32, az: &'e Name, addr: Addr) -> Env<'a, 'l, 'e>
         ensures { result ≡ record { job = job.now; index = index; az = az.now; addr = addr } }
     {
         Env {
@@ -233,7 +233,7 @@ impl<'a> Env<'a> {
         }
     }
 
-    pub(crate) fn job(&self) -> &'a JobEnv<'a>
+    pub(crate) fn job(&self) -> &'e JobEnv<'a, 'l>
         ensures { result.now ≡ self.now.job }
     {
         self.job
@@ -245,7 +245,7 @@ impl<'a> Env<'a> {
         self.index
     }
 
-    pub(crate) fn az(&self) -> &'a Name
+    pub(crate) fn az(&self) -> &'e Name
         ensures { result.now ≡ self.now.az }
     {
         self.az

@@ -138,7 +138,11 @@ fn add_word(
 }
 
 // The link of a name, or the refusal where it has no provider.
-fn tied<'a>(alloc: Global, job: &JobEnv<'a>, name: &Text) -> Result<&'a LinkEnv<'a>, TemplateFault>
+fn tied<'a, 'l>(
+    alloc: Global,
+    job: &JobEnv<'a, 'l>,
+    name: &Text,
+) -> Result<&'l LinkEnv<'a>, TemplateFault>
     ensures ok { IfOk result (λ link. link_named job.now name.now ≡ Some link.now) }
     ensures err { IfErr result (λ fault. (fault ≡ Memory) ⊎ ((fault ≡ NoLink name.now) × (link_named job.now name.now ≡ None))) }
 {
