@@ -78,7 +78,7 @@ fn offers_by_provider<'a>(
     Ok(table)
 }
 
-fn socket_at<'a>(spot: Spot<'a>) -> Socket<'a>
+fn socket_at<'o, 'a: 'o>(spot: Spot<'a>) -> Socket<'o>
     ensures { Stands (spot_joint spot.entry) spot.entry.link.now.kind result }
 {
     Socket {
@@ -113,7 +113,7 @@ impl<'a> Offered<'a> {
     }
 
     /// The offer that a link is tied to, where it has a tie.
-    pub fn of_link(&self, spot: Spot<'a>) -> Option<&'a Offer>
+    pub fn of_link<'s: 'a>(&self, spot: Spot<'s>) -> Option<&'a Offer>
         ensures { option_copied result ≡ offer_at self.now (spot_joint spot.entry) spot.entry.link.now.kind }
     {
         match first_of(&self.by_consumer, socket_at(spot)) {
@@ -124,11 +124,11 @@ impl<'a> Offered<'a> {
 }
 
 // What a link gives to the templates of its job, where it has a tie.
-fn link_env<'a>(
+fn link_env<'o, 'a: 'o>(
     alloc: Global,
-    offered: &Offered<'a>,
+    offered: &Offered<'o>,
     spot: Spot<'a>,
-) -> Result<Option<LinkEnv<'a>>, AllocError>
+) -> Result<Option<LinkEnv<'o>>, AllocError>
     ensures { IfOk result (λ found. found ≡ option_map (env_of spot.entry.link.now)
         (offer_at offered.now (spot_joint spot.entry) spot.entry.link.now.kind)) }
 {
@@ -142,13 +142,13 @@ fn link_env<'a>(
 }
 
 /// Those of the links that a job consumes which have a tie, in the order of its specification.
-pub fn links<'a>(
+pub fn links<'o, 'a: 'o>(
     alloc: Global,
-    offered: &Offered<'a>,
+    offered: &Offered<'o>,
     dep: &'a Name,
     group: &'a Name,
     used: &UsedJob<'a>,
-) -> Result<Vec<LinkEnv<'a>>, AllocError>
+) -> Result<Vec<LinkEnv<'o>>, AllocError>
     ensures { IfOk result (λ links. links.items ≡ job_links offered.now dep.now group.now used.now) }
 {
     let mut links = Vec::new(alloc);

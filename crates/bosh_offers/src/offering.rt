@@ -129,7 +129,7 @@ fn add_links<'a>(
     alloc: Global,
     choice: Choice,
     dep: &'a Name,
-    group: &Sited<'a>,
+    group: &Sited<'a, '_>,
     used: &UsedJob<'a>,
     job: &JobEnv<'a, 'a>,
     said: &Table<'a, &'a Provide>,
@@ -153,7 +153,7 @@ fn add_job<'a>(
     alloc: Global,
     choice: Choice,
     dep: &'a Name,
-    group: &Sited<'a>,
+    group: &Sited<'a, '_>,
     used: &UsedJob<'a>,
     offers: &mut Vec<Offer>,
 ) -> Result<(), CopyFault>
@@ -168,7 +168,7 @@ fn add_group<'a>(
     alloc: Global,
     choice: Choice,
     dep: &'a Name,
-    group: &Sited<'a>,
+    group: &Sited<'a, '_>,
     offers: &mut Vec<Offer>,
 ) -> Result<(), CopyFault>
     ensures { OnOk result (offers.new.items ≡ offers.old.items ++ group_offers choice dep.now group.now) }
@@ -186,7 +186,7 @@ pub fn offers<'a>(
     alloc: Global,
     choice: Choice,
     dep: &'a Name,
-    groups: &[Sited<'a>],
+    groups: &[Sited<'a, '_>],
 ) -> Result<Seq<Offer>, CopyFault>
     ensures { IfOk result (λ all. all ≡ offers choice dep.now groups.now) }
 {

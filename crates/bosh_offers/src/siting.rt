@@ -10,12 +10,12 @@ use std::marker::Model;
 
 /// A group, with the addresses of each of its instances in the order of the networks.
 #[derive(Drop)]
-pub struct Sited<'a> {
-    used: &'a UsedGroup<'a>,
-    instances: Vec<&'a [Addr]>,
+pub struct Sited<'a, 'n> {
+    used: &'n UsedGroup<'a>,
+    instances: Vec<&'n [Addr]>,
 }
 
-impl<'a> Model for Sited<'a> {
+impl<'a, 'n> Model for Sited<'a, 'n> {
     ghost use Rattle.std.specs.Prelude.{map};
     ghost use Rattle.std.specs.Coded.{codes};
     ghost use Rattle.bosh_yaml.specs.Code.{tree_code};
@@ -31,15 +31,15 @@ impl<'a> Model for Sited<'a> {
     } };
 }
 
-impl<'a> Sited<'a> {
-    pub fn used(&self) -> &'a UsedGroup<'a>
+impl<'a, 'n> Sited<'a, 'n> {
+    pub fn used(&self) -> &'n UsedGroup<'a>
         ensures { result.now ≡ self.now.used }
     {
         self.used
     }
 
     /// The addresses of each instance, by index.
-    pub fn instances(&self) -> &[&'a [Addr]]
+    pub fn instances(&self) -> &[&'n [Addr]]
         ensures { map (λ own. own.now) result.now ≡ self.now.instances }
     {
         self.instances.as_slice()
@@ -99,18 +99,18 @@ fn beyond(count: u32, width: usize, addrs: &[Addr]) -> &[Addr]
     others
 }
 
-fn after_group<'a>(used: &UsedGroup<'a>, addrs: &'a [Addr]) -> &'a [Addr]
+fn after_group<'n>(used: &UsedGroup, addrs: &'n [Addr]) -> &'n [Addr]
     ensures { result.now ≡ after_group used.now addrs.now }
 {
     let group = used.group();
     beyond(group.instances, group.networks.len(), addrs)
 }
 
-fn site<'a>(
+fn site<'a, 'n>(
     alloc: Global,
-    used: &'a UsedGroup<'a>,
-    addrs: &'a [Addr],
-) -> Result<Sited<'a>, AllocError>
+    used: &'n UsedGroup<'a>,
+    addrs: &'n [Addr],
+) -> Result<Sited<'a, 'n>, AllocError>
     ensures { IfOk result (λ group. group ≡ site used.now addrs.now) }
 {
     let group = used.group();
@@ -120,11 +120,11 @@ fn site<'a>(
 
 /// Groups with the addresses of their instances. The addresses stand by group, by index and by network, in the order of the
 /// groups.
-pub fn sites<'a>(
+pub fn sites<'a, 'n>(
     alloc: Global,
-    groups: &'a [UsedGroup<'a>],
-    addrs: &'a [Addr],
-) -> Result<Vec<Sited<'a>>, AllocError>
+    groups: &'n [UsedGroup<'a>],
+    addrs: &'n [Addr],
+) -> Result<Vec<Sited<'a, 'n>>, AllocError>
     ensures { IfOk result (λ all. all.items ≡ sites groups.now addrs.now) }
 {
     let mut all = Vec::new(alloc);

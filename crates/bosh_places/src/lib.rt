@@ -12,4 +12,4 @@ pub use holding::kept;
 pub use plan::plans;
 pub use statics::check_counts;
 pub use wanting::wants;
-pub use zone::zone_of;
+pub use zone::{row_of, zone_of};

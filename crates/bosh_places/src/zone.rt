@@ -15,7 +15,7 @@ fn is_inst(inst: &Inst, dep: &Name, group: &Group, index: u32) -> bool
 }
 
 /// What is recorded of an instance.
-pub(crate) fn row_of<'a>(rows: &'a [Row], dep: &Name, group: &Group, index: u32) -> Option<&'a Row>
+pub fn row_of<'a>(rows: &'a [Row], dep: &Name, group: &Group, index: u32) -> Option<&'a Row>
     ensures { option_copied result ≡ row_of rows.now (inst_of dep.now group.now index) }
 {
     rows.iter()

@@ -10,8 +10,8 @@ use Rattle.bosh_base.specs.declared.goal.Goal.{Goal}
 use Rattle.bosh_base.specs.declared.goal.GoalRow.{GoalRow}
 use Rattle.bosh_base.specs.declared.inst.Inst.{Inst}
 use Rattle.first_fold.proofs.InstLemmas.{same_inst-Decides}
-use Rattle.bosh_goal.proofs.RowLemmas.{row_at}
-use Rattle.bosh_goal.specs.Bare.{bare_goal, bare_plan, bare_row, inst_of}
+use Rattle.first_goal.proofs.RowLemmas.{row_at}
+use Rattle.first_goal.specs.Bare.{bare_goal, bare_plan, bare_row, inst_of}
 use Rattle.first_history.specs.Goals as goals
 use Rattle.first_history.specs.Goals.{IsSound}
 use Rattle.first_history.specs.Records.{goal_of}

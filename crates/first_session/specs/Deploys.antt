@@ -11,7 +11,7 @@ use Rattle.bosh_base.specs.declared.moves.Move.TheVariants.{Note}
 use Rattle.bosh_base.specs.declared.reply.Reply.{Reply}
 use Rattle.bosh_base.specs.declared.reply.Reply.TheVariants.{TaskFinished}
 use Rattle.first_crew.specs.Work.{IsFull, IsWork}
-use Rattle.bosh_goal.specs.Bare.{bare_goal}
+use Rattle.first_goal.specs.Bare.{bare_goal}
 use Rattle.first_history.specs.Moves.{nothing, durable, is_halted}
 use Rattle.first_history.specs.Records.{goal_of, is_task_open}
 use Rattle.first_manifest.specs.declared.bare.BareManifest.{BareManifest}

@@ -3,7 +3,7 @@ ghost use Rattle.first_session.specs.Status.{code_of, of_input};
 ghost use Rattle.first_session.specs.declared.status.Status.TheVariants.{Memory};
 
 use bosh_base::CopyFault;
-use bosh_goal::GoalFault;
+use first_goal::GoalFault;
 use bosh_report::ReportFault;
 use first_input::InputFault;
 use std::alloc::{AllocError, AllocFailed};

@@ -1,0 +1,2 @@
+pub mod ParsedLemmas
+pub mod TakenLemmas

@@ -1,0 +1,4 @@
+pub mod Parsed
+pub mod Gathered
+pub mod Budget
+pub mod Files
