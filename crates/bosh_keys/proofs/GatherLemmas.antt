@@ -22,6 +22,7 @@ use Rattle.bosh_compile.specs.Readiness.{same_key}
 use Rattle.bosh_release_files.specs.Files.{in_order}
 use Rattle.bosh_keys.specs.Once.{Adds, AreSeen, IsGathered, has_work, with_work, with_works}
 use Rattle.bosh_keys.specs.declared.gathered.Gathered.{Gathered}
+use Rattle.bosh_keys.proofs.KeyLemmas.{is_eq-key_cmp}
 
 -- ---- one thing after another
 
@@ -81,19 +82,6 @@ Adds-asked asked old new works seen keys = record {
 
 -- ---- a package
 
-is_eq-then : (a b : Ordering) → is_eq (ordering_then a b) ≡ (is_eq a && is_eq b)
-is_eq-then Less b = refl
-is_eq-then Equal b = refl
-is_eq-then Greater b = refl
-
-is_eq-key_cmp : (a b : Key) → is_eq (key_cmp a b) ≡ same_key a b
-is_eq-key_cmp a b =
-    is_eq-then (slice_cmp nat_cmp a.fingerprint.0 b.fingerprint.0) (ordering_then (slice_cmp nat_cmp a.os b.os) (slice_cmp nat_cmp a.version b.version))
-    ∙ ap (λ (t : Bool). is_eq (slice_cmp nat_cmp a.fingerprint.0 b.fingerprint.0) && t) (is_eq-then (slice_cmp nat_cmp a.os b.os) (slice_cmp nat_cmp a.version b.version))
-    ∙ ap (λ (t : Bool). t && (is_eq (slice_cmp nat_cmp a.os b.os) && is_eq (slice_cmp nat_cmp a.version b.version))) (is_eq-slice_cmp a.fingerprint.0 b.fingerprint.0)
-    ∙ ap (λ (t : Bool). bytes_eq a.fingerprint.0 b.fingerprint.0 && (t && is_eq (slice_cmp nat_cmp a.version b.version))) (is_eq-slice_cmp a.os b.os)
-    ∙ ap (λ (t : Bool). bytes_eq a.fingerprint.0 b.fingerprint.0 && (bytes_eq a.os b.os && t)) (is_eq-slice_cmp a.version b.version)
-
 pub Adds-seen : (work : KeyWork) (gathered : Gathered) → contains key_cmp gathered.seen work.key ≡ true → Adds (work ∷ []) [] gathered gathered
 Adds-seen work gathered seen = record {
   gathers = λ before keys is.
@@ -149,7 +137,7 @@ inserted_now (x ∷ xs) k = at (slice_cmp nat_cmp k.now x.now) (inserted_now xs 
         ≡ insert_key (slice_cmp nat_cmp) (map (λ (name : Bor (List ℕ)). name.now) xs) k.now
         → map (λ (name : Bor (List ℕ)). name.now) (match_ordering o (k ∷ x ∷ xs) (x ∷ xs) (x ∷ insert_key (λ a b. slice_cmp nat_cmp a.now b.now) xs k))
         ≡ match_ordering o (k.now ∷ x.now ∷ map (λ (name : Bor (List ℕ)). name.now) xs) (x.now ∷ map (λ (name : Bor (List ℕ)). name.now) xs)
-            (x.now ∷ insert_key (slice_cmp nat_cmp) (map (λ (name : Bor (List ℕ)). name.now) xs) k.now)
+        (x.now ∷ insert_key (slice_cmp nat_cmp) (map (λ (name : Bor (List ℕ)). name.now) xs) k.now)
     at Less more = refl
     at Equal more = refl
     at Greater more = ap (λ names. x.now ∷ names) more

@@ -35,7 +35,6 @@ key_at release stemcell name key h = at (named package_name release.packages nam
 
 module _ (releases : List Release) (alike : AreAlike releases) (sound : All IsSound releases)
     (works : List KeyWork) (are : (work : KeyWork) → Contains works work → IsOneOf releases work) where
-
   module _ (release : Release) (stemcell : Stemcell) (there : Contains releases release) where
     -- a work that a package needs is that of a package of its release, which it lists
     needed_of : (pack : PackageSpec) → Contains release.packages pack → (other : KeyWork) → Contains works other → Needs (work_of release stemcell pack) other
@@ -47,7 +46,7 @@ module _ (releases : List Release) (alike : AreAlike releases) (sound : All IsSo
         let keys : key_of stemcell dep ≡ key_of one.stemcell one.pack = same_key ∙ ap (λ (work : KeyWork). work.key) one.is in
         let of : IsOf releases release dep = record { release_there = there; package_there = known } in
         let lists : Lists release.packages pack.name dep.name =
-            (pack, within, refl, subst (Contains pack.deps) (sym same_name) (in_order_from pack.deps name listed)) in
+        (pack, within, refl, subst (Contains pack.deps) (sym same_name) (in_order_from pack.deps name listed)) in
         (dep, known, lists, one_work releases alike sound release one.release stemcell one.stemcell dep one.pack of one.is_of keys ∙ sym one.is)
 
     grounded_within :

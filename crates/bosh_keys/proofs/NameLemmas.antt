@@ -144,8 +144,8 @@ one_list (x ∷ xs) [] h k to from = absurd (none_in x (to x (here x xs)))
 one_list (x ∷ xs) (y ∷ ys) h k to from =
     let first : x ≡ y = heads (first_or_other y x ys (to x (here x xs))) (first_or_other x y xs (from y (here y ys))) in
     let rest : xs ≡ ys = one_list xs ys h.1 k.1
-        (λ n c. onward first n c (first_or_other y n ys (to n (there x n xs c))))
-        (λ n c. back first n c (first_or_other x n xs (from n (there y n ys c)))) in
+    (λ n c. onward first n c (first_or_other y n ys (to n (there x n xs c))))
+    (λ n c. back first n c (first_or_other x n xs (from n (there y n ys c)))) in
     λ i. first i ∷ rest i
   where
     heads : (y ≡ x) ⊎ Contains ys x → (x ≡ y) ⊎ Contains xs y → x ≡ y

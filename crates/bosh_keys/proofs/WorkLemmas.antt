@@ -104,10 +104,10 @@ module _ (releases : List Release) (alike : AreAlike releases) (sound : All IsSo
       let print = known.0.fingerprint in
       let mine : print_in release name ≡ Some print = print_of_named release name known.0 known.1 in
       let (name', listed', prints) = given_from (print_in other_release) other.deps print
-          ((one.deps print).0 (given_into (print_in release) pack.deps name print listed mine)) in
+      ((one.deps print).0 (given_into (print_in release) pack.deps name print listed mine)) in
       let (pack', there', named', printed') = behind other_release name' print prints in
       let both = alike release other_release known.0 pack'
-          (record { release_there = p.release_there; package_there = found.0 }) (record { release_there = q.release_there; package_there = there' }) (sym printed') in
+      (record { release_there = p.release_there; package_there = found.0 }) (record { release_there = q.release_there; package_there = there' }) (sym printed') in
       let same : name' ≡ name = sym named' ∙ (sym both.name ∙ found.1) in
       (subst (Contains other.deps) same listed', mine ∙ sym (subst (λ n. print_in other_release n ≡ Some print) same prints))
 
@@ -150,7 +150,7 @@ module _ (releases : List Release) (alike : AreAlike releases) (sound : All IsSo
   pub one_of_key : (one other : KeyWork) → IsOneOf releases one → IsOneOf releases other → one.key ≡ other.key → one ≡ other
   one_of_key one other a b same =
       let keys : key_of a.stemcell a.pack ≡ key_of b.stemcell b.pack =
-          sym (ap (λ (work : KeyWork). work.key) a.is) ∙ (same ∙ ap (λ (work : KeyWork). work.key) b.is) in
+      sym (ap (λ (work : KeyWork). work.key) a.is) ∙ (same ∙ ap (λ (work : KeyWork). work.key) b.is) in
       a.is ∙ (one_work a.release b.release a.stemcell b.stemcell a.pack b.pack a.is_of b.is_of keys ∙ sym b.is)
 
 -- ---- the works of groups

@@ -118,12 +118,7 @@ impl Gathered {
     {
         let packages = Packages::of(alloc, used.release())?;
         self.add_packages(alloc, &packages, stemcell)?;
-        self.add_asked(
-            alloc,
-            &packages,
-            stemcell,
-            used.spec().packages.as_slice(),
-        )
+        self.add_asked(alloc, &packages, stemcell, used.spec().packages.as_slice())
     }
 
     fn add_group(&mut self, alloc: Global, group: &UsedGroup<'_>) -> Result<(), CopyFault>

@@ -4,7 +4,8 @@
 mod deployment;
 mod gathered;
 mod key;
-
+mod laws;
 mod packages;
 
 pub use deployment::keys;
+pub use laws::{keys_are_determined, used_releases_are_alike, used_releases_are_sound};

@@ -19,7 +19,7 @@ loop-name-preserved c =
     let new : Gathered = record { works = old.works; seen = old.seen; asked = c.add_key.new.keys } in
     let added = subst (λ (n : List ℕ). c.add_key.new.keys.items ≡ old.asked.items ++ keys_named release stemcell (n ∷ [])) c.as_bytes.ensures.bytes c.in_ok-add_key.ensures in
     let more = ap (keys_named release stemcell) (one_more names i name c.loop-name-test.true c.name-item.is)
-        ∙ filter_map-append (key_named release stemcell) (take i names) (name ∷ []) in
+    ∙ filter_map-append (key_named release stemcell) (take i names) (name ∷ []) in
     subst (λ (keys : List Key). Adds [] keys c.args.self.now new) (sym more)
     (Adds-then [] [] (keys_named release stemcell (take i names)) (keys_named release stemcell (name ∷ [])) c.args.self.now old new c.loop-name.invariant
     (Adds-asked (keys_named release stemcell (name ∷ [])) old new refl refl added))

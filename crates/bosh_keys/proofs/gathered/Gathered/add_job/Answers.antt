@@ -23,7 +23,7 @@ returns c =
     let release : c.in_ok-packages.packages ≡ used.release = c.in_ok-packages.ensures ∙ c.release.ensures in
     let names : c.as_slice.result.now ≡ used.spec.packages = c.as_slice.ensures ∙ ap (λ (spec : JobSpec). spec.packages) c.spec.ensures in
     let first : Adds (job_works stemcell used) [] old mid =
-        subst (λ (r : Release). Adds (map (work_of r stemcell) r.packages) [] old mid) release c.in_ok-add_packages.ensures in
+    subst (λ (r : Release). Adds (map (work_of r stemcell) r.packages) [] old mid) release c.in_ok-add_packages.ensures in
     on_ok (Adds [] (keys_named c.in_ok-packages.packages stemcell c.as_slice.result.now) mid new) (Adds (job_works stemcell used) (job_keys stemcell used) old new)
     c.add_asked.result
     (λ second.
