@@ -1,10 +1,9 @@
 -- What is to be compiled of the works, each key once, is what is to be compiled of all works.
-use Rattle.std.proofs.Common.{◌≡◌, List, subst}
+use Rattle.std.proofs.Common.{List, subst}
 use Rattle.std.specs.Prelude.{All, Contains}
 use Rattle.bosh_alike.specs.Alike.{AreAlike}
 use Rattle.bosh_base.specs.declared.key.Key.{Key}
 use Rattle.bosh_base.specs.declared.key.KeyWork.{KeyWork}
-use Rattle.bosh_base.specs.declared.release.Release.{Release}
 use Rattle.bosh_compile.specs.Level.{IsAcyclic}
 use Rattle.bosh_needed.specs.Needed.{AreNeeded}
 use Rattle.bosh_release.specs.Sound.{IsSound}

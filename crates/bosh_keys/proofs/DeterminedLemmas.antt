@@ -1,5 +1,5 @@
 -- The keys of a deployment are determined: the same works, by the same levels, in one order.
-use Rattle.std.proofs.Common.{◌≡◌, ◌≢◌, ◌⊎◌, ◌∙◌, ℕ, suc, ◌≤◌, ◌<◌, Bool, true, false, cond, List, [], ◌∷◌, length, get_or, arith, refl, sym, subst, ap, inl, inr, true≢false}
+use Rattle.std.proofs.Common.{◌≡◌, ◌≢◌, ◌⊎◌, ◌∙◌, ℕ, suc, ◌≤◌, ◌<◌, Bool, false, cond, List, [], ◌∷◌, length, get_or, arith, refl, sym, subst, ap, inl, inr, true≢false}
 use Rattle.std.specs.Prelude.{All, Contains}
 use Rattle.std.specs.Cmp.{IsTotalOrder}
 use Rattle.std.specs.List.Sorted.{IsSorted}
@@ -15,17 +15,16 @@ use Rattle.bosh_alike.specs.Alike.{AreAlike}
 use Rattle.bosh_alike.proofs.ElementLemmas.{first_or_other, here, none_in, there}
 use Rattle.bosh_base.specs.declared.key.Key.{Key}
 use Rattle.bosh_base.specs.declared.key.KeyWork.{KeyWork}
-use Rattle.bosh_base.specs.declared.release.Release.{Release}
 use Rattle.bosh_compile.specs.CompileOrder.{compile_cmp, key_cmp}
-use Rattle.bosh_compile.specs.Level.{IsAcyclic, IsLevel, needs, one_above}
+use Rattle.bosh_compile.specs.Level.{IsLevel, one_above}
 use Rattle.bosh_compile.specs.Readiness.{same_key}
 use Rattle.bosh_compile.proofs.GreatestLemmas.{All-from_Contains}
 use Rattle.bosh_compile.proofs.KeyLemmas.{same_key_decides}
 use Rattle.bosh_compile.proofs.LevelLemmas.{le-one_above, levels_agree, one_above-le}
-use Rattle.bosh_needed.specs.Needed.{AreNeeded, StandOnce, how_many}
+use Rattle.bosh_needed.specs.Needed.{StandOnce, how_many}
 use Rattle.bosh_release.specs.Sound.{IsSound}
 use Rattle.bosh_uses.specs.Used.{UsedGroup}
-use Rattle.bosh_keys.specs.Works.{AreKeys, all_works, releases_of}
+use Rattle.bosh_keys.specs.Works.{AreKeys, releases_of}
 use Rattle.bosh_keys.proofs.GroundLemmas.{works_acyclic}
 use Rattle.bosh_keys.proofs.KeyLemmas.{is_eq-key_cmp, key_cmp_total}
 use Rattle.bosh_keys.proofs.WorkLemmas.{IsOneOf, one_of_key, works_are_of}

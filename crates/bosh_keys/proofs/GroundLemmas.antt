@@ -1,9 +1,9 @@
 -- The works of sound releases that are alike have no cycle: what a package needs stands in its own release, and a work of
 -- another release that has its key is the same work.
-use Rattle.std.proofs.Common.{◌≡◌, ◌∙◌, ◌≢◌, ℕ, zero, suc, ◌≤◌, List, Option, Some, None, length, arith, refl, sym, subst, ap}
+use Rattle.std.proofs.Common.{◌≡◌, ◌∙◌, ℕ, zero, suc, ◌≤◌, List, Option, Some, None, length, arith, refl, sym, subst, ap}
 use Rattle.std.specs.Prelude.{All, Contains, option_map}
 use Rattle.bosh_alike.specs.Alike.{AreAlike, IsOf}
-use Rattle.bosh_alike.proofs.ElementLemmas.{given_from, none_in}
+use Rattle.bosh_alike.proofs.ElementLemmas.{given_from}
 use Rattle.bosh_base.specs.declared.key.Key.{Key}
 use Rattle.bosh_base.specs.declared.key.KeyWork.{KeyWork}
 use Rattle.bosh_base.specs.declared.release.PackageSpec.{PackageSpec}

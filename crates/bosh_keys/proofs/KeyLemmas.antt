@@ -1,5 +1,5 @@
 -- The order of keys tells them apart.
-use Rattle.std.proofs.Common.{◌≡◌, ◌∙◌, Bool, true, ◌&&◌, refl, ap}
+use Rattle.std.proofs.Common.{◌≡◌, ◌∙◌, Bool, ◌&&◌, refl, ap}
 use Rattle.std.specs.Cmp.{IsTotalOrder}
 use Rattle.std.specs.Cmp.Lexicographic.{slice_cmp}
 use Rattle.std.specs.Ordering.{is_eq, nat_cmp, ordering_then}

@@ -1,10 +1,8 @@
 -- Works that are gathered, each key once.
-use Rattle.std.proofs.Common.{◌≡◌, ◌⊎◌, ◌∙◌, ℕ, ◌≤◌, ◌+◌, Bool, true, false, ◌||◌, cond, List, [], ◌∷◌, ◌++◌, fold, sum_by, arith, refl, sym, subst, ap, inl, inr, true≢false}
+use Rattle.std.proofs.Common.{◌≡◌, ◌⊎◌, ◌∙◌, ℕ, ◌≤◌, ◌+◌, Bool, true, false, ◌||◌, cond, List, [], ◌∷◌, ◌++◌, arith, refl, sym, subst, ap, inl, inr, true≢false}
 use Rattle.std.specs.Prelude.{Contains}
-use Rattle.std.specs.List.{list_any}
-use Rattle.std.proofs.lemmas.List.Elements.{Contains-append_cases}
 use Rattle.std.proofs.lemmas.List.Sums.{sum_by-cons, sum_by_push}
-use Rattle.bosh_alike.proofs.ElementLemmas.{at_end, before_or_last, first_or_other, here, in_front, none_in, some_at, some_from, there}
+use Rattle.bosh_alike.proofs.ElementLemmas.{at_end, before_or_last, first_or_other, in_front, none_in, some_at, there}
 use Rattle.bosh_base.specs.declared.key.Key.{Key}
 use Rattle.bosh_base.specs.declared.key.KeyWork.{KeyWork}
 use Rattle.bosh_compile.specs.Readiness.{same_key}

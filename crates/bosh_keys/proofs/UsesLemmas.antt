@@ -1,5 +1,5 @@
 -- The releases of what a manifest uses are among those that are there.
-use Rattle.std.proofs.Common.{◌≡◌, ◌⊎◌, ◌∙◌, ℕ, Bool, true, false, ◌&&◌, List, [], ◌∷◌, Option, Some, None, Result, Ok, Err, cond, filter, find, fold, map, refl, sym, subst, ap, inl, inr}
+use Rattle.std.proofs.Common.{◌≡◌, ◌⊎◌, ◌∙◌, ℕ, Bool, true, false, ◌&&◌, List, [], ◌∷◌, Option, Some, None, Result, Ok, Err, cond, filter, fold, map, refl, sym, subst, ap, inl, inr}
 use Rattle.std.specs.Prelude.{All, Contains}
 use Rattle.std.specs.Str.{bytes_eq}
 use Rattle.std.proofs.lemmas.List.Elements.{All-contains}
@@ -7,7 +7,6 @@ use Rattle.bosh_alike.specs.Alike.{AreAlike}
 use Rattle.bosh_alike.proofs.ElementLemmas.{find_at, first_or_other, here, none_in, there}
 use Rattle.bosh_base.specs.Version.{version_order}
 use Rattle.bosh_base.specs.declared.disk_want.DiskWant.{DiskWant}
-use Rattle.bosh_base.specs.declared.release.JobSpec.{JobSpec}
 use Rattle.bosh_base.specs.declared.release.Release.{Release}
 use Rattle.bosh_base.specs.declared.stemcell.Stemcell.{Stemcell}
 use Rattle.bosh_cloudcfg.specs.declared.config.Config.{Config}
@@ -16,13 +15,11 @@ use Rattle.bosh_lookup.specs.Table.{named}
 use Rattle.bosh_manifest.specs.declared.group.Group.{Group}
 use Rattle.bosh_manifest.specs.declared.manifest.Contents.{Contents}
 use Rattle.bosh_manifest_parts.specs.declared.job.JobUse.{JobUse}
-use Rattle.bosh_manifest_parts.specs.declared.source.ReleaseUse.{ReleaseUse}
-use Rattle.bosh_uses.specs.Answer.{◌>>=◌, each, or_fault}
-use Rattle.bosh_uses.specs.Edition.{edition, greater, is_equal, is_less, latest}
+use Rattle.bosh_uses.specs.Answer.{◌>>=◌, each}
+use Rattle.bosh_uses.specs.Edition.{edition, greater, is_equal, is_less}
 use Rattle.bosh_uses.specs.Used.{UsedGroup, UsedJob}
 use Rattle.bosh_uses.specs.Uses.{aliased, all_known, job_name, known, net_name, release_name, release_version, sources, used_disk, used_group, used_job, used_machine, used_release, used_stemcell, uses}
 use Rattle.bosh_uses.specs.declared.fault.GoalFault.{GoalFault}
-use Rattle.bosh_uses.specs.declared.fault.GoalFault.TheVariants.{Unknown}
 use Rattle.bosh_uses.specs.declared.fault.Kind.{Kind}
 use Rattle.bosh_uses.specs.declared.fault.Kind.TheVariants as kinds
 use Rattle.bosh_keys.specs.Works.{group_releases, releases_of}

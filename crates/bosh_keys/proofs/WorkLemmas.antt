@@ -1,10 +1,10 @@
 -- Packages of one key are one work.
 use Rattle.std.proofs.Common.{◌≡◌, ◌∙◌, ℕ, List, Option, Some, None, refl, sym, subst, ap}
-use Rattle.std.specs.Prelude.{All, Contains, filter_map, find, option_map}
+use Rattle.std.specs.Prelude.{All, Contains, option_map}
 use Rattle.std.specs.Str.{bytes_eq}
 use Rattle.std.proofs.lemmas.List.Elements.{All-contains}
 use Rattle.std.proofs.lemmas.Slice.Eq.{bytes_eq-Decides}
-use Rattle.bosh_alike.specs.Alike.{AreAlike, AreOne, IsOf, dep_prints, print_in}
+use Rattle.bosh_alike.specs.Alike.{AreAlike, AreOne, IsOf, print_in}
 use Rattle.bosh_alike.proofs.ElementLemmas.{find_at, find_none, given_from, given_into}
 use Rattle.bosh_base.specs.declared.digest.Digest.{Digest}
 use Rattle.bosh_base.specs.declared.key.Key.{Key}

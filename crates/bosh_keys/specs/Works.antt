@@ -1,5 +1,5 @@
--- What the groups of a manifest need compiled (bosh.io, "Packages", "Deployment manifest"; a package is compiled for each
--- stemcell apart, which is this project's profile).
+-- What the groups of a manifest need compiled (bosh.io, "Packages", "Deployment manifest"). A package is compiled for
+-- each stemcell apart, which is this project's profile.
 use Rattle.std.specs.Prelude.{ℕ, List, Option, map, option_map}
 use Rattle.std.specs.List.{filter_map, flat_map}
 use Rattle.bosh_base.specs.declared.key.Key.{Key}
@@ -72,7 +72,7 @@ releases_of groups = flat_map group_releases groups
 
 -- ---- all
 
--- what the packages of all jobs and all that they need give to compile, but for what is compiled, in the order of
--- compilation; groups without instances count
+-- the packages that jobs list and all that these need, but for what is compiled, in the order of compilation; the jobs of
+-- groups without instances count
 abbrev pub AreKeys : List UsedGroup → List Key → List KeyWork → Type 0
 AreKeys groups compiled keys = AreNeeded (all_works groups) (asked_keys groups) compiled keys

@@ -12,7 +12,8 @@ use bosh_uses::UsedGroup;
 use std::alloc::Global;
 
 /// The packages that the jobs of groups need compiled for the stemcells of the groups, with all that they need compiled
-/// before, but for those that are compiled; each key once, in the order of compilation.
+/// before, but for those that are compiled; each key once, in the order of compilation. Groups without instances count.
+/// Only want of memory is refused.
 ///
 /// It takes a logarithm for each package of the release of each job.
 pub fn keys(

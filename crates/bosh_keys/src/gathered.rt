@@ -85,7 +85,8 @@ impl Gathered {
         packages: &Packages<'_>,
         stemcell: &Stemcell,
     ) -> Result<(), CopyFault>
-        ensures { OnOk result (Adds (map (work_of packages.now stemcell.now) packages.now.packages) [] self.old self.new) }
+        ensures { OnOk result (Adds (map (work_of packages.now stemcell.now) packages.now.packages) []
+            self.old self.new) }
     {
         for pack in packages.all() {
             self.add_package(alloc, packages, stemcell, pack)?;
@@ -114,7 +115,8 @@ impl Gathered {
         stemcell: &Stemcell,
         used: &UsedJob<'_>,
     ) -> Result<(), CopyFault>
-        ensures { OnOk result (Adds (job_works stemcell.now used.now) (job_keys stemcell.now used.now) self.old self.new) }
+        ensures { OnOk result (Adds (job_works stemcell.now used.now) (job_keys stemcell.now used.now)
+            self.old self.new) }
     {
         let packages = Packages::of(alloc, used.release())?;
         self.add_packages(alloc, &packages, stemcell)?;
@@ -130,8 +132,8 @@ impl Gathered {
         Ok(())
     }
 
-    /// What the jobs of groups need: the packages of their releases for the stemcells of the groups, each key once, and the
-    /// keys that the jobs themselves ask for.
+    /// What the jobs of groups need: the packages of their releases for the stemcells of the groups, each key once, and
+    /// the keys that the jobs themselves ask for.
     pub(crate) fn of(alloc: Global, groups: &[UsedGroup<'_>]) -> Result<Gathered, CopyFault>
         ensures { IfOk result (IsGathered (each_once (all_works groups.now)) (asked_keys groups.now)) }
     {

@@ -21,12 +21,14 @@ pub fn keys_are_determined()
 
 /// The releases that a manifest uses are sound where those that are there are.
 pub fn used_releases_are_sound()
-    ensures { (manifest : Contents) (config : Config) (releases : List Release) (stemcells : List Stemcell) (groups : List UsedGroup)
-        → uses manifest config releases stemcells ≡ Ok groups → All IsSound releases → All IsSound (releases_of groups) }
+    ensures { (manifest : Contents) (config : Config) (releases : List Release) (stemcells : List Stemcell)
+        (groups : List UsedGroup) → uses manifest config releases stemcells ≡ Ok groups
+        → All IsSound releases → All IsSound (releases_of groups) }
 {}
 
 /// The releases that a manifest uses are alike where those that are there are.
 pub fn used_releases_are_alike()
-    ensures { (manifest : Contents) (config : Config) (releases : List Release) (stemcells : List Stemcell) (groups : List UsedGroup)
-        → uses manifest config releases stemcells ≡ Ok groups → AreAlike releases → AreAlike (releases_of groups) }
+    ensures { (manifest : Contents) (config : Config) (releases : List Release) (stemcells : List Stemcell)
+        (groups : List UsedGroup) → uses manifest config releases stemcells ≡ Ok groups
+        → AreAlike releases → AreAlike (releases_of groups) }
 {}

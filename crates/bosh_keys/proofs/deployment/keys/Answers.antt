@@ -1,12 +1,12 @@
 -- The gathered works have no cycle and stand once; what is needed of them is what is needed of all.
-use Rattle.std.proofs.Common.{◌≡◌, ◌∙◌, List, Result, Ok, Err, subst, sym}
+use Rattle.std.proofs.Common.{◌∙◌, List, Result, Ok, Err, subst, sym}
 use Rattle.std.specs.Result.{IfOk}
 use Rattle.bosh_base.specs.declared.key.Key.{Key}
 use Rattle.bosh_base.specs.declared.key.KeyWork.{KeyWork}
 use Rattle.bosh_compile.specs.Level.{IsAcyclic}
 use Rattle.bosh_needed.specs.Needed.{AreNeeded, StandOnce}
 use Rattle.bosh_keys.specs.Once.{each_once}
-use Rattle.bosh_keys.specs.Works.{AreKeys, all_works, asked_keys}
+use Rattle.bosh_keys.specs.Works.{AreKeys, all_works}
 use Rattle.bosh_keys.proofs.DeploymentLemmas.{keys_are, once_acyclic}
 use Rattle.bosh_keys.proofs.OnceLemmas.{stand_once}
 use Rattle.bosh_keys.proofs.deployment.keys.Goals as goal
