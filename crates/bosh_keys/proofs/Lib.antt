@@ -1,0 +1,10 @@
+pub mod ListLemmas
+pub mod NameLemmas
+pub mod KeyLemmas
+pub mod WorkLemmas
+pub mod GroundLemmas
+pub mod OnceLemmas
+pub mod GatherLemmas
+pub mod DeploymentLemmas
+pub mod DeterminedLemmas
+pub mod UsesLemmas
