@@ -1,7 +1,6 @@
 -- Nothing differs exactly where every row agrees with the cloud, and no disk is loose.
-use Rattle.std.proofs.Common.{◌≡◌, ◌∙◌, ℕ, Bool, true, false, not, ◌&&◌, ◌||◌, ◌==◌, nat_eq, cond, List, [], ◌∷◌, ◌++◌, Option, Some, None, find, filter, map, inl, inr, lit<, arith, refl, sym, ap}
-use Rattle.std.specs.Cmp.Lexicographic.{pointwise}
-use Rattle.std.specs.List.{AllByRecursion, IsDistinct, flat_map, list_all, list_any}
+use Rattle.std.proofs.Common.{◌≡◌, ◌∙◌, ℕ, Bool, true, false, not, ◌&&◌, ◌||◌, ◌==◌, nat_eq, cond, List, [], ◌∷◌, ◌++◌, Option, Some, None, filter, map, inl, inr, refl, sym, ap}
+use Rattle.std.specs.List.{AllByRecursion, flat_map, list_all, list_any}
 use Rattle.std.specs.Option.{is_some, option_eq}
 use Rattle.std.proofs.lemmas.Bool.Decides.{eqb_tells}
 use Rattle.std.proofs.lemmas.Bool.{eq-eqb}
@@ -18,7 +17,7 @@ use Rattle.bosh_base.specs.declared.row.Doubt.{Doubt}
 use Rattle.bosh_base.specs.declared.row.Row.{Row}
 use Rattle.bosh_base.specs.declared.row.Vm.{Vm}
 use Rattle.bosh_base.specs.declared.snapshot.Orphan.{Orphan}
-use Rattle.bosh_history.specs.Agrees.{agrees, has_disks, has_machine, its_machines, numbers}
+use Rattle.bosh_history.specs.Agrees.{agrees, has_disks, has_machine, its_machines}
 use Rattle.bosh_rows.specs.Same.{same_owner, same_spec}
 use Rattle.bosh_rows.specs.Standing.{is_empty, same_truth}
 use Rattle.bosh_cck.specs.Loose.{is_loose}

@@ -5,7 +5,6 @@ use Rattle.std.proofs.lemmas.List.Elements.{filter-append, filter_map-append}
 use Rattle.bosh_base.specs.declared.inst.Inst.{Inst}
 use Rattle.bosh_base.specs.declared.machine.Disk.{Disk}
 use Rattle.bosh_base.specs.declared.machine.Machine.{Machine}
-use Rattle.bosh_base.specs.declared.problem.Problem.{Problem}
 use Rattle.bosh_base.specs.declared.problem.Problem.TheVariants.{OtherVm, LooseDisk}
 use Rattle.bosh_base.specs.declared.row.Row.{Row}
 use denote.Ref.{Bor}
