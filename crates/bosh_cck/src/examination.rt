@@ -45,10 +45,10 @@ fn examine_disks(
     add_loose(dep, &recorded, &doubted, disks, problems)
 }
 
-/// What differs between the records of a deployment and the cloud: the problems of each row, in the order of the rows, and
-/// then the disks that an instance of the deployment owns and that are recorded nowhere. `rows` and `orphans` are those of
-/// the deployment, `machines` and `disks` the slots of the cloud, by number. It takes a logarithm for each row, machine and
-/// disk.
+/// What differs between the records of a deployment and the cloud: the problems of each row, in the order of the rows,
+/// and then the disks that an instance of the deployment owns and that are recorded nowhere. `rows` and `orphans` are
+/// those of the deployment, `machines` and `disks` the slots of the cloud, by number; what is found of several machines
+/// or disks stands in their order. It takes a logarithm for each row, machine and disk.
 pub fn examine(
     alloc: Global,
     dep: &Name,

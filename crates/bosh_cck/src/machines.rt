@@ -28,7 +28,8 @@ fn add_missing(
     its: Option<&Machine>,
     problems: &mut Vec<Problem>,
 ) -> Result<(), CckFault>
-    ensures { OnOk result (problems.new.items ≡ problems.old.items ++ missing row.now row.now.vm (option_copied its.entry)) }
+    ensures { OnOk result (problems.new.items
+        ≡ problems.old.items ++ missing row.now row.now.vm (option_copied its.entry)) }
 {
     match (row.vm, its) {
         (Some(vm), None) => {

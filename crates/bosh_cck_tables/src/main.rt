@@ -1,5 +1,5 @@
-//! Answers the cases of the tables of examinations that its words name, or of all tables of the current folder, and tells
-//! each that comes out otherwise than it states.
+//! Answers the cases of the tables of examinations that its words name, or of all tables of the current folder, and
+//! tells each that comes out otherwise than it states.
 #![tactic(auto)]
 
 mod calls;
