@@ -1,0 +1,4 @@
+pub mod Held
+pub mod Loose
+pub mod Problems
+pub mod Tables
