@@ -1,0 +1,27 @@
+use bosh_ports::KeepFault;
+use std::alloc::AllocError;
+
+/// Why a work was not done.
+#[derive(Clone, Copy, Debug)]
+pub(crate) enum WorkFault {
+    /// The keeper did not do what it was asked.
+    Kept(KeepFault),
+    /// The body at this place is not what was written there.
+    Changed(u64),
+    /// There is no clock.
+    Clock,
+    /// Nothing can be written to standard output.
+    Output,
+}
+
+impl From<KeepFault> for WorkFault {
+    fn from(fault: KeepFault) -> Self {
+        WorkFault::Kept(fault)
+    }
+}
+
+impl From<AllocError> for WorkFault {
+    fn from(_: AllocError) -> Self {
+        WorkFault::Kept(KeepFault::Memory)
+    }
+}
