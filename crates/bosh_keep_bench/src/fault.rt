@@ -1,9 +1,12 @@
+use bosh_keep_sql::LoadFault;
 use bosh_ports::KeepFault;
 use std::alloc::AllocError;
 
 /// Why a work was not done.
 #[derive(Clone, Copy, Debug)]
 pub(crate) enum WorkFault {
+    /// There is no keeper over the database.
+    Refused(LoadFault),
     /// The keeper did not do what it was asked.
     Kept(KeepFault),
     /// The body at this place is not what was written there.

@@ -100,7 +100,7 @@ fn do_over<S: Alter + Drop>(
 ) -> io::Result<bool> {
     match SqlKeeper::load(rt.alloc(), connection) {
         Ok(mut keeper) => tell(rt, do_work(rt, &mut keeper, start, work, count)),
-        Err(fault) => tell(rt, Err(WorkFault::Kept(fault))),
+        Err((_connection, fault)) => tell(rt, Err(WorkFault::Refused(fault))),
     }
 }
 
