@@ -1,10 +1,10 @@
 #!/usr/bin/env bash
 # Kills a program that appends bodies to a file, 100 times or as often as KILLS says, each time by `kill -9` after a
-# random number of appends, and reads the file again: by the keeper, and a copy of it by sqlite3, where that is here. All
-# bodies whose append was answered have to be there, and at most one more. Every tenth kill begins a new file, the others
-# go on with the last one. Then files that sqlite3 made and that no keeper may take are given to it: each has to be refused
-# with nothing changed in the database file. The counts are printed; what was lost, or taken, fails. Where a new file was
-# killed before its first append was answered, there may be no database yet.
+# random number of appends, and reads the file again: by the keeper, and a copy of it by sqlite3, where that is here.
+# All bodies whose append was answered have to be there, and at most one more. Every fifth kill begins a new file, and
+# comes early, perhaps before the first append was answered, where there may be no table yet; the others go on with the
+# last file. Then files that sqlite3 made and that no keeper may take are given to it: each has to be refused with
+# nothing changed in the database file. The counts are printed; what was lost, or taken, fails.
 set -u
 here=$(cd "$(dirname "$0")" && pwd)
 program=$(dirname "$here")/crates/bosh_keep_bench/out/bosh_keep_bench
@@ -32,6 +32,7 @@ kill_after() {
     "$program" each bodies.db 1000000 > answered 2> errors &
     local writer=$!
     while [ "$(wc -l < answered)" -lt "$stop" ] && kill -0 "$writer" 2> /dev/null; do :; done
+    [ "$stop" -gt 0 ] || sleep "0.0$((RANDOM % 90 + 10))"
     kill -9 "$writer"
     wait "$writer" 2> /dev/null
     local status=$?
@@ -47,9 +48,8 @@ kill_after() {
 count_by_sqlite3() {
     rm -rf copy
     mkdir copy
-    cp bodies.db* copy
-    sqlite3 copy/bodies.db "SELECT CASE WHEN (SELECT count(*) FROM sqlite_schema) = 0 THEN 0 END" > copy/empty 2> copy/errors
-    if [ "$(cat copy/empty)" = 0 ] || [ ! -s copy/empty ]; then
+    cp bodies.db* copy 2> /dev/null
+    if [ "$(sqlite3 copy/bodies.db 'SELECT count(*) FROM sqlite_schema' 2>&1)" = 0 ]; then
         echo 0
         return
     fi
@@ -130,13 +130,15 @@ refuse_all() {
 echo "on $(stat -f -c %T .)"
 last=0
 for turn in $(seq "$kills"); do
-    if [ $((turn % 10)) -eq 1 ]; then
+    if [ $((turn % 5)) -ne 1 ]; then
+        kill_once $((RANDOM % 200))
+    else
         rm -f bodies.db*
         last=0
+        kill_once $((RANDOM % 3))
     fi
-    kill_once $((RANDOM % 200))
 done
-echo "$kills kills: $answered_in_all appends were answered, and all of their bodies are there; $one_more times one more is"
+echo "$kills kills: $answered_in_all appends were answered; $one_more times one more body is there"
 if [ -n "$has_sqlite3" ]; then
     echo "sqlite3 read the same number in $read_alike of them"
     refuse_all WAL
