@@ -1,3 +1,4 @@
 pub mod KeeperLemmas
+pub mod LoadLemmas
 pub mod RowLemmas
 pub mod SurvivalLemmas

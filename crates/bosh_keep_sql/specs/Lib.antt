@@ -1,4 +1,5 @@
+pub mod Faults
+pub mod Loads
+pub mod Rows
 pub mod SqlView
 pub mod Statements
-pub mod Faults
-pub mod Rows

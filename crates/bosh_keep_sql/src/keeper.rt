@@ -1,12 +1,14 @@
-ghost use Rattle.std.specs.Prelude.{◌≡◌, ◌≢◌, ◌++◌, [], ◌∷◌, false, length, Some, IfErr, IfOk, OnOk};
-ghost use Rattle.bosh_keep_sql.specs.Rows.{row_of, rows_from};
+ghost use Rattle.std.specs.Prelude.{◌≡◌, ◌++◌, [], ◌∷◌, false, length, Err, Some, IfErr, IfOk, OnOk};
+ghost use Rattle.bosh_keep_sql.specs.Loads.{DiffersFrom, FailsToLoad, Finds, ListsBodies};
+ghost use Rattle.bosh_keep_sql.specs.Rows.{row_of};
 ghost use Rattle.bosh_keep_sql.specs.SqlView.{Fails};
-ghost use Rattle.bosh_keep_sql.specs.Statements.{insert_text, IsOneCommit, Lists, Runs};
+ghost use Rattle.bosh_keep_sql.specs.Statements.{insert_text, IsOneCommit, RefusesBody, Runs};
 ghost use Rattle.bosh_ports.specs.Faults.{NeverFalls};
 ghost use Rattle.bosh_ports.specs.Keeper.{FailsByCount, Leaves, TellsBroken, TellsMended};
 ghost use Rattle.sqlite.specs.Held.{state};
 ghost use Rattle.sqlite.specs.State.{HasCleanDisk};
 
+use crate::LoadFault;
 use crate::store::{check, found, put, put_all};
 use bosh_ports::{Bodies, KeepFault, Keeper};
 use sqlite::{Alter, Connection};
@@ -42,12 +44,17 @@ impl<S: Alter + Drop> Model for SqlKeeper<S> {
 
 impl<S: Alter + Drop> SqlKeeper<S> {
     /// The keeper over a database that has no table yet, or the keeper's alone. Whatever else it has is refused, and so
-    /// are rows that are no bodies or whose positions have a gap; then nothing is written.
-    pub fn load(alloc: Global, connection: Connection<S>) -> Result<SqlKeeper<S>, KeepFault>
+    /// are rows that are no bodies or whose positions have a gap; then nothing is written. A refusal gives the
+    /// connection back.
+    pub fn load(
+        alloc: Global,
+        connection: Connection<S>,
+    ) -> Result<SqlKeeper<S>, (Connection<S>, LoadFault)>
         ensures fresh { IfOk result (λ keeper. keeper ≡ record keeper { faults = 0; is_broken = false }) }
-        ensures read { IfOk result (λ keeper. HasCleanDisk (state S.Store keeper.connection) →
-            Lists S.Store keeper.connection (rows_from 0 keeper.bodies)) }
-        ensures refused { IfErr result (λ fault. fault ≢ KeepFault.Broken) }
+        ensures found { IfOk result (λ keeper. HasCleanDisk (state S.Store keeper.connection) →
+            Finds S.Store connection keeper.connection keeper.bodies) }
+        ensures refused { IfErr result (λ refused. HasCleanDisk (state S.Store refused.0) →
+            FailsToLoad S.Store connection refused.0 refused.1) }
     {
         let mut connection = connection;
         match found(alloc, &mut connection) {
@@ -58,7 +65,7 @@ impl<S: Alter + Drop> SqlKeeper<S> {
                 faults: 0,
                 is_broken: false,
             }),
-            Err(fault) => Err(fault),
+            Err(fault) => Err((connection, fault)),
         }
     }
 
@@ -112,6 +119,9 @@ impl<S: Alter + Drop> Keeper for SqlKeeper<S> {
         ensures stored { HasCleanDisk (state S.Store self.new.connection) → OnOk result
             (Runs insert_text (row_of (length self.old.bodies) body.now)
             (state S.Store self.old.connection) (state S.Store self.new.connection)) }
+        ensures refused { HasCleanDisk (state S.Store self.new.connection) → result ≡ Err KeepFault.Failed →
+            RefusesBody (length self.old.bodies) body.now
+            (state S.Store self.old.connection) (state S.Store self.new.connection) KeepFault.Failed }
         ensures list { Leaves result self.old.bodies (self.old.bodies ++ body.now ∷ []) (Some self.new.bodies) }
         ensures broken { TellsBroken result self.old.is_broken self.new.is_broken }
         ensures count { NeverFalls self.old.faults self.new.faults }
@@ -144,7 +154,9 @@ impl<S: Alter + Drop> Keeper for SqlKeeper<S> {
 
     fn reload(&mut self) -> Result<(), KeepFault>
         ensures read { HasCleanDisk (state S.Store self.new.connection) → OnOk result
-            (Lists S.Store self.new.connection (rows_from 0 self.new.bodies)) }
+            (ListsBodies S.Store self.old.connection self.new.connection self.new.bodies) }
+        ensures differs { HasCleanDisk (state S.Store self.new.connection) → result ≡ Err KeepFault.Failed →
+            DiffersFrom S.Store self.old.connection self.new.connection self.old.bodies }
         ensures list { Some self.new.bodies ≡ Some self.old.bodies }
         ensures mended { TellsMended result self.old.is_broken self.new.is_broken }
         ensures count { NeverFalls self.old.faults self.new.faults }

@@ -9,4 +9,5 @@ mod store;
 mod table;
 mod transaction;
 
+pub use fault::LoadFault;
 pub use keeper::SqlKeeper;

@@ -1,58 +1,74 @@
-ghost use Rattle.std.specs.Prelude.{◌≡◌, ◌≢◌, ℕ, ◌++◌, [], ◌∷◌, ◌<◌, List, IsTrue, IfErr, IfOk, OnErr, OnOk, Err};
-ghost use Rattle.bosh_keep_sql.specs.Rows.{row_of, rows_from};
+ghost use Rattle.std.specs.Prelude.{◌≡◌, ◌≢◌, ℕ, pos, ◌++◌, [], ◌∷◌, ◌<◌, List, IsFalse, IsTrue, IfErr, IfOk, OnErr, OnOk, Err};
+ghost use Rattle.bosh_keep_sql.specs.Rows.{AreFaulty, IsFaultyRow, row_of, rows_from};
 ghost use Rattle.bosh_ports.specs.Contents.{contents};
+ghost use Rattle.sqlite.specs.declared.types.Value.TheVariants.{Int};
+ghost use Rattle.sqlite.specs.Order.{column};
 
-use crate::fault::fault_of;
+use crate::LoadFault;
 use bosh_ports::KeepFault;
 use sqlite::Row;
+use sqlite::types::ValueRef;
 use std::alloc::Global;
 
 /// The bodies of rows whose positions are the numbers from 0 on, without a gap.
-pub(crate) fn bodies_of(alloc: Global, rows: &[Row]) -> Result<Vec<Vec<u8>>, KeepFault>
+pub(crate) fn bodies_of(alloc: Global, rows: &[Row]) -> Result<Vec<Vec<u8>>, LoadFault>
     ensures found { IfOk result (λ bodies. rows.now ≡ rows_from 0 (contents bodies.items)) }
-    ensures fault { IfErr result (λ fault. fault ≢ KeepFault.Broken) }
+    ensures fault { IfErr result (λ fault. fault ≢ LoadFault.Memory → AreFaulty rows.now fault) }
 {
     let mut bodies = Vec::new(alloc);
     for (place, row) in rows.iter().enumerate() {
-        push_body(&mut bodies, row, place as u64)?;
+        push_body(alloc, &mut bodies, row, place as u64)?;
     }
     Ok(bodies)
 }
 
-/// Adds the body of the row at a position.
-fn push_body(bodies: &mut Vec<Vec<u8>>, row: &Row, place: u64) -> Result<(), KeepFault>
+/// Adds the body of the row at a place.
+fn push_body(
+    alloc: Global,
+    bodies: &mut Vec<Vec<u8>>,
+    row: &Row,
+    place: u64,
+) -> Result<(), LoadFault>
     ensures pushed { OnOk result ((body : List ℕ) × (row.now ≡ row_of place body)
         × (contents bodies.new.items ≡ contents bodies.old.items ++ body ∷ [])) }
-    ensures refused { result ≡ Err KeepFault.Failed → (body : List ℕ) → row.now ≢ row_of place body }
-    ensures fault { IfErr result (λ fault. fault ≢ KeepFault.Broken) }
+    ensures fault { IfErr result (λ fault. fault ≢ LoadFault.Memory → IsFaultyRow place row.now fault) }
 {
-    let body = body_at(row, place)?;
+    let body = body_at(alloc, row, place)?;
     Ok(bodies.push(body)?)
 }
 
-/// The body of the row at a position, where it is a position and bytes.
-fn body_at(row: &Row, place: u64) -> Result<Vec<u8>, KeepFault>
+/// The body of the row at a place, where it has that position and bytes.
+fn body_at(alloc: Global, row: &Row, place: u64) -> Result<Vec<u8>, LoadFault>
     ensures body { IfOk result (λ body. row.now ≡ row_of place body.items) }
-    ensures refused { result ≡ Err KeepFault.Failed → (body : List ℕ) → row.now ≢ row_of place body }
-    ensures fault { IfErr result (λ fault. fault ≢ KeepFault.Broken) }
+    ensures fault { IfErr result (λ fault. fault ≢ LoadFault.Memory → IsFaultyRow place row.now fault) }
 {
+    if !is_at(row, place) {
+        return Err(LoadFault::Gap { place });
+    }
     if row.column_count() != 2 {
-        return Err(KeepFault::Failed);
+        return Err(LoadFault::NotABody { place });
     }
-    match row.get::<u64>(0) {
-        Ok(position) if position == place => {}
-        Ok(_) => return Err(KeepFault::Failed),
-        Err(error) => return Err(fault_of(error)),
+    match row.get_ref(1) {
+        Ok(ValueRef::Blob(bytes)) => Ok(bytes.to_vec(alloc)?),
+        _ => Err(LoadFault::NotABody { place }),
     }
-    match row.get::<Vec<u8>>(1) {
-        Ok(body) => Ok(body),
-        Err(error) => Err(fault_of(error)),
+}
+
+/// Whether a row has a position.
+fn is_at(row: &Row, place: u64) -> bool
+    ensures there { IsTrue result → column row.now 0 ≡ Int (pos place) }
+    ensures elsewhere { IsFalse result → column row.now 0 ≢ Int (pos place) }
+{
+    match row.get_ref(0) {
+        Ok(ValueRef::Int(position)) => u64::try_from(position) == Ok(place),
+        _ => false,
     }
 }
 
 /// Whether two lists have the same bodies.
 pub(crate) fn are_same(found: &[Vec<u8>], bodies: &[Vec<u8>]) -> bool
-    ensures { IsTrue result → contents found.now ≡ contents bodies.now }
+    ensures same { IsTrue result → contents found.now ≡ contents bodies.now }
+    ensures others { IsFalse result → contents found.now ≢ contents bodies.now }
 {
     found == bodies
 }

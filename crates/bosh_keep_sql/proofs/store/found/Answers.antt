@@ -1,11 +1,21 @@
-use Rattle.std.proofs.Common.{◌≡◌, IfOk, subst}
-use Rattle.bosh_keep_sql.specs.Rows.{rows_from}
 use Rattle.bosh_ports.specs.Contents.{contents}
-use Rattle.bosh_keep_sql.proofs.KeeperLemmas.{listed}
+use Rattle.std.proofs.Common.{inl}
+use Rattle.bosh_keep_sql.specs.Loads.{FailsToLoad}
+use Rattle.bosh_keep_sql.proofs.LoadLemmas.{found_in, passed, unread}
 use Rattle.bosh_keep_sql.proofs.store.found.Goals as goal
 
-pub returns-clause-read : goal.returns-clause-read
-returns-clause-read g c =
-    listed g.S.Store c.list_rows.new.connection c.in_ok-rows.rows.items (λ bodies. contents bodies.items)
-    c.bodies_of.result (subst (λ rows. IfOk c.bodies_of.result (λ bodies. rows ≡ rows_from 0 (contents bodies.items)))
-    c.deref.ensures.value c.bodies_of.ensures.found) c.in_ok-rows.ensures.shown
+pub returns-in_err-prepare-clause-refused : goal.returns-in_err-prepare-clause-refused
+returns-in_err-prepare-clause-refused g c = λ clean.
+    passed (FailsToLoad g.S.Store c.args.connection.now c.prepare.new.connection) c.from_residual.result
+    c.in_err-prepare.field-0.0 c.from_residual.ensures.1 (inl (c.in_err-prepare.ensures.refused clean))
+
+pub returns-clause-found : goal.returns-clause-found
+returns-clause-found g c = λ clean.
+    found_in g.S.Store c.args.connection.now c.prepare.new.connection c.listed.new.connection
+    (λ bodies. contents bodies.items) c.listed.result (c.in_ok-prepare.ensures.ok (c.listed.ensures.before clean))
+    (c.listed.ensures.listed clean)
+
+pub returns-clause-refused : goal.returns-clause-refused
+returns-clause-refused g c = λ clean.
+    unread g.S.Store c.args.connection.now c.prepare.new.connection c.listed.new.connection
+    c.listed.result (c.in_ok-prepare.ensures.ok (c.listed.ensures.before clean)) (c.listed.ensures.refused clean)
