@@ -1,8 +1,8 @@
 //! Manifests of bare machines, and their goals.
 use bosh_base::{Goal, GoalRow, GroupPlan, Inst, Name, State, Text};
 use bosh_cases::{CaseFault, Outcome, joined, pair};
-use first_goal::{GoalFault, bare_goal};
 use bosh_yaml::{Node, read};
+use first_goal::{GoalFault, bare_goal};
 use first_manifest::{BareManifest, ManFault, read_bare};
 use std::alloc::{AllocError, Global};
 

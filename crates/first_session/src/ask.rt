@@ -6,8 +6,8 @@ use crate::manifest::manifest_of;
 use crate::refusal::refusal_of;
 use crate::{Files, NotYet, Status, not_yet};
 use bosh_base::{Goal, Name, Reply, Seq, Text};
-use first_goal::bare_goal;
 use first_fold::Records;
+use first_goal::bare_goal;
 use first_lines::Variable;
 use std::alloc::Global;
 

@@ -3,8 +3,8 @@ ghost use Rattle.first_session.specs.Status.{code_of, of_input};
 ghost use Rattle.first_session.specs.declared.status.Status.TheVariants.{Memory};
 
 use bosh_base::CopyFault;
-use first_goal::GoalFault;
 use bosh_report::ReportFault;
+use first_goal::GoalFault;
 use first_input::InputFault;
 use std::alloc::{AllocError, AllocFailed};
 
