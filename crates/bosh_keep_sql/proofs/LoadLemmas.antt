@@ -17,7 +17,6 @@ passed P (Err given) fault is p = subst P (sym is) p
 
 module _ {S T : Type 0} (g : Ghosts S) (old mid new : Held S) (has : Contents) (is : has ≡ Nothing)
     (shows : Shows g old mid has) where
-
   -- the table that was made where there was nothing
   pub made : (result : Result T LoadFault) → OnOk result (Runs make_text [] (state g mid) (state g new)) →
       OnOk result (IsPrepared g old new)

@@ -82,10 +82,13 @@ split rows place row within at =
 pub rows_faulty : (rows : List Row) (place : ℕ) (row : Row) (before : List (List ℕ)) (fault : LoadFault) →
     place < length rows → (rows_from 0 before ≡ take place rows) × (length before ≡ place) →
     row ≡ get_or rows place row → IsFaultyRow place row fault → AreFaulty rows fault
-rows_faulty rows place row before fault within far at is =
-    (before, row, drop (place + 1) rows,
-    split rows place row within at ∙ ap (λ xs. xs ++ row ∷ drop (place + 1) rows) (sym far.0),
-    subst (λ n. IsFaultyRow n row fault) (sym far.1) is)
+rows_faulty rows place row before fault within far at is = (
+  before,
+  row,
+  drop (place + 1) rows,
+  split rows place row within at ∙ ap (λ xs. xs ++ row ∷ drop (place + 1) rows) (sym far.0),
+  subst (λ n. IsFaultyRow n row fault) (sym far.1) is,
+)
 
 -- such rows are those of no bodies
 front : (first : ℕ) (before : List (List ℕ)) (row : Row) (rest : List Row) (bodies : List (List ℕ)) →
