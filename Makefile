@@ -2,7 +2,7 @@
 # that the gate does not try.  tables: the cases of all tables.  sessions: every session of sessions/ through the built
 # program.  bench: how times grow, of sessions, of the order of compilation, of texts read, of entries, of releases,
 # of cloud configs and addresses, of calls on a cloud.  fmt: lays out all sources.
-.PHONY: run build test trials tables sessions bench fmt
+.PHONY: run build test trials tables sessions bench kills fmt
 
 PROGRAM := crates/boshd/out/boshd
 
@@ -38,7 +38,13 @@ bench: build
 	@cd crates/bosh_release_bench && rt run < /dev/null > /dev/null
 	@cd crates/bosh_config_bench && rt run < /dev/null > /dev/null
 	@cd crates/bosh_cloud_bench && rt run < /dev/null > /dev/null
+	@cd crates/bosh_keep_bench && rt run < /dev/null > /dev/null
 	@bash bench/run.sh
+	@bash bench/keep.sh
+
+kills:
+	@cd crates/bosh_keep_bench && rt run < /dev/null > /dev/null
+	@bash kills/run.sh
 
 fmt:
 	@for crate in crates/*/; do (cd "$$crate" && rt fmt) || exit 1; done
