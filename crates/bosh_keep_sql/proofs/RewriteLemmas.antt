@@ -2,7 +2,7 @@
 use Rattle.std.proofs.Common.{◌≡◌, ℕ, ◌+◌, ◌<◌, suc, true, false, refl, List, [], ◌∷◌, ◌++◌, Ok, sym, ◌∙◌, ap, subst, arith, take, get_or, length-append}
 use Rattle.std.specs.Prelude.{length, IsTrue, Vec}
 use Rattle.std.specs.declared.alloc.Global.{Global}
-use Rattle.std.proofs.lemmas.List.{take_all, take_more}
+use Rattle.std.proofs.lemmas.List.{take_more}
 use Rattle.bosh_ports.specs.Contents.{contents}
 use Rattle.bosh_ports.proofs.ContentsLemmas.{contents-push}
 use Rattle.bosh_keep_sql.specs.Rewrites.{delete_text, Inserts, InsertsInside, Rewrites, RunsInside}

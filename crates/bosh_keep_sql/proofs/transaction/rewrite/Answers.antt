@@ -1,4 +1,4 @@
-use Rattle.std.proofs.Common.{◌≡◌, rules}
+use Rattle.std.proofs.Common.{rules}
 use Rattle.bosh_keep_sql.proofs.RewriteLemmas.{rewritten}
 use Rattle.bosh_ports.specs.Contents.{contents}
 use Rattle.bosh_keep_sql.proofs.SurvivalLemmas.{begun_committed, begun_undone, same_commit, survives_both}
