@@ -1,4 +1,5 @@
 pub mod KeeperLemmas
 pub mod LoadLemmas
+pub mod RewriteLemmas
 pub mod RowLemmas
 pub mod SurvivalLemmas

@@ -1,5 +1,5 @@
 -- What a load has found after statements in turn.
-use Rattle.std.proofs.Common.{◌≡◌, ℕ, List, [], Result, Ok, Err, inl, inr, subst, sym}
+use Rattle.std.proofs.Common.{◌≡◌, ℕ, List, [], Result, Ok, Err, inr, subst, sym}
 use Rattle.std.specs.Prelude.{IfErr, IfOk, IsErrAnd, OnOk}
 use Rattle.bosh_keep_sql.specs.declared.fault.LoadFault.{LoadFault}
 use Rattle.bosh_keep_sql.specs.declared.table.Contents.{Contents}

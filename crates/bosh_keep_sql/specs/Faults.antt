@@ -1,4 +1,5 @@
--- How a refusal of the database is told by a keeper, and by a load: want of memory as such, and each other one as a failure.
+-- How a refusal of the database is told by a keeper, and by a load: want of memory as such, and each other one as a
+-- failure.
 use Rattle.bosh_keep_sql.specs.declared.fault.LoadFault.{LoadFault}
 use Rattle.bosh_keep_sql.specs.declared.fault.LoadFault.TheVariants as load
 use Rattle.bosh_ports.specs.declared.keeper.KeepFault.{KeepFault}

@@ -1,5 +1,5 @@
 -- The statements of a keeper, and that one was carried out or refused (this project's profile).
-use Rattle.std.specs.Prelude.{◌≡◌, ◌⊎◌, ℕ, ◌≤◌, ◌^◌, codes, List, [], Ok, Err}
+use Rattle.std.specs.Prelude.{◌≡◌, ◌⊎◌, ℕ, ◌≤◌, ◌^◌, codes, List, Ok, Err}
 use Rattle.bosh_keep_sql.specs.Faults.{fault_of}
 use Rattle.bosh_keep_sql.specs.Rows.{row_of}
 use Rattle.bosh_ports.specs.declared.keeper.KeepFault.{KeepFault}

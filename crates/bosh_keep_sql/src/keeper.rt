@@ -1,5 +1,6 @@
 ghost use Rattle.std.specs.Prelude.{◌≡◌, ◌++◌, [], ◌∷◌, false, length, Err, Some, IfErr, IfOk, OnOk};
 ghost use Rattle.bosh_keep_sql.specs.Loads.{DiffersFrom, FailsToLoad, Finds, ListsBodies};
+ghost use Rattle.bosh_keep_sql.specs.Rewrites.{Rewrites};
 ghost use Rattle.bosh_keep_sql.specs.Rows.{row_of};
 ghost use Rattle.bosh_keep_sql.specs.SqlView.{Fails};
 ghost use Rattle.bosh_keep_sql.specs.Statements.{insert_text, IsOneCommit, RefusesBody, Runs};
@@ -137,6 +138,8 @@ impl<S: Alter + Drop> Keeper for SqlKeeper<S> {
     }
 
     fn replace(&mut self, list: &Bodies) -> Result<(), KeepFault>
+        ensures rewritten { HasCleanDisk (state S.Store self.new.connection) → OnOk result
+            (Rewrites S.Store list.now self.old.connection self.new.connection) }
         ensures whole { IsOneCommit (state S.Store self.old.connection) (state S.Store self.new.connection) }
         ensures list { Leaves result self.old.bodies list.now (Some self.new.bodies) }
         ensures broken { TellsBroken result self.old.is_broken self.new.is_broken }

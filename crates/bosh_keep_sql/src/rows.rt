@@ -1,4 +1,5 @@
-ghost use Rattle.std.specs.Prelude.{◌≡◌, ◌≢◌, ℕ, pos, ◌++◌, [], ◌∷◌, ◌<◌, List, IsFalse, IsTrue, IfErr, IfOk, OnErr, OnOk, Err};
+ghost use Rattle.std.specs.Prelude.{◌≡◌, ◌≢◌, ℕ, pos, ◌++◌, [], ◌∷◌, List};
+ghost use Rattle.std.specs.Prelude.{IsFalse, IsTrue, IfErr, IfOk, OnOk};
 ghost use Rattle.bosh_keep_sql.specs.Rows.{AreFaulty, IsFaultyRow, row_of, rows_from};
 ghost use Rattle.bosh_ports.specs.Contents.{contents};
 ghost use Rattle.sqlite.specs.declared.types.Value.TheVariants.{Int};

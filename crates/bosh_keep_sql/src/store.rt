@@ -1,5 +1,6 @@
 ghost use Rattle.std.specs.Prelude.{◌≡◌, ◌≢◌, ◌≤◌, ◌^◌, ◌++◌, [], ◌∷◌, length, Err, IfErr, IfOk, OnErr, OnOk};
 ghost use Rattle.bosh_keep_sql.specs.Loads.{DiffersFrom, FailsToLoad, FailsToRead, Finds, ListsBodies};
+ghost use Rattle.bosh_keep_sql.specs.Rewrites.{Rewrites};
 ghost use Rattle.bosh_keep_sql.specs.Rows.{row_of, rows_from};
 ghost use Rattle.bosh_keep_sql.specs.Statements.{insert_text, IsOneCommit, RefusesBody, RefusesRun, Runs};
 ghost use Rattle.bosh_ports.specs.Contents.{contents};
@@ -113,6 +114,8 @@ pub(crate) fn put_all<S: Alter>(
 ) -> Result<(), KeepFault>
     ensures ok { OnOk result (contents bodies.new.items ≡ list.now) }
     ensures refused { OnErr result (contents bodies.new.items ≡ contents bodies.old.items) }
+    ensures rewritten { HasCleanDisk (state S.Store connection.new) → OnOk result
+        (Rewrites S.Store list.now connection.old connection.new) }
     ensures whole { IsOneCommit (state S.Store connection.old) (state S.Store connection.new) }
     ensures fault { IfErr result (λ fault. fault ≢ KeepFault.Broken) }
 {

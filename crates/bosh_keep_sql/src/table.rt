@@ -1,5 +1,6 @@
 ghost use Rattle.std.specs.Prelude.{◌≡◌, [], ◌∷◌, IfErr, IfOk, IsFalse, IsTrue, OnOk};
-ghost use Rattle.bosh_keep_sql.specs.Loads.{FailsToPrepare, IsOurs, IsPrepared, IsSchema, RefusesQuery, RefusesTable, Shows};
+ghost use Rattle.bosh_keep_sql.specs.Loads.{FailsToPrepare, IsOurs, IsPrepared, IsSchema};
+ghost use Rattle.bosh_keep_sql.specs.Loads.{RefusesQuery, RefusesTable, Shows};
 ghost use Rattle.bosh_keep_sql.specs.Statements.{make_text, Runs, schema_text};
 ghost use Rattle.sqlite.specs.Held.{state};
 ghost use Rattle.sqlite.specs.State.{HasCleanDisk};

@@ -1,7 +1,10 @@
-ghost use Rattle.std.specs.Prelude.{◌≡◌, ◌≢◌, IfErr};
-ghost use Rattle.bosh_keep_sql.specs.Statements.{IsOneCommit};
+ghost use Rattle.std.specs.Prelude.{◌≡◌, ◌≢◌, [], IfErr, IsTrue, OnOk};
+ghost use Rattle.bosh_keep_sql.specs.Rewrites.{delete_text, InsertsInside, Rewrites, RunsInside};
+ghost use Rattle.bosh_keep_sql.specs.Rows.{row_of};
+ghost use Rattle.bosh_keep_sql.specs.Statements.{insert_text, IsOneCommit};
+ghost use Rattle.bosh_ports.specs.Contents.{contents};
 ghost use Rattle.sqlite.specs.Held.{state};
-ghost use Rattle.sqlite.specs.State.{Survives};
+ghost use Rattle.sqlite.specs.State.{HasCleanDisk, Survives};
 
 use crate::fault::fault_of;
 use bosh_ports::KeepFault;
@@ -13,6 +16,8 @@ pub(crate) fn rewrite<S: Alter>(
     connection: &mut Connection<S>,
     bodies: &[Vec<u8>],
 ) -> Result<(), KeepFault>
+    ensures rewritten { HasCleanDisk (state S.Store connection.new) → OnOk result
+        (Rewrites S.Store (contents bodies.now) connection.old connection.new) }
     ensures whole { IsOneCommit (state S.Store connection.old) (state S.Store connection.new) }
     ensures fault { IfErr result (λ fault. fault ≢ KeepFault.Broken) }
 {
@@ -30,35 +35,60 @@ pub(crate) fn rewrite<S: Alter>(
 
 fn clear_in<S: Alter>(transaction: &mut Transaction<'_, S>) -> Result<(), KeepFault>
     ensures same_reference { transaction.new.conn.ghost_name ≡ transaction.old.conn.ghost_name }
+    ensures runs { HasCleanDisk (state S.Store transaction.new.conn.now) →
+        IsTrue transaction.old.conn.now.in_transaction → OnOk result
+        (RunsInside S.Store delete_text [] transaction.old.conn.now transaction.new.conn.now) }
     ensures survives { Survives (state S.Store transaction.old.conn.now)
         (state S.Store transaction.new.conn.now) (λ _. ⊥) }
     ensures fault { IfErr result (λ fault. fault ≢ KeepFault.Broken) }
 {
     match transaction.execute("DELETE FROM bodies", &[]) {
-        Ok(_) => Ok(()),
+        Ok(_count) => Ok(()),
         Err(error) => Err(fault_of(error)),
     }
 }
 
 fn insert_in<S: Alter>(
     transaction: &mut Transaction<'_, S>,
-    place: usize,
+    position: u32,
     body: &[u8],
 ) -> Result<(), KeepFault>
     ensures same_reference { transaction.new.conn.ghost_name ≡ transaction.old.conn.ghost_name }
+    ensures runs { HasCleanDisk (state S.Store transaction.new.conn.now) →
+        IsTrue transaction.old.conn.now.in_transaction → OnOk result
+        (RunsInside S.Store insert_text (row_of position body.now)
+        transaction.old.conn.now transaction.new.conn.now) }
     ensures survives { Survives (state S.Store transaction.old.conn.now)
         (state S.Store transaction.new.conn.now) (λ _. ⊥) }
     ensures fault { IfErr result (λ fault. fault ≢ KeepFault.Broken) }
 {
-    let Ok(position) = u32::try_from(place) else {
-        return Err(KeepFault::Failed);
-    };
     match transaction.execute(
         "INSERT INTO bodies (position, body) VALUES (?1, ?2)",
         params![position, body],
     ) {
-        Ok(_) => Ok(()),
+        Ok(_count) => Ok(()),
         Err(error) => Err(fault_of(error)),
+    }
+}
+
+/// Inserts the row of the body at a place. There is no position past 32 bits.
+fn insert_at<S: Alter>(
+    transaction: &mut Transaction<'_, S>,
+    place: usize,
+    body: &[u8],
+) -> Result<(), KeepFault>
+    ensures same_reference { transaction.new.conn.ghost_name ≡ transaction.old.conn.ghost_name }
+    ensures runs { HasCleanDisk (state S.Store transaction.new.conn.now) →
+        IsTrue transaction.old.conn.now.in_transaction → OnOk result
+        (RunsInside S.Store insert_text (row_of place body.now)
+        transaction.old.conn.now transaction.new.conn.now) }
+    ensures survives { Survives (state S.Store transaction.old.conn.now)
+        (state S.Store transaction.new.conn.now) (λ _. ⊥) }
+    ensures fault { IfErr result (λ fault. fault ≢ KeepFault.Broken) }
+{
+    match u32::try_from(place) {
+        Ok(position) => insert_in(transaction, position, body),
+        Err(_) => Err(KeepFault::Failed),
     }
 }
 
@@ -67,12 +97,15 @@ fn insert_all<S: Alter>(
     bodies: &[Vec<u8>],
 ) -> Result<(), KeepFault>
     ensures same_reference { transaction.new.conn.ghost_name ≡ transaction.old.conn.ghost_name }
+    ensures runs { HasCleanDisk (state S.Store transaction.new.conn.now) →
+        IsTrue transaction.old.conn.now.in_transaction → OnOk result
+        (InsertsInside S.Store (contents bodies.now) transaction.old.conn.now transaction.new.conn.now) }
     ensures survives { Survives (state S.Store transaction.old.conn.now)
         (state S.Store transaction.new.conn.now) (λ _. ⊥) }
     ensures fault { IfErr result (λ fault. fault ≢ KeepFault.Broken) }
 {
     for (place, body) in bodies.iter().enumerate() {
-        insert_in(transaction, place, body)?;
+        insert_at(transaction, place, body)?;
     }
     Ok(())
 }

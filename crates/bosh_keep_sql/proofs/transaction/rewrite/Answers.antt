@@ -1,4 +1,6 @@
-use Rattle.std.proofs.Common.{◌≡◌, rules}
+use Rattle.std.proofs.Common.{rules}
+use Rattle.bosh_keep_sql.proofs.RewriteLemmas.{rewritten}
+use Rattle.bosh_ports.specs.Contents.{contents}
 use Rattle.bosh_keep_sql.proofs.SurvivalLemmas.{begun_committed, begun_undone, same_commit, survives_both}
 use Rattle.sqlite.specs.Held.{state}
 use Rattle.bosh_keep_sql.proofs.transaction.rewrite.Goals as goal
@@ -43,3 +45,11 @@ returns-in-Err-clause-whole g c =
     (state g.S.Store c.clear_in.new.transaction.conn.now) (state g.S.Store c.insert_all.new.transaction.conn.now)
     c.clear_in.ensures.survives c.insert_all.ensures.survives)
     c.commit.ensures.survives
+
+pub returns-in-Ok-clause-rewritten : goal.returns-in-Ok-clause-rewritten
+returns-in-Ok-clause-rewritten g c =
+    rewritten g.S.Store c.args.connection.now c.transaction-transaction.result.conn.now
+    c.clear_in.new.transaction.conn.now c.insert_all.new.transaction.conn.now c.commit.new.self.0
+    c.connection-2-1.given.0 (contents c.args.bodies.now) _ c.transaction-transaction.ensures.begun (search rules)
+    c.in_ok-clear_in.ensures.runs c.in_ok-insert_all.ensures.runs c.insert_all.ensures.survives
+    c.commit.ensures.survives (λ clean. (c.in-Ok.ensures.ok clean).1)
