@@ -1,0 +1,3 @@
+pub mod AddrLemmas
+pub mod AnswerLemmas
+pub mod UsedLemmas
