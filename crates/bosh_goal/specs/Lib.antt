@@ -1,2 +1,3 @@
 pub mod Goal
+pub mod Instances
 pub mod Anew

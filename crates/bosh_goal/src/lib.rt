@@ -6,9 +6,11 @@ mod altering;
 mod change;
 mod desired;
 mod freeing;
+mod laws;
 mod renewing;
 mod whole;
 
 pub use change::Change;
+pub use laws::{goals_are_determined, rows_are_of_the_instances};
 pub use renewing::anew;
 pub use whole::goal;
