@@ -52,8 +52,8 @@ row_anew inst change last_call row = cond (is_row_of inst row) (changed change l
 
 -- ---- addresses that stay taken
 
--- A task of one instance deletes no instance, so none that is not in the goal gives its addresses up; an instance without
--- a machine needs none.
+-- A task of one instance deletes no instance, so none that is not in the goal gives its addresses up; an instance
+-- without a machine needs none.
 abbrev pub needs_addrs : Change → Bool
 needs_addrs Fresh = true
 needs_addrs (To Running) = true
@@ -74,7 +74,8 @@ refusal_at addr (Some row) = Err (Pool (Taken addr (Instance row.inst)))
 
 abbrev pub all_free : List GoalRow → List Row → List Addr → Result Bool GoalFault
 all_free rows recorded [] = Ok true
-all_free rows recorded (addr ∷ addrs) = refusal_at addr (find (keeps rows addr) recorded) >>= λ free. all_free rows recorded addrs
+all_free rows recorded (addr ∷ addrs) =
+    refusal_at addr (find (keeps rows addr) recorded) >>= λ free. all_free rows recorded addrs
 
 -- the addresses of an instance, where it has a row
 abbrev pub addrs_of : Option GoalRow → List Addr

@@ -40,7 +40,8 @@ none_wrong (Some fault) = Err (Pool fault)
 -- for each instance an address a network; what the deployment's own instances hold that stay, these may keep
 abbrev pub assigned : Contents → Config → View → Result (List Addr) GoalFault
 assigned manifest config view = with_fault Pool
-    (assignment (wants manifest.name view.rows manifest.groups) config.plan view.taken (kept manifest.name manifest.groups view.rows))
+    (assignment (wants manifest.name view.rows manifest.groups) config.plan view.taken
+    (kept manifest.name manifest.groups view.rows))
 
 abbrev pub addresses : Contents → Config → View → Result (List Addr) GoalFault
 addresses manifest config view = do

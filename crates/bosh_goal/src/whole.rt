@@ -29,8 +29,8 @@ fn with_addrs<'a>(
     keys: Seq<KeyWork>,
 ) -> Result<Goal, GoalFault>
     requires { All (λ it. 1 ≤ length it.group.azs) used.now }
-    ensures { IsAnswer result (with_addrs keys manifest.now setting.entry.config.now setting.entry.view.now setting.entry.recreate
-        used.now ties addrs.now) }
+    ensures { IsAnswer result (with_addrs keys manifest.now setting.entry.config.now setting.entry.view.now
+        setting.entry.recreate used.now ties addrs.now) }
 {
     let groups = sites(alloc, used, addrs)?;
     with_keys(
@@ -52,7 +52,8 @@ fn of_used<'a>(
     keys: Seq<KeyWork>,
 ) -> Result<Goal, GoalFault>
     requires { map (λ it. it.group) used.now ≡ manifest.now.groups }
-    ensures { IsAnswer result (of_used keys manifest.now setting.entry.config.now setting.entry.view.now setting.entry.recreate used.now) }
+    ensures { IsAnswer result (of_used keys manifest.now setting.entry.config.now setting.entry.view.now
+        setting.entry.recreate used.now) }
 {
     let known = setting.view.known.as_slice();
     let ties = ties(alloc, &manifest.contents().name, used, known)?;
@@ -85,7 +86,8 @@ fn configured(
 ) -> Result<Goal, GoalFault>
     requires sound { All IsSound releases.now }
     requires alike { AreAlike releases.now }
-    ensures { IsGoal manifest.now (Some setting.entry.config.now) releases.now stemcells.now setting.entry.view.now setting.entry.recreate result }
+    ensures { IsGoal manifest.now (Some setting.entry.config.now) releases.now stemcells.now setting.entry.view.now
+        setting.entry.recreate result }
 {
     let used = uses(alloc, manifest, setting.config, releases, stemcells)?;
     let keys = keys_of(alloc, setting, used.as_slice())?;
