@@ -1,0 +1,10 @@
+pub mod AnewLemmas
+pub mod FreeLemmas
+pub mod ListLemmas
+pub mod PartLemmas
+pub mod PlaceLemmas
+pub mod PlanLemmas
+pub mod RowLemmas
+pub mod SlotLemmas
+pub mod TieLemmas
+pub mod WantLemmas

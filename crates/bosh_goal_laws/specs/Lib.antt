@@ -1,0 +1,4 @@
+pub mod Free
+pub mod Renewed
+pub mod Rows
+pub mod Ties

@@ -1,0 +1,12 @@
+//! What is true of every goal that is given, whatever else the manifest asks for.
+#![tactic(auto)]
+
+mod addresses;
+mod instances;
+mod renewal;
+mod ties;
+
+pub use addresses::goals_have_free_addresses;
+pub use instances::rows_are_planned;
+pub use renewal::renewed_goals_keep_the_current_one;
+pub use ties::ties_are_offered;
