@@ -1,6 +1,8 @@
 pub mod AnewLemmas
 pub mod FreeLemmas
+pub mod KeyLemmas
 pub mod ListLemmas
+pub mod OrderLemmas
 pub mod PartLemmas
 pub mod PlaceLemmas
 pub mod PlanLemmas

@@ -1,4 +1,5 @@
 pub mod Free
+pub mod Keys
 pub mod Renewed
 pub mod Rows
 pub mod Ties

@@ -2,11 +2,13 @@
 #![tactic(auto)]
 
 mod addresses;
+mod compiling;
 mod instances;
 mod renewal;
 mod ties;
 
 pub use addresses::goals_have_free_addresses;
+pub use compiling::keys_are_in_order;
 pub use instances::rows_are_planned;
 pub use renewal::renewed_goals_keep_the_current_one;
 pub use ties::ties_are_offered;
