@@ -1,9 +1,12 @@
 pub mod AnewLemmas
+pub mod ClearedLemmas
 pub mod FreeLemmas
 pub mod KeyLemmas
+pub mod LeftLemmas
 pub mod ListLemmas
 pub mod OrderLemmas
 pub mod PartLemmas
+pub mod RenewalLemmas
 pub mod PlaceLemmas
 pub mod PlanLemmas
 pub mod RowLemmas

@@ -74,7 +74,7 @@ any-net a nets = any_map (same_addr a) net_addr nets ∙ (ap (λ (test : NetAddr
 any-held : (a : Addr) (helds : List Held) → list_any (same_addr a) (map held_addr helds) ≡ is_held helds a.0
 any-held a helds = any_map (same_addr a) held_addr helds ∙ ap (λ (test : Held → Bool). list_any test helds) (λ i it. eqb_flip a.0 it.addr.0 i)
 
-any-make : (a : Addr) (row : Row) (make : Option Make) → row.make ≡ make → list_any (same_addr a) (row_addrs row) ≡ has_addr a.0 row.make
+pub any-make : (a : Addr) (row : Row) (make : Option Make) → row.make ≡ make → list_any (same_addr a) (row_addrs row) ≡ has_addr a.0 row.make
 any-make a row None e = ap (λ (m : Option Make). list_any (same_addr a) (row_addrs (record row { make = m }))) e ∙ ap (has_addr a.0) (sym e)
 any-make a row (Some make) e = ap (λ (m : Option Make). list_any (same_addr a) (row_addrs (record row { make = m }))) e ∙ (any-net a make.nets ∙ ap (has_addr a.0) (sym e))
 
