@@ -1,6 +1,7 @@
 pub mod AnewLemmas
 pub mod ClearedLemmas
 pub mod FreeLemmas
+pub mod KeptLemmas
 pub mod KeyLemmas
 pub mod LeftLemmas
 pub mod ListLemmas

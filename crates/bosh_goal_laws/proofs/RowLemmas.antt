@@ -8,6 +8,7 @@ use Rattle.bosh_base.specs.declared.goal.GoalRow.{GoalRow}
 use Rattle.bosh_base.specs.declared.row.Row.{Row}
 use Rattle.bosh_instances.specs.Machines.{net_addrs, own_addrs}
 use Rattle.bosh_instances.specs.Rows.{Scene, goal_row}
+use Rattle.bosh_manifest.specs.Sound.{network_name}
 use Rattle.bosh_manifest.specs.declared.group.Group.{Group}
 use Rattle.bosh_manifest_parts.specs.declared.network.NetUse.{NetUse}
 use Rattle.bosh_offers.specs.Sited.{Sited, after_group, beyond, site, sites}
@@ -59,6 +60,9 @@ module _ (scene : Scene) where
 
 -- ---- each row
 
+abbrev pub net_name : NetAddr → List ℕ
+net_name net = net.net
+
 -- the address of a machine on a network is the one that was given for it
 pub record IsOwn (Q : Want → Addr → Type 0) (want_for : NetUse → Want) (networks : List NetUse) (net : NetAddr) : Type 0 where
   pub network : NetUse
@@ -74,7 +78,14 @@ pub record HasPlace (Q : Want → Addr → Type 0) (dep : List ℕ) (rows : List
   pub within : index < group.instances
   pub inst : row.inst ≡ inst_of dep group index
   pub zone : row.make.az ≡ zone_of dep rows group index
+  pub names : map net_name row.make.nets ≡ map network_name group.networks
   pub nets : AllByRecursion (IsOwn Q (want_of dep rows group index) group.networks) row.make.nets
+
+own-names : (Q : Want → Addr → Type 0) (want_for : NetUse → Want) (networks : List NetUse) (own : List Addr) → AllZip Q (map want_for networks) own
+    → map net_name (net_addrs networks own) ≡ map network_name networks
+own-names Q want_for [] own zip = refl
+own-names Q want_for (network ∷ networks) [] zip = absurd zip
+own-names Q want_for (network ∷ networks) (addr ∷ own) (here, more) = ap (λ names. network.net ∷ names) (own-names Q want_for networks own more)
 
 own-nets : (Q : Want → Addr → Type 0) (want_for : NetUse → Want) (networks : List NetUse) (own : List Addr) → AllZip Q (map want_for networks) own
     → AllByRecursion (IsOwn Q want_for networks) (net_addrs networks own)
@@ -101,6 +112,7 @@ module _ (Q : Want → Addr → Type 0) (scene : Scene) where
         within = within;
         inst = refl;
         zone = refl;
+        names = own-names Q (want_of scene.dep scene.view.rows it.group index) it.group.networks (own_addrs (site it addrs) index) zip;
         nets = own-nets Q (want_of scene.dep scene.view.rows it.group index) it.group.networks (own_addrs (site it addrs) index) zip;
       })
 
@@ -127,7 +139,7 @@ module _ (Q : Want → Addr → Type 0) (scene : Scene) where
       λ index within. subst (AllZip Q (ask index)) (sym (own_at it addrs index within)) (zip_at Q ask w each it.group.instances later addrs index within zip) in
       let back : AllByRecursion (Placed (it.group ∷ groups_of used)) more =
       all_map (Placed (groups_of used)) (Placed (it.group ∷ groups_of used)) more
-      (λ row p. record { group = p.group; there = contains_there it.group (groups_of used) p.group p.there; index = p.index; within = p.within; inst = p.inst; zone = p.zone; nets = p.nets })
+      (λ row p. record { group = p.group; there = contains_there it.group (groups_of used) p.group p.there; index = p.index; within = p.within; inst = p.inst; zone = p.zone; names = p.names; nets = p.nets })
       (rows-placed used (after_group it addrs) more rest others) in
       subst (AllByRecursion (Placed (it.group ∷ groups_of used))) whole
       (all_append (Placed (it.group ∷ groups_of used)) some more (placed-all it (groups_of used) addrs (below it.group.instances) some own (all_below it.group.instances) rows) back)

@@ -1,4 +1,5 @@
 pub mod Free
+pub mod Kept
 pub mod Keys
 pub mod Renewed
 pub mod Rows

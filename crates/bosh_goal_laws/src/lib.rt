@@ -9,7 +9,7 @@ mod ties;
 
 pub use addresses::goals_have_free_addresses;
 pub use compiling::{keys_are_in_order, keys_in_order_can_be_compiled};
-pub use instances::rows_are_planned;
+pub use instances::{rows_are_planned, rows_keep_their_places};
 pub use renewal::{
     renewed_goals_can_be_compiled, renewed_goals_have_free_addresses,
     renewed_goals_keep_the_current_one,
