@@ -1,30 +1,25 @@
 -- A goal that is made anew has what the current one has.
-use Rattle.std.proofs.Common.{◌≡◌, ◌∙◌, ℕ, Bool, true, false, true≢false, ◌&&◌, ◌||◌, ◌==◌, not, eqb, cond, List, [], ◌∷◌, ◌++◌, Option, Some, None, Result, Ok, Err, find, filter, length, map, ap, refl, sym, subst}
-use Rattle.std.specs.Bool.{Decides}
-use Rattle.std.specs.List.{AllByRecursion, Contains, flat_map, list_all, list_any}
-use Rattle.std.specs.Option.{is_some, option_eq}
-use Rattle.std.proofs.lemmas.Bool.{and_from, eq-eqb, or_left, or_parts, or_right}
+use Rattle.std.proofs.Common.{◌≡◌, ◌∙◌, ℕ, Bool, true, false, ◌==◌, cond, List, [], ◌∷◌, Some, Ok, filter, length, map, ap, refl, sym, subst}
+use Rattle.std.specs.Option.{option_eq}
+use Rattle.std.proofs.lemmas.Bool.{and_from, eq-eqb, or_left, or_right}
 use Rattle.bosh_base.specs.Exact.{Decides-option}
 use Rattle.bosh_base.specs.ExactParts.{Decides-disk_want, Decides-make, Decides-spec}
-use Rattle.bosh_base.specs.declared.addr.Addr.{Addr}
 use Rattle.bosh_base.specs.declared.goal.Goal.{Goal}
 use Rattle.bosh_base.specs.declared.goal.GoalRow.{GoalRow}
 use Rattle.bosh_base.specs.declared.inst.Inst.{Inst}
 use Rattle.bosh_base.specs.declared.make.Make.{Make}
-use Rattle.bosh_base.specs.declared.row.Row.{Row}
 use Rattle.bosh_base.specs.declared.state.State.{State}
 use Rattle.bosh_base.specs.declared.state.State.TheVariants.{Detached, Running, Stopped}
 use Rattle.bosh_base.specs.declared.view.View.{View}
 use Rattle.bosh_cloudcfg.specs.declared.config.Config.{Config}
-use Rattle.bosh_goal.proofs.InstanceLemmas.{both-steps, never, same-value}
+use Rattle.bosh_goal.proofs.InstanceLemmas.{both-steps, same-value}
 use Rattle.bosh_goal.specs.Anew.{addresses_free, anew, changed, is_left, is_row_of, row_anew}
 use Rattle.bosh_goal.specs.declared.change.Change.{Change}
 use Rattle.bosh_goal.specs.declared.change.Change.TheVariants.{Fresh, To, Same}
-use Rattle.bosh_history.specs.Sound.{are_rows_kept, is_alike, is_kept_row, row_addrs, slot_addrs}
+use Rattle.bosh_history.specs.Sound.{are_rows_kept, is_alike, is_kept_row}
 use Rattle.bosh_rows.proofs.SameLemmas.{itself}
 use Rattle.bosh_rows.specs.Same.{same_inst, same_make, same_spec, same_state, same_want}
 use Rattle.bosh_slots.specs.Slots.{slots}
-use Rattle.bosh_uses.specs.declared.fault.GoalFault.{GoalFault}
 use Rattle.bosh_goal_laws.specs.Renewed.{IsRenewed}
 
 pub record IsAnew (inst : Inst) (change : Change) (config : Config) (view : View) (goal it : Goal) : Type 0 where

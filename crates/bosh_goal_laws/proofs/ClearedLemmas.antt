@@ -1,5 +1,5 @@
 -- The named row of a goal that is made anew is to be detached, or has no address of an instance that is not in the goal.
-use Rattle.std.proofs.Common.{◌≡◌, ◌∙◌, ℕ, Bool, true, false, true≢false, ◌&&◌, ◌||◌, not, cond, List, [], ◌∷◌, Option, Some, None, Result, Ok, Err, find, map, ap, refl, sym, subst}
+use Rattle.std.proofs.Common.{◌≡◌, ◌∙◌, ℕ, Bool, true, false, true≢false, ◌&&◌, ◌||◌, not, cond, List, [], ◌∷◌, Option, Some, None, Ok, find, map, ap, refl, sym}
 use Rattle.std.specs.List.{AllByRecursion, Contains, list_all, list_any}
 use Rattle.std.specs.Option.{is_some}
 use Rattle.std.proofs.lemmas.Bool.{or_left, or_right}
@@ -22,20 +22,19 @@ use Rattle.bosh_goal.specs.declared.change.Change.TheVariants.{Fresh, To, Same}
 use Rattle.bosh_history.specs.Goals.{inst_of, is_in}
 use Rattle.bosh_history.specs.Sound.{addrs, has_addr}
 use Rattle.bosh_history.specs.Words.{are_distinct}
-use Rattle.bosh_pool.proofs.ListLemmas.{AllPairs-from, Pairs, find_none, find_some, one_place, recursion_from_contains}
+use Rattle.bosh_pool.proofs.ListLemmas.{AllPairs-from, find_none, find_some, one_place, recursion_from_contains}
 use Rattle.bosh_pool.specs.Fixed.{same_addr}
 use Rattle.bosh_pool.specs.declared.fault.PoolFault.TheVariants.{Taken}
-use Rattle.bosh_rows.proofs.SameLemmas.{same_inst_decides}
 use Rattle.bosh_rows.specs.Disks.{is_detached}
 use Rattle.bosh_rows.specs.Same.{same_inst}
 use Rattle.bosh_slots.specs.Slots as slot_words
 use Rattle.bosh_slots.specs.Slots.{goal_row_addrs, net_addr}
-use Rattle.bosh_uses.specs.declared.fault.GoalFault.{GoalFault}
 use Rattle.bosh_uses.specs.declared.fault.GoalFault.TheVariants.{Pool}
 use Rattle.bosh_goal_laws.specs.Renewed.{is_cleared, is_cleared_for}
 use Rattle.bosh_goal_laws.proofs.AnewLemmas.{IsAnew, anew-inst, anew-make, is-anew}
-use Rattle.bosh_goal_laws.proofs.ListLemmas.{all_at, all_map, all_mapped, all_pass, all_unmapped, none_pass, pairs_unmapped}
-use Rattle.bosh_goal_laws.proofs.RenewalLemmas.{in-same, inst-flip, pairs-of-distinct}
+use Rattle.bosh_goal_laws.proofs.ListLemmas.{all_map, all_mapped, all_pass, all_unmapped, none_pass, pairs_of_distinct, pairs_unmapped}
+use Rattle.bosh_goal_laws.proofs.RenewalLemmas.{in-same}
+use Rattle.bosh_goal_laws.proofs.SameLemmas.{inst-flip, inst-is, inst-same}
 use Rattle.bosh_goal_laws.proofs.SlotLemmas.{any-make}
 
 -- ---- what is free
@@ -69,12 +68,12 @@ found-row inst rows row distinct there same = by (find (is_row_of inst) rows) re
     by None e = absurd (true≢false (sym same ∙ find_none (is_row_of inst) rows e row there))
     by (Some other) e =
         let (passes, within) = find_some (is_row_of inst) rows other e in
-        let one : row.inst ≡ other.inst = (same_inst_decides row.inst inst).0 same ∙ sym ((same_inst_decides other.inst inst).0 passes) in
+        let one : row.inst ≡ other.inst = inst-is row.inst inst same ∙ sym (inst-is other.inst inst passes) in
         let is : other ≡ row =
         one_place (λ (a b : GoalRow). same_inst a.inst b.inst ≡ false) rows other row
-        (AllPairs-from (λ (a b : GoalRow). same_inst a.inst b.inst ≡ false) rows (pairs_unmapped (λ i j. same_inst i j ≡ false) inst_of rows (pairs-of-distinct same_inst (map inst_of rows) distinct)))
+        (AllPairs-from (λ (a b : GoalRow). same_inst a.inst b.inst ≡ false) rows (pairs_unmapped (λ i j. same_inst i j ≡ false) inst_of rows (pairs_of_distinct same_inst (map inst_of rows) distinct)))
         within there
-        (λ none. true≢false (sym ((same_inst_decides other.inst row.inst).1 (sym one)) ∙ none)) (λ none. true≢false (sym ((same_inst_decides row.inst other.inst).1 one) ∙ none)) in
+        (λ none. true≢false (sym (inst-same other.inst row.inst (sym one)) ∙ none)) (λ none. true≢false (sym (inst-same row.inst other.inst one) ∙ none)) in
         ap Some is
 
 -- ---- the named row

@@ -1,11 +1,10 @@
 -- The addresses of a goal that is given are free.
-use Rattle.std.proofs.Common.{◌≡◌, ◌∙◌, ℕ, Bool, true, false, true≢false, ◌&&◌, ◌||◌, ◌==◌, not, eqb, nat_lt, List, [], ◌∷◌, ◌++◌, Option, Some, None, Ok, find, filter, map, ap, refl, sym, subst}
-use Rattle.std.specs.List.{AllByRecursion, AllZip, All, Contains, flat_map, list_all, list_any}
+use Rattle.std.proofs.Common.{◌≡◌, ◌∙◌, ℕ, Bool, true, false, true≢false, ◌&&◌, ◌==◌, not, eqb, nat_lt, List, [], ◌∷◌, ◌++◌, Option, Some, None, Ok, find, map, ap, refl, sym, subst}
+use Rattle.std.specs.List.{AllByRecursion, AllZip, flat_map, list_all, list_any}
 use Rattle.std.specs.Option.{is_some, option_map}
 use Rattle.std.specs.Str.{bytes_eq}
-use Rattle.std.proofs.lemmas.Bool.{and_from, and_left, and_parts, and_right, eq-eqb, eqb-true, lt-ltb, not-false, not-true, or_parts}
+use Rattle.std.proofs.lemmas.Bool.{and_from, and_left, and_right, lt-ltb, not-false, or_parts}
 use Rattle.std.proofs.lemmas.List.{map-append}
-use Rattle.std.proofs.lemmas.Slice.Eq.{bytes_eq-Decides}
 use Rattle.bosh_bands.specs.Apart.{AreApart}
 use Rattle.bosh_base.specs.declared.addr.Addr.{Addr}
 use Rattle.bosh_base.specs.declared.addr.NetAddr.{NetAddr}
@@ -13,7 +12,6 @@ use Rattle.bosh_base.specs.declared.goal.Goal.{Goal}
 use Rattle.bosh_base.specs.declared.goal.GoalRow.{GoalRow}
 use Rattle.bosh_base.specs.declared.inst.Inst.{Inst}
 use Rattle.bosh_base.specs.declared.make.Make.{Make}
-use Rattle.bosh_base.specs.declared.owner.Owner.{Owner}
 use Rattle.bosh_base.specs.declared.release.Release.{Release}
 use Rattle.bosh_base.specs.declared.row.Row.{Row}
 use Rattle.bosh_base.specs.declared.stemcell.Stemcell.{Stemcell}
@@ -34,33 +32,20 @@ use Rattle.bosh_places.specs.Wants.{held_by, held_of, is_in, kept, row_holds, st
 use Rattle.bosh_places.specs.Zones.{inst_of}
 use Rattle.bosh_pool.proofs.ListLemmas.{AllPairs-from, Pairs, Pairs-from, any_from, find_none, find_some, recursion_from_contains}
 use Rattle.bosh_pool.proofs.SafeLemmas.{all_different, all_unshared, all_untaken}
-use Rattle.bosh_pool.specs.Fixed.{holds, is_owner, other_owner, owner_in, owner_of, same_addr, same_inst}
+use Rattle.bosh_pool.specs.Fixed.{holds, is_owner, owner_of, same_addr, same_inst}
 use Rattle.bosh_pool.specs.Safe.{AreHeldOnce, AreWantedOnce, IsUnshared, IsUntaken}
 use Rattle.bosh_pool.specs.declared.want.Want.{Want}
-use Rattle.bosh_rows.proofs.SameLemmas.{same_inst_decides}
 use Rattle.bosh_slots.specs.Slots.{goal_row_addrs, net_addr}
-use Rattle.bosh_uses.specs.Used.{UsedGroup}
-use Rattle.bosh_goal_laws.specs.Free.{HasFreeAddresses, HoldOnce, another_keeps, are_rows_free, is_own, is_used}
+use Rattle.bosh_goal_laws.specs.Free.{HasFreeAddresses, HoldOnce, another_keeps, are_rows_free, is_used}
 use Rattle.bosh_goal_laws.proofs.ListLemmas.{across_swap, all_append, all_at, all_front, all_from_index, all_map, all_mapped, all_pass, any_and, any_append, any_map, distinct_from, eqb_flip, none_filtered, none_pass, none_passes, pairs_append, pairs_filtered, pairs_front, pairs_mapped}
 use Rattle.bosh_goal_laws.proofs.PartLemmas.{IsMade, are-rows, is-made}
 use Rattle.bosh_goal_laws.proofs.RowLemmas.{HasPlace, IsOwn, groups_of, rows-addrs, rows-placed}
-use Rattle.bosh_goal_laws.proofs.SlotLemmas.{AreSpare, are-spare}
+use Rattle.bosh_goal_laws.proofs.SameLemmas.{bytes-same, inst-is, inst-same}
+use Rattle.bosh_goal_laws.proofs.SlotLemmas.{AreSpare, are-spare, number}
 use Rattle.bosh_goal_laws.proofs.WantLemmas.{wanted-once}
-
-abbrev number : Addr → ℕ
-number a = a.0
 
 abbrev Apart : Addr → Addr → Type 0
 Apart one other = same_addr one other ≡ false
-
-pub inst-is : (i j : Inst) → same_inst i j ≡ true → i ≡ j
-inst-is i j h = (same_inst_decides i j).0 h
-
-pub inst-same : (i j : Inst) → i ≡ j → same_inst i j ≡ true
-inst-same i j h = (same_inst_decides i j).1 h
-
-pub bytes-same : (m n : List ℕ) → m ≡ n → bytes_eq m n ≡ true
-bytes-same m n h = (bytes_eq-Decides m n).1 h
 
 -- ---- numbers of addresses
 

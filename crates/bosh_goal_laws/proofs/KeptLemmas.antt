@@ -1,11 +1,10 @@
 -- A recorded instance keeps its zone and its addresses in a goal.
-use Rattle.std.proofs.Common.{◌≡◌, ◌∙◌, ℕ, zero, suc, ◌<◌, Bool, true, false, true≢false, ◌&&◌, ◌||◌, not, cond, nat_lt, List, [], ◌∷◌, ◌++◌, Option, Some, None, Ok, find, filter, map, ap, refl, sym, subst, inl, inr, ◌⊎◌, arith}
+use Rattle.std.proofs.Common.{◌≡◌, ◌∙◌, ℕ, zero, suc, Bool, true, false, true≢false, ◌&&◌, ◌||◌, cond, nat_lt, List, [], ◌∷◌, ◌++◌, Option, Some, None, Ok, find, filter, map, ap, refl, sym, subst, inl, inr, ◌⊎◌, arith}
 use Rattle.std.specs.List.{AllByRecursion, AllZip, Contains, flat_map, list_any}
 use Rattle.std.specs.Option.{option_map}
 use Rattle.std.specs.Str.{bytes_eq}
 use Rattle.std.proofs.lemmas.Bool.{and_from, lt-ltb}
-use Rattle.std.proofs.lemmas.Slice.Eq.{bytes_eq-Decides}
-use Rattle.bosh_base.specs.Plan.{is_dynamic, is_listed}
+use Rattle.bosh_base.specs.Plan.{is_listed}
 use Rattle.bosh_base.specs.declared.addr.Addr.{Addr}
 use Rattle.bosh_base.specs.declared.addr.NetAddr.{NetAddr}
 use Rattle.bosh_base.specs.declared.goal.Goal.{Goal}
@@ -32,21 +31,18 @@ use Rattle.bosh_places.specs.Statics.{addr_in}
 use Rattle.bosh_places.specs.Wants.{held_by, held_of, is_in, kept, row_holds, stays, want_of, wants}
 use Rattle.bosh_places.specs.Zones.{inst_of, new_zone, recorded_zone, zone_by}
 use Rattle.bosh_pool.proofs.AssignedLemmas.{given-assigned}
-use Rattle.bosh_pool.proofs.ListLemmas.{AllPairs-from, Pairs, any_from, contains_here, one_place, recursion_from_contains}
+use Rattle.bosh_pool.proofs.ListLemmas.{AllPairs-from, Pairs, any_from, one_place, recursion_from_contains}
 use Rattle.bosh_pool.specs.Assigned.{ArePlaced, IsPlaced}
 use Rattle.bosh_pool.specs.Assignment.{is_held}
 use Rattle.bosh_pool.specs.Fixed.{same_addr}
-use Rattle.bosh_pool.specs.Kept.{is_kept, is_taken}
+use Rattle.bosh_pool.specs.Kept.{is_kept}
 use Rattle.bosh_pool.specs.declared.want.Want.{Want}
-use Rattle.bosh_rows.proofs.SameLemmas.{same_inst_decides}
 use Rattle.bosh_rows.specs.Same.{same_inst}
-use Rattle.bosh_uses.specs.Used.{UsedGroup}
 use Rattle.bosh_goal_laws.specs.Kept.{AreRecordedOnce, KeepsAddresses, KeepsPlace, KeepsZone, inst_in, may_keep}
-use Rattle.bosh_goal_laws.proofs.FreeLemmas.{bytes-same}
-use Rattle.bosh_goal_laws.proofs.ListLemmas.{all_at, all_from_index, all_map, pairs_unmapped}
+use Rattle.bosh_goal_laws.proofs.ListLemmas.{all_at, all_from_index, pairs_of_distinct, pairs_unmapped}
 use Rattle.bosh_goal_laws.proofs.PartLemmas.{IsMade, are-rows, is-made}
-use Rattle.bosh_goal_laws.proofs.RenewalLemmas.{pairs-of-distinct}
 use Rattle.bosh_goal_laws.proofs.RowLemmas.{HasPlace, IsOwn, groups_of, net_name, rows-placed}
+use Rattle.bosh_goal_laws.proofs.SameLemmas.{bytes-same, inst-is, inst-same}
 use Rattle.bosh_goal_laws.proofs.WantLemmas.{Apart, distinct-pairs}
 
 -- ---- what is assigned
@@ -141,7 +137,7 @@ module _ (plan : NetPlan) (taken : List Held) (dep : List ℕ) (groups : List Gr
   one-row : (row other : Row) → Contains recorded row → Contains recorded other → other.inst ≡ row.inst → other ≡ row
   one-row row other in_one in_two same =
       one_place (λ (a b : Row). same_inst (inst_in a) (inst_in b) ≡ false) recorded other row (AllPairs-from (λ (a b : Row). same_inst (inst_in a) (inst_in b) ≡ false) recorded once) in_two in_one
-      (λ none. true≢false (sym ((same_inst_decides other.inst row.inst).1 same) ∙ none)) (λ none. true≢false (sym ((same_inst_decides row.inst other.inst).1 (sym same)) ∙ none))
+      (λ none. true≢false (sym (inst-same other.inst row.inst same) ∙ none)) (λ none. true≢false (sym (inst-same row.inst other.inst (sym same)) ∙ none))
 
   -- the entry that a want may keep is the first of its instance's
   kept-entry : (want : Want) (row : Row) (make : Make) (net : NetAddr) → Contains recorded row → stays dep groups row ≡ true → row.inst ≡ want.inst → row.make ≡ Some make
@@ -149,12 +145,12 @@ module _ (plan : NetPlan) (taken : List Held) (dep : List ℕ) (groups : List Gr
   kept-entry want row make net there stay same made found =
       find-part (is_kept plan taken want) row_holds (stays dep groups) recorded row (held_of row.inst net) there stay
       (ap (λ (m : Option Make). find (is_kept plan taken want) (held_by row.inst m)) made
-      ∙ (entries want row.inst true ((same_inst_decides row.inst want.inst).1 same) make ∙ ap (option_map (held_of row.inst)) found))
+      ∙ (entries want row.inst true (inst-same row.inst want.inst same) make ∙ ap (option_map (held_of row.inst)) found))
       (recursion_from_contains (λ other. (other ≡ row) ⊎ (find (is_kept plan taken want) (row_holds other) ≡ None)) recorded
       (λ other within. by other within (same_inst other.inst want.inst) refl))
     where
       by : (other : Row) → Contains recorded other → (b : Bool) → same_inst other.inst want.inst ≡ b → (other ≡ row) ⊎ (find (is_kept plan taken want) (row_holds other) ≡ None)
-      by other within true e = inl (one-row row other there within ((same_inst_decides other.inst want.inst).0 e ∙ sym same))
+      by other within true e = inl (one-row row other there within (inst-is other.inst want.inst e ∙ sym same))
       by other within false e = inr (none-of-others want other other.make e)
 
 -- ---- a row of a goal
@@ -173,7 +169,7 @@ module _ (plan : NetPlan) (view : View) (manifest : Contents) (sound : IsSound m
   Q = KeepsOwn plan view.taken entries_kept
 
   rows-once : Pairs (λ one other. same_inst (inst_in one) (inst_in other) ≡ false) view.rows
-  rows-once = pairs_unmapped (λ i j. same_inst i j ≡ false) inst_in view.rows (pairs-of-distinct same_inst (map inst_in view.rows) once)
+  rows-once = pairs_unmapped (λ i j. same_inst i j ≡ false) inst_in view.rows (pairs_of_distinct same_inst (map inst_in view.rows) once)
 
   module _ (want : GoalRow) (p : HasPlace Q manifest.name view.rows manifest.groups want) where
     own-group : (group : Group) → Contains manifest.groups group → group.name ≡ want.inst.group → group ≡ p.group

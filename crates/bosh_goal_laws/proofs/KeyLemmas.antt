@@ -1,9 +1,8 @@
 -- The keys of a goal are in compile order, and there is a machine for them.
-use Rattle.std.proofs.Common.{◌≡◌, ◌∙◌, ℕ, zero, suc, ◌<◌, ◌≤◌, Bool, true, false, true≢false, ◌&&◌, ◌||◌, not, cond, max, nat_le, List, [], ◌∷◌, Option, Some, None, Ok, length, map, ap, refl, sym, subst, inl, inr, ◌⊎◌, arith}
-use Rattle.std.specs.List.{All, AllByRecursion, Contains, filter_map, list_all, list_any}
+use Rattle.std.proofs.Common.{◌≡◌, ◌∙◌, ℕ, suc, Bool, true, false, true≢false, ◌||◌, not, cond, max, nat_le, List, [], ◌∷◌, Option, Some, None, Ok, length, ap, refl, sym, subst, inl, inr, ◌⊎◌, arith}
+use Rattle.std.specs.List.{AllByRecursion, Contains, filter_map, list_all, list_any}
 use Rattle.std.specs.List.Sorted.{IsSorted}
 use Rattle.std.specs.Option.{option_map}
-use Rattle.std.specs.declared.cmp.Ordering.TheVariants.{Less}
 use Rattle.std.proofs.lemmas.Bool.{and_from, cases_lt, le-leb, or_cases, or_from, or_left, or_right}
 use Rattle.bosh_base.specs.declared.addr.Addr.{Addr}
 use Rattle.bosh_base.specs.declared.goal.Goal.{Goal}
@@ -16,10 +15,10 @@ use Rattle.bosh_base.specs.declared.stemcell.Stemcell.{Stemcell}
 use Rattle.bosh_base.specs.declared.view.View.{View}
 use Rattle.bosh_alike.proofs.ElementLemmas.{given_from}
 use Rattle.bosh_cloudcfg.specs.declared.config.Config.{Config}
-use Rattle.bosh_compile.specs.CompileOrder.{IsInCompileOrder, compile_cmp}
-use Rattle.bosh_compile.specs.Level.{greatest, needs, one_above}
+use Rattle.bosh_compile.specs.CompileOrder.{compile_cmp}
+use Rattle.bosh_compile.specs.Level.{needs, one_above}
 use Rattle.bosh_compile.specs.Readiness.{is_among, same_key}
-use Rattle.bosh_compile.proofs.KeyLemmas.{is_among_decides, same_key_decides}
+use Rattle.bosh_compile.proofs.KeyLemmas.{same_key_decides}
 use Rattle.bosh_goal.specs.Goal.{IsGoal}
 use Rattle.bosh_history.specs.Keys.{Leveled, are_after, are_in_order, comes_after, is_less, is_listed, level_after, leveled, leveled_cmp}
 use Rattle.bosh_keys.proofs.ListLemmas.{flat_from, flat_into, mapped_from, mapped_into}
@@ -27,15 +26,15 @@ use Rattle.bosh_keys.proofs.WorkLemmas.{named_at}
 use Rattle.bosh_keys.specs.Works.{AreKeys, all_works, asked_keys, group_works, job_works, key_named, key_of, package_name, work_of}
 use Rattle.bosh_lookup.specs.Table.{named}
 use Rattle.bosh_manifest.specs.declared.manifest.Contents.{Contents}
-use Rattle.bosh_needed.specs.Needed.{AreNeeded, IsNeeded, by}
-use Rattle.bosh_pool.proofs.ListLemmas.{Pairs, any_from, any_some, contains_here, contains_there, recursion_from_contains}
+use Rattle.bosh_needed.specs.Needed.{IsNeeded, by}
+use Rattle.bosh_pool.proofs.ListLemmas.{Pairs, any_from, any_some, recursion_from_contains}
 use Rattle.bosh_release_files.specs.Files.{in_order}
 use Rattle.bosh_slots.specs.Slots.{slots}
-use Rattle.bosh_uses.specs.Used.{UsedGroup, UsedJob}
+use Rattle.bosh_uses.specs.Used.{UsedGroup}
 use Rattle.bosh_uses.specs.Uses.{uses}
 use Rattle.bosh_goal_laws.specs.Keys.{HasSoundKeys}
 use Rattle.bosh_goal_laws.proofs.ListLemmas.{all_at, all_from_index, all_map, all_pass, none_pass}
-use Rattle.bosh_goal_laws.proofs.OrderLemmas.{NoLater, OtherKey, Rises, Unneeded, key-flip, no-later, once-pairs, rises}
+use Rattle.bosh_goal_laws.proofs.OrderLemmas.{NoLater, OtherKey, Rises, Unneeded, no-later, once-pairs, rises}
 use Rattle.bosh_goal_laws.proofs.PartLemmas.{IsMade, is-made}
 use Rattle.bosh_goal_laws.proofs.SlotLemmas.{some-slot}
 

@@ -1,7 +1,7 @@
 -- The keys of a goal that is made anew are those of the current one that are not compiled, and can be compiled in their
 -- order.
-use Rattle.std.proofs.Common.{◌≡◌, ◌∙◌, ℕ, Bool, true, false, true≢false, ◌&&◌, ◌||◌, not, cond, nat_le, List, [], ◌∷◌, Some, Ok, filter, length, map, ap, refl, sym, subst, inl, inr, ◌⊎◌}
-use Rattle.std.specs.List.{AllByRecursion, Contains, list_all, list_any}
+use Rattle.std.proofs.Common.{◌≡◌, ◌∙◌, Bool, true, false, true≢false, ◌||◌, not, cond, List, [], ◌∷◌, Some, Ok, filter, length, map, ap, refl, sym, subst, inl, inr, ◌⊎◌}
+use Rattle.std.specs.List.{list_all}
 use Rattle.std.proofs.lemmas.Bool.{and_from, and_parts, or_cases, or_left, or_parts, or_right, not-true}
 use Rattle.bosh_base.specs.declared.goal.Goal.{Goal}
 use Rattle.bosh_base.specs.declared.inst.Inst.{Inst}

@@ -7,10 +7,11 @@ pub mod LeftLemmas
 pub mod ListLemmas
 pub mod OrderLemmas
 pub mod PartLemmas
-pub mod RenewalLemmas
 pub mod PlaceLemmas
 pub mod PlanLemmas
+pub mod RenewalLemmas
 pub mod RowLemmas
+pub mod SameLemmas
 pub mod SlotLemmas
 pub mod TieLemmas
 pub mod WantLemmas

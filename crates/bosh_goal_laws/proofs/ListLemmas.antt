@@ -1,9 +1,9 @@
 -- What is true of all pairs of a list, and of the items of a list that is cut in parts.
-use Rattle.std.proofs.Common.{◌≡◌, ◌∙◌, ℕ, zero, suc, ◌+◌, ◌*◌, ◌<◌, ◌≤◌, Bool, true, false, ◌&&◌, ◌||◌, not, eqb, List, [], ◌∷◌, ◌++◌, length, map, take, drop, filter, cond, get_or, true≢false, ap, refl, sym, subst, append_assoc, append-nil, arith}
+use Rattle.std.proofs.Common.{◌≡◌, ◌∙◌, ℕ, zero, suc, ◌<◌, Bool, true, false, ◌&&◌, ◌||◌, not, eqb, List, [], ◌∷◌, ◌++◌, length, map, take, drop, filter, cond, get_or, true≢false, ap, refl, sym, subst, arith}
 use Rattle.std.specs.List.{AllByRecursion, AllZip, Contains, flat_map, list_all, list_any}
-use Rattle.std.proofs.lemmas.Bool.{and_parts, or_parts}
+use Rattle.std.proofs.lemmas.Bool.{and_parts, not-true, or_parts}
 use Rattle.std.proofs.lemmas.Bool.Decides.{nat_tests}
-use Rattle.bosh_pool.proofs.ListLemmas.{Pairs, contains_here, contains_there, recursion_with}
+use Rattle.bosh_pool.proofs.ListLemmas.{Pairs}
 use Rattle.bosh_history.specs.Words.{are_distinct, is_among}
 
 -- ---- every item
@@ -146,11 +146,13 @@ pub distinct_from : {X : Type 0} (same : X → X → Bool) (xs : List X) → Pai
 distinct_from same [] pairs = refl
 distinct_from same (x ∷ xs) (here, more) = rw (none_pass (same x) xs here, distinct_from same xs more) refl
 
--- ---- parts
+pub pairs_of_distinct : {X : Type 0} (same : X → X → Bool) (xs : List X) → are_distinct same xs ≡ true → Pairs (λ x y. same x y ≡ false) xs
+pairs_of_distinct same [] h = tt
+pairs_of_distinct same (x ∷ xs) h =
+    let (here, more) = and_parts (not (is_among same x xs)) (are_distinct same xs) h in
+    (none_passes (same x) xs (not-true (is_among same x xs) here), pairs_of_distinct same xs more)
 
-abbrev pub flat : {X : Type 0} → List (List X) → List X
-flat [] = []
-flat (xs ∷ more) = xs ++ flat more
+-- ---- parts
 
 pub zip_front : {X Y : Type 0} (R : X → Y → Type 0) (xs more : List X) (ys : List Y) (n : ℕ) → length xs ≡ n → AllZip R (xs ++ more) ys → AllZip R xs (take n ys)
 zip_front R [] more ys zero l all = tt
@@ -180,9 +182,10 @@ all_from_index P (x ∷ xs) h = (h 0 x (omega arith), all_from_index P xs (λ k 
 -- what holds of each item of one list with each of another, the other way round
 pub across_swap : {X Y : Type 0} (R : Y → X → Type 0) (xs : List X) (ys : List Y) → AllByRecursion (λ y. AllByRecursion (R y) xs) ys → AllByRecursion (λ x. AllByRecursion (λ y. R y x) ys) xs
 across_swap R [] ys all = tt
-across_swap R (x ∷ xs) ys all =
-    (all_map (λ y. AllByRecursion (R y) (x ∷ xs)) (λ y. R y x) ys (λ y p. p.0) all,
-    across_swap R xs ys (all_map (λ y. AllByRecursion (R y) (x ∷ xs)) (λ y. AllByRecursion (R y) xs) ys (λ y p. p.1) all))
+across_swap R (x ∷ xs) ys all = (
+  all_map (λ y. AllByRecursion (R y) (x ∷ xs)) (λ y. R y x) ys (λ y p. p.0) all,
+  across_swap R xs ys (all_map (λ y. AllByRecursion (R y) (x ∷ xs)) (λ y. AllByRecursion (R y) xs) ys (λ y p. p.1) all),
+)
 
 -- what no part of a filtered list has
 pub none_filtered : {X Y : Type 0} (p : Y → Bool) (f : X → List Y) (q : X → Bool) (xs : List X) → list_any p (flat_map f (filter q xs)) ≡ false

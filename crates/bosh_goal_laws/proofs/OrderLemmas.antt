@@ -1,26 +1,25 @@
 -- Keys that are in compile order are so when they are looked at one after another.
-use Rattle.std.proofs.Common.{◌≡◌, ◌∙◌, ℕ, zero, suc, ◌+◌, ◌<◌, ◌≤◌, Bool, true, false, true≢false, ◌&&◌, ◌||◌, not, cond, max, List, [], ◌∷◌, length, get_or, ap, refl, sym, subst, inl, inr, ◌⊎◌, arith}
+use Rattle.std.proofs.Common.{◌≡◌, ◌∙◌, ℕ, suc, ◌+◌, ◌<◌, ◌≤◌, Bool, true, false, true≢false, cond, List, [], ◌∷◌, length, get_or, ap, refl, sym, subst, arith}
 use Rattle.std.specs.Cmp.{IsTotalOrder}
 use Rattle.std.specs.Cmp.Lexicographic.{slice_cmp}
-use Rattle.std.specs.List.{All, AllByRecursion, Contains, list_all, list_any, sum_by}
+use Rattle.std.specs.List.{AllByRecursion}
 use Rattle.std.specs.List.Sorted.{IsSorted}
 use Rattle.std.specs.Ordering.{is_eq, is_lt, nat_cmp, ordering_reverse, ordering_then}
 use Rattle.std.specs.declared.cmp.Ordering.{Ordering}
 use Rattle.std.specs.declared.cmp.Ordering.TheVariants.{Less, Equal, Greater}
-use Rattle.std.proofs.lemmas.Bool.{and_from, false_from_ne_true, or_left, or_right}
+use Rattle.std.proofs.lemmas.Bool.{false_from_ne_true}
 use Rattle.std.proofs.lemmas.Cmp.{nat_cmp_total, nat_list_cmp_total, on_total, then_total}
 use Rattle.std.proofs.lemmas.List.Sums.{sum_by-cons}
 use Rattle.bosh_base.specs.declared.key.Key.{Key}
 use Rattle.bosh_base.specs.declared.key.KeyWork.{KeyWork}
-use Rattle.bosh_compile.specs.CompileOrder.{AfterDependencies, IsInCompileOrder, compile_cmp, key_cmp}
-use Rattle.bosh_compile.specs.Level.{IsLevel, greatest, needs, one_above}
-use Rattle.bosh_compile.specs.Readiness.{is_among, same_key}
+use Rattle.bosh_compile.specs.CompileOrder.{AfterDependencies, compile_cmp, key_cmp}
+use Rattle.bosh_compile.specs.Level.{needs}
+use Rattle.bosh_compile.specs.Readiness.{same_key}
 use Rattle.bosh_compile.proofs.KeyLemmas.{is_among_decides, same_key_decides}
-use Rattle.bosh_history.specs.Keys.{Leveled, are_after, are_in_order, comes_after, is_less, is_listed, level_after, leveled, leveled_cmp}
 use Rattle.bosh_keys.proofs.KeyLemmas.{is_eq-key_cmp, key_cmp_total}
 use Rattle.bosh_needed.specs.Needed.{StandOnce, how_many}
-use Rattle.bosh_pool.proofs.ListLemmas.{Pairs, any_from, any_some, contains_here}
-use Rattle.bosh_goal_laws.proofs.ListLemmas.{all_at, all_from_index, all_map, all_pass, none_pass}
+use Rattle.bosh_pool.proofs.ListLemmas.{Pairs}
+use Rattle.bosh_goal_laws.proofs.ListLemmas.{all_from_index}
 
 -- ---- each key once
 

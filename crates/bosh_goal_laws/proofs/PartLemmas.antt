@@ -1,11 +1,9 @@
 -- What a goal that is given was made of.
-use Rattle.std.proofs.Common.{◌≡◌, ◌∙◌, ℕ, Bool, true, false, List, [], ◌∷◌, ◌++◌, Option, Some, None, Result, Ok, Err, length, map, ap, refl, sym, subst}
-use Rattle.std.specs.List.{AllZip, flat_map}
+use Rattle.std.proofs.Common.{◌≡◌, ◌∙◌, ℕ, Bool, List, [], ◌∷◌, ◌++◌, Some, Result, Ok, Err, length, ap, refl, sym, subst}
+use Rattle.std.specs.List.{AllZip}
 use Rattle.bosh_base.specs.declared.addr.Addr.{Addr}
 use Rattle.bosh_base.specs.declared.goal.Goal.{Goal}
 use Rattle.bosh_base.specs.declared.goal.GoalRow.{GoalRow}
-use Rattle.bosh_base.specs.declared.key.KeyWork.{KeyWork}
-use Rattle.bosh_base.specs.declared.link.Tie.{Tie}
 use Rattle.bosh_base.specs.declared.make.Make.{Make}
 use Rattle.bosh_base.specs.declared.release.Release.{Release}
 use Rattle.bosh_base.specs.declared.spec.Placed.{Placed}
@@ -13,7 +11,7 @@ use Rattle.bosh_base.specs.declared.stemcell.Stemcell.{Stemcell}
 use Rattle.bosh_base.specs.declared.view.View.{View}
 use Rattle.bosh_cloudcfg.specs.declared.config.Config.{Config}
 use Rattle.bosh_files.specs.Gathered.{gather}
-use Rattle.bosh_goal.specs.Goal.{AreNeeded, IsGoal, addresses, assigned, none_wrong, scene_of, slots_and_rows, stay_and_rows}
+use Rattle.bosh_goal.specs.Goal.{IsGoal, addresses, none_wrong, scene_of, slots_and_rows, stay_and_rows}
 use Rattle.bosh_goal.proofs.InstanceLemmas.{both-steps, gathered-joined, limited-same, never, same-value}
 use Rattle.bosh_instances.specs.Moving.{disks_stay}
 use Rattle.bosh_instances.specs.Rows.{Scene, filed_jobs, goal_row, group_rows, instance_row, limited, placed, row_with, rows}
@@ -28,7 +26,7 @@ use Rattle.bosh_pool.specs.Assignment.{assignment}
 use Rattle.bosh_pool.specs.declared.fault.PoolFault.{PoolFault}
 use Rattle.bosh_slots.specs.Slots.{slots}
 use Rattle.bosh_ties.specs.Links.{ties}
-use Rattle.bosh_uses.specs.Answer.{◌>>=◌, or_fault, with_fault}
+use Rattle.bosh_uses.specs.Answer.{with_fault}
 use Rattle.bosh_uses.specs.Used.{UsedGroup}
 use Rattle.bosh_uses.specs.Uses.{uses}
 use Rattle.bosh_uses.specs.declared.fault.GoalFault.{GoalFault}

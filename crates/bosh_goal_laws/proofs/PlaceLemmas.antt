@@ -1,14 +1,12 @@
 -- How the addresses of a deployment are given out to its instances, one group after another.
-use Rattle.std.proofs.Common.{◌≡◌, ◌∙◌, ℕ, zero, suc, ◌+◌, ◌<◌, ◌≤◌, List, [], ◌∷◌, ◌++◌, length, map, take, drop, get_or, ap, refl, sym, subst, append_assoc, append-nil, arith, inl, inr}
+use Rattle.std.proofs.Common.{◌≡◌, ◌∙◌, ℕ, zero, suc, ◌<◌, ◌≤◌, List, [], ◌∷◌, ◌++◌, length, map, take, drop, get_or, ap, refl, sym, subst, append_assoc, append-nil, arith, inl, inr}
 use Rattle.std.specs.List.{AllByRecursion, AllZip, flat_map}
 use Rattle.std.proofs.lemmas.Bool.{cases_lt}
-use Rattle.std.proofs.lemmas.List.{length-map, length-take, take-append-drop}
+use Rattle.std.proofs.lemmas.List.{length-take, take-append-drop}
 use Rattle.bosh_base.specs.declared.addr.Addr.{Addr}
-use Rattle.bosh_base.specs.declared.addr.NetAddr.{NetAddr}
 use Rattle.bosh_instances.specs.Machines.{net_addrs, own_addrs}
-use Rattle.bosh_manifest.specs.declared.group.Group.{Group}
 use Rattle.bosh_manifest_parts.specs.declared.network.NetUse.{NetUse}
-use Rattle.bosh_offers.specs.Sited.{after_group, beyond, by_instance, site}
+use Rattle.bosh_offers.specs.Sited.{beyond, by_instance, site}
 use Rattle.bosh_places.specs.Wants.{below}
 use Rattle.bosh_slots.specs.Slots.{net_addr}
 use Rattle.bosh_uses.specs.Used.{UsedGroup}

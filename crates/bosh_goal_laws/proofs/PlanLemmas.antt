@@ -1,6 +1,6 @@
 -- The rows of a goal are of different instances, each with the plan of its group.
-use Rattle.std.proofs.Common.{◌≡◌, ◌∙◌, ℕ, zero, suc, ◌+◌, ◌<◌, ◌≤◌, Bool, true, false, true≢false, ◌&&◌, eqb, nat_le, max, cond, List, [], ◌∷◌, ◌++◌, Some, None, Ok, filter, length, map, ap, refl, sym, subst, arith}
-use Rattle.std.specs.List.{AllByRecursion, AllZip, Contains, flat_map, list_all}
+use Rattle.std.proofs.Common.{◌≡◌, ◌∙◌, ℕ, zero, suc, ◌+◌, ◌≤◌, Bool, true, false, true≢false, nat_le, cond, List, [], ◌∷◌, Some, Ok, filter, map, ap, refl, sym, subst, arith}
+use Rattle.std.specs.List.{AllByRecursion, AllZip, Contains, flat_map}
 use Rattle.std.specs.Str.{bytes_eq}
 use Rattle.std.proofs.lemmas.Bool.{le-leb}
 use Rattle.std.proofs.lemmas.Slice.Eq.{bytes_eq-Decides}
@@ -17,7 +17,7 @@ use Rattle.bosh_base.specs.declared.view.View.{View}
 use Rattle.bosh_cloudcfg.specs.declared.config.Config.{Config}
 use Rattle.bosh_goal.proofs.InstanceLemmas.{has-instances}
 use Rattle.bosh_goal.specs.Goal.{IsGoal, fresh_after, scene_of}
-use Rattle.bosh_goal.specs.Instances.{HasInstances, group_instances, instances}
+use Rattle.bosh_goal.specs.Instances.{group_instances, instances}
 use Rattle.bosh_history.specs.Goals.{inst_of}
 use Rattle.bosh_history.specs.Sound.{has_plan}
 use Rattle.bosh_history.specs.Words.{are_distinct}
@@ -33,9 +33,9 @@ use Rattle.bosh_pool.proofs.ListLemmas.{Pairs, contains_here, contains_there}
 use Rattle.bosh_roll.specs.Limit.{limit_of}
 use Rattle.bosh_rows.specs.Same.{same_inst}
 use Rattle.bosh_goal_laws.specs.Rows.{HasSoundRows}
-use Rattle.bosh_goal_laws.proofs.ListLemmas.{all_append, all_at, all_everywhere, all_flat, all_map, all_mapped, all_pass, all_unmapped, distinct_from}
-use Rattle.bosh_goal_laws.proofs.FreeLemmas.{bytes-same}
+use Rattle.bosh_goal_laws.proofs.ListLemmas.{all_append, all_at, all_everywhere, all_map, all_mapped, all_pass, all_unmapped, distinct_from}
 use Rattle.bosh_goal_laws.proofs.PartLemmas.{AreRowsOf, IsMade, IsRowAt, are-rows, is-made}
+use Rattle.bosh_goal_laws.proofs.SameLemmas.{bytes-same}
 use Rattle.bosh_goal_laws.proofs.WantLemmas.{Apart, distinct-pairs, instances-differ}
 
 -- ---- plans

@@ -1,60 +1,28 @@
 -- The addresses of a goal that is made anew are free, where those of the current one are.
-use Rattle.std.proofs.Common.{◌≡◌, ◌∙◌, ℕ, zero, suc, Bool, true, false, true≢false, ◌&&◌, ◌||◌, ◌==◌, not, eqb, cond, List, [], ◌∷◌, ◌++◌, Option, Some, None, Result, Ok, Err, find, filter, length, map, ap, refl, sym, subst}
-use Rattle.std.specs.List.{AllByRecursion, Contains, flat_map, list_all, list_any}
+use Rattle.std.proofs.Common.{◌≡◌, ◌∙◌, ℕ, Bool, true, false, ◌&&◌, ◌||◌, not, eqb, cond, List, [], ◌∷◌, ◌++◌, Option, Some, Ok, find, map, ap, refl, sym}
+use Rattle.std.specs.List.{AllByRecursion, flat_map, list_all, list_any}
 use Rattle.std.specs.Option.{is_some}
-use Rattle.std.proofs.lemmas.Bool.{and_parts, not-true, or_left, or_parts, or_right}
+use Rattle.std.proofs.lemmas.Bool.{or_parts}
 use Rattle.bosh_base.specs.declared.addr.Addr.{Addr}
-use Rattle.bosh_base.specs.declared.addr.NetAddr.{NetAddr}
 use Rattle.bosh_base.specs.declared.goal.Goal.{Goal}
 use Rattle.bosh_base.specs.declared.goal.GoalRow.{GoalRow}
 use Rattle.bosh_base.specs.declared.inst.Inst.{Inst}
 use Rattle.bosh_base.specs.declared.make.Make.{Make}
 use Rattle.bosh_base.specs.declared.row.Row.{Row}
-use Rattle.bosh_base.specs.declared.state.State.TheVariants.{Detached, Running, Stopped}
 use Rattle.bosh_base.specs.declared.view.View.{View}
 use Rattle.bosh_cloudcfg.specs.declared.config.Config.{Config}
-use Rattle.bosh_goal.proofs.InstanceLemmas.{both-steps, never}
-use Rattle.bosh_goal.specs.Anew.{addresses_free, addrs_of, all_free, anew, changed, is_row_of, keeps, needs_addrs, refusal_at, row_anew}
-use Rattle.bosh_goal.specs.Anew as anew_words
+use Rattle.bosh_goal.specs.Anew.{anew, row_anew}
 use Rattle.bosh_goal.specs.declared.change.Change.{Change}
-use Rattle.bosh_goal.specs.declared.change.Change.TheVariants.{Fresh, To, Same}
-use Rattle.bosh_history.specs.Goals.{inst_of, is_in}
+use Rattle.bosh_history.specs.Goals.{is_in}
 use Rattle.bosh_history.specs.Sound.{addrs, has_addr, is_held, row_addrs, slot_addrs}
 use Rattle.bosh_history.specs.Words.{are_distinct, holds, is_among}
-use Rattle.bosh_pool.proofs.ListLemmas.{AllPairs-from, Pairs, find_none, find_some, one_place, recursion_from_contains}
-use Rattle.bosh_pool.specs.Fixed.{same_addr}
-use Rattle.bosh_pool.specs.declared.fault.PoolFault.TheVariants.{Taken}
-use Rattle.bosh_base.specs.declared.owner.Owner.TheVariants.{Instance}
-use Rattle.bosh_rows.proofs.SameLemmas.{itself, same_inst_decides}
-use Rattle.bosh_rows.specs.Disks.{is_detached}
 use Rattle.bosh_rows.specs.Same.{same_inst}
-use Rattle.bosh_slots.specs.Slots as slots_words
-use Rattle.bosh_slots.specs.Slots.{goal_row_addrs, net_addr}
-use Rattle.bosh_uses.specs.declared.fault.GoalFault.{GoalFault}
-use Rattle.bosh_uses.specs.declared.fault.GoalFault.TheVariants.{Pool}
 use Rattle.bosh_goal_laws.specs.Free.{HasFreeAddresses, another_keeps, are_rows_free, is_own, is_used}
-use Rattle.bosh_goal_laws.specs.Renewed.{HasFreeRows, is_cleared, is_cleared_for}
+use Rattle.bosh_goal_laws.specs.Renewed.{HasFreeRows}
 use Rattle.bosh_goal_laws.proofs.AnewLemmas.{IsAnew, anew-inst, anew-make, is-anew}
 use Rattle.bosh_goal_laws.proofs.FreeLemmas.{all-spare}
-use Rattle.bosh_goal_laws.proofs.ListLemmas.{across_swap, all_append, all_map, all_mapped, all_pass, all_unmapped, distinct_from, eqb_flip, none_pass, none_passes, pairs_append, pairs_mapped, pairs_unmapped, passes}
-use Rattle.bosh_goal_laws.proofs.SlotLemmas.{AreSpare, any-make, are-spare}
-
-abbrev number : Addr → ℕ
-number a = a.0
-
-pub pairs-of-distinct : {X : Type 0} (same : X → X → Bool) (xs : List X) → are_distinct same xs ≡ true → Pairs (λ x y. same x y ≡ false) xs
-pairs-of-distinct same [] h = tt
-pairs-of-distinct same (x ∷ xs) h =
-    let (here, more) = and_parts (not (is_among same x xs)) (are_distinct same xs) h in
-    (none_passes (same x) xs (not-true (is_among same x xs) here), pairs-of-distinct same xs more)
-
-pub inst-flip : (i j : Inst) → same_inst i j ≡ same_inst j i
-inst-flip i j = by (same_inst i j) (same_inst j i) refl refl
-  where
-    by : (a b : Bool) → same_inst i j ≡ a → same_inst j i ≡ b → same_inst i j ≡ same_inst j i
-    by true b e f = e ∙ sym ((same_inst_decides j i).1 (sym ((same_inst_decides i j).0 e)))
-    by false true e f = (same_inst_decides i j).1 (sym ((same_inst_decides j i).0 f)) ∙ sym f
-    by false false e f = e ∙ sym f
+use Rattle.bosh_goal_laws.proofs.ListLemmas.{across_swap, all_append, all_map, all_mapped, all_pass, distinct_from, eqb_flip, none_passes, pairs_append, pairs_mapped, pairs_of_distinct, passes}
+use Rattle.bosh_goal_laws.proofs.SlotLemmas.{AreSpare, are-spare, number}
 
 -- ---- rows that are made anew
 
@@ -120,7 +88,7 @@ module _ (view : View) (goal : Goal) (makes : List Make) (current : view.goal �
 
   pub renewed-distinct : are_distinct eqb all-numbers ≡ true
   renewed-distinct =
-      distinct_from eqb all-numbers (pairs_append (λ m n. eqb m n ≡ false) (row_addrs goal) (map number spare.spare) (pairs-of-distinct eqb (row_addrs goal) rows.distinct)
+      distinct_from eqb all-numbers (pairs_append (λ m n. eqb m n ≡ false) (row_addrs goal) (map number spare.spare) (pairs_of_distinct eqb (row_addrs goal) rows.distinct)
       (pairs_mapped (λ m n. eqb m n ≡ false) number spare.spare spare.differ) apart)
 
   pub renewed-untaken : list_all (λ a. not (is_held view.taken a)) all-numbers ≡ true
@@ -130,10 +98,10 @@ module _ (view : View) (goal : Goal) (makes : List Make) (current : view.goal �
       (all_mapped (λ a. not (is_held view.taken a) ≡ true) number spare.spare
       (all_map (λ a. is_used view a.0 ≡ false) (λ a. not (is_held view.taken a.0) ≡ true) spare.spare (λ a h. ap not (or_parts (is_held view.taken a.0) _ h).0) spare.unused)))
 
-pub has-free-addresses :
+pub renewed-addresses-free :
     (inst : Inst) (change : Change) (config : Config) (view : View) (goal it : Goal) → view.goal ≡ Some goal → HasFreeRows view goal
     → anew inst change (Some config) view goal ≡ Ok it → HasFreeAddresses view it
-has-free-addresses inst change config view goal it current rows told =
+renewed-addresses-free inst change config view goal it current rows told =
     let made : IsAnew inst change config view goal it = is-anew inst change config view goal it told in
     let spare : AreSpare view [] made.makes = are-spare config _ [] view made.makes made.slots_are in
     let rows_are : it.rows ≡ map (row_anew inst change view.last_call) goal.rows = ap (λ (g : Goal). g.rows) made.is in

@@ -7,12 +7,12 @@ use Rattle.bosh_base.specs.declared.addr.NetAddr.{NetAddr}
 use Rattle.bosh_base.specs.declared.goal.GoalRow.{GoalRow}
 use Rattle.bosh_base.specs.declared.row.Row.{Row}
 use Rattle.bosh_instances.specs.Machines.{net_addrs, own_addrs}
-use Rattle.bosh_instances.specs.Rows.{Scene, goal_row}
+use Rattle.bosh_instances.specs.Rows.{Scene}
 use Rattle.bosh_manifest.specs.Sound.{network_name}
 use Rattle.bosh_manifest.specs.declared.group.Group.{Group}
 use Rattle.bosh_manifest_parts.specs.declared.network.NetUse.{NetUse}
-use Rattle.bosh_offers.specs.Sited.{Sited, after_group, beyond, site, sites}
-use Rattle.bosh_places.specs.Wants.{below, group_wants, instance_wants, want_of, wants}
+use Rattle.bosh_offers.specs.Sited.{after_group, beyond, site, sites}
+use Rattle.bosh_places.specs.Wants.{below, instance_wants, want_of, wants}
 use Rattle.bosh_places.specs.Zones.{inst_of, zone_of}
 use Rattle.bosh_pool.specs.declared.want.Want.{Want}
 use Rattle.bosh_pool.proofs.ListLemmas.{contains_here, contains_there}

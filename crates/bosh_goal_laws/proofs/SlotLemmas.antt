@@ -1,5 +1,5 @@
 -- The addresses of machines that compile: nobody has them, and no two have one.
-use Rattle.std.proofs.Common.{◌≡◌, ◌∙◌, ℕ, zero, suc, ◌≤◌, Bool, true, false, ◌&&◌, ◌||◌, ◌==◌, not, eqb, List, [], ◌∷◌, ◌++◌, Option, Some, None, Result, Ok, Err, length, map, min, ap, refl, sym, subst, arith}
+use Rattle.std.proofs.Common.{◌≡◌, ◌∙◌, ℕ, zero, suc, ◌≤◌, Bool, false, ◌||◌, ◌==◌, not, eqb, List, [], ◌∷◌, ◌++◌, Option, Some, None, Ok, length, map, min, ap, refl, sym, subst, arith}
 use Rattle.std.specs.List.{AllByRecursion, flat_map, list_any}
 use Rattle.std.proofs.lemmas.Bool.{and_parts, not-true, or_parts}
 use Rattle.bosh_bands.specs.Least.{least}
@@ -23,11 +23,13 @@ use Rattle.bosh_pool.proofs.ListLemmas.{Pairs}
 use Rattle.bosh_pool.specs.Fixed.{same_addr}
 use Rattle.bosh_pool.specs.Spare.{is_spare, spares, with_others}
 use Rattle.bosh_pool.specs.declared.fault.PoolFault.TheVariants.{Empty}
-use Rattle.bosh_slots.specs.Slots.{addrs_for, goal_addrs, goal_row_addrs, held_addr, held_addrs, made_addrs, net_addr, row_addrs, slot, slots, with_addrs}
-use Rattle.bosh_uses.specs.declared.fault.GoalFault.{GoalFault}
+use Rattle.bosh_slots.specs.Slots.{addrs_for, goal_addrs, goal_row_addrs, held_addr, held_addrs, net_addr, row_addrs, slot, slots, with_addrs}
 use Rattle.bosh_uses.specs.declared.fault.GoalFault.TheVariants.{Pool}
-use Rattle.bosh_goal_laws.specs.Free.{is_own, is_used}
+use Rattle.bosh_goal_laws.specs.Free.{is_used}
 use Rattle.bosh_goal_laws.proofs.ListLemmas.{all_map, any_append, any_flat, any_map, eqb_flip}
+
+abbrev pub number : Addr → ℕ
+number a = a.0
 
 -- ---- spare addresses
 
@@ -107,12 +109,12 @@ any-view a view =
 -- what is known of the slots of a goal that has the given addresses
 pub record AreSpare (view : View) (own : List Addr) (makes : List Make) : Type 0 where
   pub spare : List Addr
-  pub numbers : flat_map addrs makes ≡ map (λ (a : Addr). a.0) spare
+  pub numbers : flat_map addrs makes ≡ map number spare
   pub differ : Pairs (λ one other. same_addr one other ≡ false) spare
   pub unused : AllByRecursion (λ a. is_used view a.0 ≡ false) spare
   pub others : AllByRecursion (λ a. list_any (same_addr a) own ≡ false) spare
 
-slot-numbers : (config : Config) (spare : List Addr) → flat_map addrs (map (slot config) spare) ≡ map (λ (a : Addr). a.0) spare
+slot-numbers : (config : Config) (spare : List Addr) → flat_map addrs (map (slot config) spare) ≡ map number spare
 slot-numbers config [] = refl
 slot-numbers config (a ∷ spare) = ap (λ more. a.0 ∷ more) (slot-numbers config spare)
 

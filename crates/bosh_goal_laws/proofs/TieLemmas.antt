@@ -1,9 +1,8 @@
 -- The ties of a goal are within its deployment, or to links that others are known to offer.
-use Rattle.std.proofs.Common.{◌≡◌, ◌∙◌, ℕ, zero, suc, arith, Bool, true, false, true≢false, ◌&&◌, ◌||◌, cond, List, [], ◌∷◌, ◌++◌, Option, Some, None, Result, Ok, Err, filter, find, map, ap, refl, sym, subst}
+use Rattle.std.proofs.Common.{◌≡◌, ◌∙◌, ℕ, zero, suc, arith, Bool, true, false, ◌&&◌, cond, List, [], ◌∷◌, ◌++◌, Option, Some, None, Result, Ok, Err, filter, map, ap, refl, sym, subst}
 use Rattle.std.specs.List.{AllByRecursion, Contains, cons_option, filter_map, flat_map, list_all, list_any}
-use Rattle.std.specs.Option.{option_to_list}
 use Rattle.std.specs.Str.{bytes_eq}
-use Rattle.std.proofs.lemmas.Bool.{and_from, and_parts, or_left, or_right}
+use Rattle.std.proofs.lemmas.Bool.{and_from, or_left, or_right}
 use Rattle.std.proofs.lemmas.Slice.Eq.{bytes_eq-Decides}
 use Rattle.bosh_base.specs.declared.goal.Goal.{Goal}
 use Rattle.bosh_base.specs.declared.link.Joint.{Joint}
@@ -29,10 +28,8 @@ use Rattle.bosh_links.specs.declared.provider.Provider.{Provider}
 use Rattle.bosh_manifest.specs.declared.manifest.Contents.{Contents}
 use Rattle.bosh_manifest_parts.specs.declared.link.Offering.{Offering}
 use Rattle.bosh_pool.proofs.ListLemmas.{any_from, contains_here, contains_there, find_some}
-use Rattle.bosh_share.specs.Shared.{across_outcome, across_resolution, consumer_of, fault_of, of_name, outcome_in, shared_answer}
-use Rattle.bosh_share.specs.declared.across.Across.{Across}
-use Rattle.bosh_share.specs.declared.fault.ShareFault.{ShareFault}
-use Rattle.bosh_ties.specs.Links.{all_across, consumers, job_providers, joint_of, offering_in, of_groups, own_ties, provide_of, provider, provider_by, providers, public_provider, ties, ties_across}
+use Rattle.bosh_share.specs.Shared.{across_outcome, across_resolution, consumer_of, of_name, outcome_in, shared_answer}
+use Rattle.bosh_ties.specs.Links.{all_across, consumers, job_providers, joint_of, offering_in, own_ties, provide_of, provider, provider_by, providers, public_provider, ties, ties_across}
 use Rattle.bosh_uses.specs.Answer.{with_fault}
 use Rattle.bosh_uses.specs.Used.{UsedGroup, UsedJob}
 use Rattle.bosh_uses.specs.declared.fault.GoalFault.{GoalFault}
@@ -40,9 +37,7 @@ use Rattle.bosh_uses.specs.declared.fault.GoalFault.TheVariants.{Link, Share}
 use Rattle.bosh_goal_laws.specs.Ties.{AreTiesOffered, OffersAreOwn, is_tie_offered, offers_it}
 use Rattle.bosh_goal_laws.proofs.ListLemmas.{all_append, all_at, all_everywhere, all_flat, all_map, all_pass, passes}
 use Rattle.bosh_goal_laws.proofs.PartLemmas.{IsMade, is-made}
-
-bytes-same : (m n : List ℕ) → m ≡ n → bytes_eq m n ≡ true
-bytes-same m n h = (bytes_eq-Decides m n).1 h
+use Rattle.bosh_goal_laws.proofs.SameLemmas.{bytes-same}
 
 -- ---- a consumer's tie is between it and one of the providers, of its type
 

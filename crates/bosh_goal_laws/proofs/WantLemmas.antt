@@ -1,16 +1,13 @@
 -- No instance of a checked manifest stands twice, and none asks for two addresses on one network.
-use Rattle.std.proofs.Common.{◌≡◌, ◌∙◌, ℕ, zero, suc, ◌<◌, Bool, true, false, true≢false, ◌&&◌, eqb, nat_eq, All, List, [], ◌∷◌, ◌++◌, length, map, ap, refl, sym, subst, arith}
-use Rattle.std.specs.List.{AllByRecursion, flat_map, list_any}
+use Rattle.std.proofs.Common.{◌≡◌, ℕ, zero, suc, ◌<◌, false, ◌&&◌, eqb, List, [], ◌∷◌, ◌++◌, map, arith}
+use Rattle.std.specs.List.{AllByRecursion, flat_map}
 use Rattle.std.specs.Str.{bytes_eq}
 use Rattle.std.proofs.lemmas.Bool.{and_left, and_right, ne_eqb}
-use Rattle.bosh_base.specs.Plan.{is_listed}
 use Rattle.bosh_base.specs.declared.inst.Inst.{Inst}
 use Rattle.bosh_base.specs.declared.row.Row.{Row}
-use Rattle.bosh_goal.specs.Instances.{group_instances, instances}
-use Rattle.bosh_manifest.specs.Sound.{AreDistinct, AreNew, IsSound, IsSoundGroup, group_name, network_name}
+use Rattle.bosh_goal.specs.Instances.{group_instances}
+use Rattle.bosh_manifest.specs.Sound.{AreDistinct, AreNew, group_name, network_name}
 use Rattle.bosh_manifest.specs.declared.group.Group.{Group}
-use Rattle.bosh_manifest.specs.declared.manifest.Contents.{Contents}
-use Rattle.bosh_manifest_parts.specs.declared.network.NetUse.{NetUse}
 use Rattle.bosh_places.specs.Wants.{below, group_wants, instance_wants, want_of, wants}
 use Rattle.bosh_places.specs.Zones.{inst_of}
 use Rattle.bosh_pool.specs.Fixed.{same_inst}
@@ -24,15 +21,17 @@ Apart one other = bytes_eq one other ≡ false
 -- a name that is new is none of those before it
 new-apart : (before names : List (List ℕ)) → AreNew before names → AllByRecursion (λ name. AllByRecursion (λ earlier. Apart earlier name) before) names
 new-apart before [] new = tt
-new-apart before (name ∷ names) (here, later) =
-    (none_passes (λ earlier. bytes_eq earlier name) before here,
-    all_map (λ other. AllByRecursion (λ earlier. Apart earlier other) (name ∷ before)) (λ other. AllByRecursion (λ earlier. Apart earlier other) before) names (λ other all. all.1) (new-apart (name ∷ before) names later))
+new-apart before (name ∷ names) (here, later) = (
+  none_passes (λ earlier. bytes_eq earlier name) before here,
+  all_map (λ other. AllByRecursion (λ earlier. Apart earlier other) (name ∷ before)) (λ other. AllByRecursion (λ earlier. Apart earlier other) before) names (λ other all. all.1) (new-apart (name ∷ before) names later),
+)
 
 new-pairs : (before names : List (List ℕ)) → AreNew before names → Pairs Apart names
 new-pairs before [] new = tt
-new-pairs before (name ∷ names) (here, later) =
-    (all_map (λ other. AllByRecursion (λ earlier. Apart earlier other) (name ∷ before)) (λ other. Apart name other) names (λ other all. all.0) (new-apart (name ∷ before) names later),
-    new-pairs (name ∷ before) names later)
+new-pairs before (name ∷ names) (here, later) = (
+  all_map (λ other. AllByRecursion (λ earlier. Apart earlier other) (name ∷ before)) (λ other. Apart name other) names (λ other all. all.0) (new-apart (name ∷ before) names later),
+  new-pairs (name ∷ before) names later,
+)
 
 pub distinct-pairs : {X : Type 0} (name_of : X → List ℕ) (xs : List X) → AreDistinct (map name_of xs) → Pairs (λ one other. Apart (name_of one) (name_of other)) xs
 distinct-pairs name_of xs new = pairs_unmapped Apart name_of xs (new-pairs [] (map name_of xs) new)

@@ -1,5 +1,5 @@
--- What a recorded instance keeps in a goal (bosh.io, "Availability zones" and "Networks": an instance stays in its zone and
--- keeps its dynamic address where it may).
+-- What a recorded instance keeps in a goal (bosh.io, "Availability zones" and "Networks": an instance stays in its zone
+-- and keeps its dynamic address where it may).
 use Rattle.std.specs.Prelude.{◌≡◌, ℕ, Bool, true, ◌&&◌, not, List, [], Some, Contains, find, map}
 use Rattle.std.specs.Str.{bytes_eq}
 use Rattle.bosh_base.specs.Plan.{is_dynamic, is_listed}

@@ -1,5 +1,5 @@
 -- What a goal has of the current one that it is made anew of, for a task of one instance (this project's profile).
-use Rattle.std.specs.Prelude.{◌≡◌, ℕ, Bool, true, eqb, nat_le, not, ◌||◌, Some, List, filter, length}
+use Rattle.std.specs.Prelude.{◌≡◌, Bool, true, eqb, nat_le, not, ◌||◌, Some, List, filter, length}
 use Rattle.std.specs.List.{list_all, list_any}
 use Rattle.bosh_base.specs.declared.goal.Goal.{Goal}
 use Rattle.bosh_base.specs.declared.goal.GoalRow.{GoalRow}

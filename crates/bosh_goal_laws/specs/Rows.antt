@@ -1,5 +1,5 @@
 -- The instances that a goal wants, and the plans of their groups.
-use Rattle.std.specs.Prelude.{◌≡◌, ℕ, true, nat_le, List, map}
+use Rattle.std.specs.Prelude.{◌≡◌, ℕ, true, nat_le, map}
 use Rattle.std.specs.List.{list_all}
 use Rattle.std.specs.Str.{bytes_eq}
 use Rattle.bosh_base.specs.declared.goal.Goal.{Goal}

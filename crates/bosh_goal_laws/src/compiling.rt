@@ -16,8 +16,9 @@ ghost use Rattle.bosh_manifest.specs.declared.manifest.Contents.{Contents};
 ghost use Rattle.bosh_uses.specs.Used.{UsedGroup};
 ghost use Rattle.bosh_uses.specs.Uses.{uses};
 
-/// The keys of a goal are what its jobs need, directly or for another package, and what is not compiled. They stand in the
-/// order of compilation, each once and after those that it needs. Where there are keys, there is a machine that compiles.
+/// The keys of a goal are what its jobs need, directly or for another package, and what is not compiled. They stand
+/// in the order of compilation, each once and after those that it needs. Where there are keys, there is a machine
+/// that compiles.
 pub fn keys_are_in_order()
     ensures sound { (manifest : Contents) (config : Config) (releases : List Release) (stemcells : List Stemcell)
         (view : View) (recreate : Bool) (it : Goal)

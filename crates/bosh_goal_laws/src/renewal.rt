@@ -13,16 +13,16 @@ ghost use Rattle.bosh_history.specs.Goals.{inst_of};
 ghost use Rattle.bosh_history.specs.Words.{are_distinct};
 ghost use Rattle.bosh_rows.specs.Same.{same_inst};
 
-/// A goal that is made anew has the rows of the current one, but for the state and the age of the named one, and its plans,
-/// ties and offers; of its keys those that are not compiled.
+/// A goal that is made anew has the rows of the current one, but for the state and the age of the named one, and
+/// its plans, ties and offers; of its keys those that are not compiled.
 pub fn renewed_goals_keep_the_current_one()
     ensures { (inst : Inst) (change : Change) (config : Config) (view : View) (goal it : Goal)
         → anew inst change (Some config) view goal ≡ Ok it → IsRenewed inst view goal it }
 {}
 
-/// The addresses of a goal that is made anew are different and free, where those of the rows of the current goal are. The
-/// named row is to be detached, or no recorded instance that is not in the goal has one of its addresses, where no instance
-/// stands twice in the current goal.
+/// The addresses of a goal that is made anew are different and free, where those of the rows of the current goal
+/// are. The named row is to be detached, or no recorded instance that is not in the goal has one of its addresses,
+/// where no instance stands twice in the current goal.
 pub fn renewed_goals_have_free_addresses()
     ensures free { (inst : Inst) (change : Change) (config : Config) (view : View) (goal it : Goal)
         → view.goal ≡ Some goal → HasFreeRows view goal
@@ -32,8 +32,8 @@ pub fn renewed_goals_have_free_addresses()
         → anew inst change (Some config) view goal ≡ Ok it → is_cleared_for view.rows it inst ≡ true }
 {}
 
-/// The keys of a goal that is made anew are not compiled, and can be compiled one after another, where those of the current
-/// goal can. Where there are keys, there is a machine that compiles.
+/// The keys of a goal that is made anew are not compiled, and can be compiled one after another, where those of the
+/// current goal can. Where there are keys, there is a machine that compiles.
 pub fn renewed_goals_can_be_compiled()
     ensures { (inst : Inst) (change : Change) (config : Config) (view : View) (goal it : Goal)
         → CanBeCompiled view.compiled goal.keys

@@ -9,11 +9,11 @@ ghost use Rattle.bosh_goal.specs.Goal.{IsGoal};
 ghost use Rattle.bosh_goal_laws.specs.Ties.{AreTiesOffered, OffersAreOwn};
 ghost use Rattle.bosh_manifest.specs.declared.manifest.Contents.{Contents};
 
-/// Each tie of a goal is within the deployment, or to a link that another is known to offer, where what is known of a
-/// deployment are its own links.
+/// Each tie of a goal is within the deployment, or to a link that another is known to offer, where what is known of
+/// a deployment are its own links.
 pub fn ties_are_offered()
-    ensures { (manifest : Contents) (config : Config) (releases : List Release) (stemcells : List Stemcell) (view : View)
-        (recreate : Bool) (it : Goal) → OffersAreOwn view.known
+    ensures { (manifest : Contents) (config : Config) (releases : List Release) (stemcells : List Stemcell)
+        (view : View) (recreate : Bool) (it : Goal) → OffersAreOwn view.known
         → IsGoal manifest (Some config) releases stemcells view recreate (Ok it)
         → AreTiesOffered view.known it.dep it.ties }
 {}
