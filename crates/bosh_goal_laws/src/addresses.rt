@@ -16,6 +16,7 @@ ghost use Rattle.bosh_manifest.specs.declared.manifest.Contents.{Contents};
 /// the config's subnets have no address in common, and no two recorded rows hold one address.
 pub fn goals_have_free_addresses()
     ensures { (manifest : Contents) (config : Config) (releases : List Release) (stemcells : List Stemcell)
-        (view : View) (recreate : Bool) (it : Goal) → IsSound manifest → AreApart config.plan.subnets → HoldOnce view.rows
+        (view : View) (recreate : Bool) (it : Goal)
+        → IsSound manifest → AreApart config.plan.subnets → HoldOnce view.rows
         → IsGoal manifest (Some config) releases stemcells view recreate (Ok it) → HasFreeAddresses view it }
 {}
