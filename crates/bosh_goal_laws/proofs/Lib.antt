@@ -9,6 +9,7 @@ pub mod OrderLemmas
 pub mod PartLemmas
 pub mod PlaceLemmas
 pub mod PlanLemmas
+pub mod RecordLemmas
 pub mod RenewalLemmas
 pub mod RowLemmas
 pub mod SameLemmas

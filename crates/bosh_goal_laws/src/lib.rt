@@ -5,6 +5,7 @@ mod addresses;
 mod compiling;
 mod instances;
 mod renewal;
+mod soundness;
 mod ties;
 
 pub use addresses::goals_have_free_addresses;
@@ -14,4 +15,5 @@ pub use renewal::{
     renewed_goals_can_be_compiled, renewed_goals_have_free_addresses,
     renewed_goals_keep_the_current_one,
 };
+pub use soundness::goals_are_sound;
 pub use ties::ties_are_offered;
