@@ -1,5 +1,6 @@
 pub mod AnewLemmas
 pub mod ClearedLemmas
+pub mod CurrentLemmas
 pub mod FreeLemmas
 pub mod KeptLemmas
 pub mod KeyLemmas

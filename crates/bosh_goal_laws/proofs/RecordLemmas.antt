@@ -55,7 +55,7 @@ use Rattle.bosh_goal_laws.proofs.TieLemmas.{has-ties-offered}
 
 -- ---- lists
 
-none-where : {X Y : Type 0} (p : Y → Bool) (f : X → Y) (q : X → Bool) (xs : List X) → list_any p (map f (filter q xs)) ≡ false → AllByRecursion (λ x. q x ≡ true → p (f x) ≡ false) xs
+pub none-where : {X Y : Type 0} (p : Y → Bool) (f : X → Y) (q : X → Bool) (xs : List X) → list_any p (map f (filter q xs)) ≡ false → AllByRecursion (λ x. q x ≡ true → p (f x) ≡ false) xs
 none-where p f q [] none = tt
 none-where p f q (x ∷ xs) none = by p f x (filter q xs) (q x) (AllByRecursion (λ x. q x ≡ true → p (f x) ≡ false) xs) (none-where p f q xs) none
   where
@@ -64,6 +64,15 @@ none-where p f q (x ∷ xs) none = by p f x (filter q xs) (q x) (AllByRecursion 
     by p f x some true Rest rest none = let (here, more) = or_parts (p (f x)) (list_any p (map f some)) none in (λ is. here, rest more)
     by p f x some false Rest rest none = (λ is. absurd (true≢false (sym is)), rest none)
 
+pub all-where : {X Y : Type 0} (p : Y → Bool) (f : X → Y) (q : X → Bool) (xs : List X) → list_all p (map f (filter q xs)) ≡ true → AllByRecursion (λ x. q x ≡ true → p (f x) ≡ true) xs
+all-where p f q [] all = tt
+all-where p f q (x ∷ xs) all = by p f x (filter q xs) (q x) (AllByRecursion (λ x. q x ≡ true → p (f x) ≡ true) xs) (all-where p f q xs) all
+  where
+    by : {X Y : Type 0} (p : Y → Bool) (f : X → Y) (x : X) (some : List X) (b : Bool) (Rest : Type 0) → (list_all p (map f some) ≡ true → Rest)
+        → list_all p (map f (cond b (x ∷ some) some)) ≡ true → (b ≡ true → p (f x) ≡ true) × Rest
+    by p f x some true Rest rest all = let (here, more) = and_parts (p (f x)) (list_all p (map f some)) all in (λ is. here, rest more)
+    by p f x some false Rest rest all = (λ is. absurd (true≢false (sym is)), rest all)
+
 map-self : {X : Type 0} (xs : List X) → map (λ x. x) xs ≡ xs
 map-self [] = refl
 map-self (x ∷ xs) = ap (λ more. x ∷ more) (map-self xs)
@@ -71,11 +80,11 @@ map-self (x ∷ xs) = ap (λ more. x ∷ more) (map-self xs)
 none-filter : {X : Type 0} (p : X → Bool) (q : X → Bool) (xs : List X) → list_any p (filter q xs) ≡ false → AllByRecursion (λ x. q x ≡ true → p x ≡ false) xs
 none-filter p q xs none = none-where p (λ x. x) q xs (ap (list_any p) (map-self (filter q xs)) ∙ none)
 
-all-unflat : {X Y : Type 0} (P : Y → Type 0) (f : X → List Y) (xs : List X) → AllByRecursion P (flat_map f xs) → AllByRecursion (λ x. AllByRecursion P (f x)) xs
+pub all-unflat : {X Y : Type 0} (P : Y → Type 0) (f : X → List Y) (xs : List X) → AllByRecursion P (flat_map f xs) → AllByRecursion (λ x. AllByRecursion P (f x)) xs
 all-unflat P f [] all = tt
 all-unflat P f (x ∷ xs) all = (all_front P (f x) (flat_map f xs) all, all-unflat P f xs (all_back P (f x) (flat_map f xs) all))
 
-all-both : {X : Type 0} (P Q R : X → Type 0) (xs : List X) → ((x : X) → P x → Q x → R x) → AllByRecursion P xs → AllByRecursion Q xs → AllByRecursion R xs
+pub all-both : {X : Type 0} (P Q R : X → Type 0) (xs : List X) → ((x : X) → P x → Q x → R x) → AllByRecursion P xs → AllByRecursion Q xs → AllByRecursion R xs
 all-both P Q R [] f ps qs = tt
 all-both P Q R (x ∷ xs) f (p, ps) (q, qs) = (f x p q, all-both P Q R xs f ps qs)
 
@@ -100,7 +109,7 @@ module _ (k : Known) (goal : Goal) (rows : list_all (λ i. same_inst (k.row i).i
   seen = view k dep
 
   -- an instance of the goal is of the deployment
-  in-dep : (i : Inst) → is_in (Some goal) i ≡ true → bytes_eq i.dep dep ≡ true
+  pub in-dep : (i : Inst) → is_in (Some goal) i ≡ true → bytes_eq i.dep dep ≡ true
   in-dep i h = by (find (λ want. same_inst i want.inst) goal.rows) refl h
     where
       by : (found : Option GoalRow) → find (λ want. same_inst i want.inst) goal.rows ≡ found → is_some found ≡ true → bytes_eq i.dep dep ≡ true
@@ -134,13 +143,13 @@ module _ (k : Known) (goal : Goal) (rows : list_all (λ i. same_inst (k.row i).i
   -- ---- slots
 
   module _ (a : ℕ) (untaken : is_held (held_elsewhere k dep) a ≡ false) where
-    abbrev Elsewhere : Held → Type 0
+    abbrev pub Elsewhere : Held → Type 0
     Elsewhere it = not (bytes_eq (dep_of k it.owner) dep) ≡ true → (it.addr.0 == a) ≡ false
 
     elsewhere : AllByRecursion Elsewhere (held k)
     elsewhere = none-filter (λ it. it.addr.0 == a) (λ it. not (bytes_eq (dep_of k it.owner) dep)) (held k) untaken
 
-    of-rows : AllByRecursion Elsewhere (held_by_rows k)
+    pub of-rows : AllByRecursion Elsewhere (held_by_rows k)
     of-rows =
         all_front Elsewhere (held_by_rows k) (held_by_goals k)
         (all_front Elsewhere (held_by_rows k ++ held_by_goals k) (held_by_machines k)
@@ -151,7 +160,7 @@ module _ (k : Known) (goal : Goal) (rows : list_all (λ i. same_inst (k.row i).i
         all_back Elsewhere (held_by_rows k ++ held_by_goals k) (held_by_machines k)
         (all_front Elsewhere ((held_by_rows k ++ held_by_goals k) ++ held_by_machines k) (held_by_slots k) elsewhere)
 
-    other-row : (i : Inst) (make : Option Make) → bytes_eq i.dep dep ≡ false → AllByRecursion Elsewhere (of_make (Instance i) make) → has_addr a make ≡ false
+    pub other-row : (i : Inst) (make : Option Make) → bytes_eq i.dep dep ≡ false → AllByRecursion Elsewhere (of_make (Instance i) make) → has_addr a make ≡ false
     other-row i None other all = refl
     other-row i (Some make) other all = any_map (λ b. b == a) (λ (it : NetAddr). it.addr.0) make.nets ∙ each make.nets all
       where

@@ -133,6 +133,12 @@ own-providers dep groups =
     (λ job. all-filtered (IsOwnProvider dep) (λ link. provider (joint_of dep group.group.name job link) link (provide_of job link)) job.spec.provides
     (λ link p e. own-provider dep group.group.name job link (offering_in (provide_of job link)) p e)))))
 
+pub joint-self : (j : Joint) → same_bytes_joint j j ≡ true
+joint-self j =
+    and_from (bytes_eq j.dep j.dep) _ (bytes-same j.dep j.dep refl)
+    (and_from (bytes_eq j.group j.group) _ (bytes-same j.group j.group refl)
+    (and_from (bytes_eq j.job j.job) (bytes_eq j.link j.link) (bytes-same j.job j.job refl) (bytes-same j.link j.link refl)))
+
 module _ (known : List DepOffers) (dep : List ℕ) where
   abbrev Kept : Tie → Type 0
   Kept tie = is_tie_offered known dep tie ≡ true
@@ -144,12 +150,6 @@ module _ (known : List DepOffers) (dep : List ℕ) where
       or_left (bytes_eq tie.provider.dep dep) (list_any (offers_it tie) known) (bytes-same tie.provider.dep dep (ap (λ (t : Tie). t.provider.dep) (sym it.is) ∙ dep_is))
 
   -- ---- across deployments
-
-  joint-self : (j : Joint) → same_bytes_joint j j ≡ true
-  joint-self j =
-      and_from (bytes_eq j.dep j.dep) _ (bytes-same j.dep j.dep refl)
-      (and_from (bytes_eq j.group j.group) _ (bytes-same j.group j.group refl)
-      (and_from (bytes_eq j.job j.job) (bytes_eq j.link j.link) (bytes-same j.job j.job refl) (bytes-same j.link j.link refl)))
 
   offered-there : (offers : List Offer) (p : Provider) (P : Type 0) → Contains (map offered offers) p → ((offer : Offer) → Contains offers offer → offered offer ≡ p → P) → P
   offered-there [] p P (k, within, is) f = absurd (omega arith)

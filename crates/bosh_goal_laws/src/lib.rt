@@ -15,5 +15,5 @@ pub use renewal::{
     renewed_goals_can_be_compiled, renewed_goals_have_free_addresses,
     renewed_goals_keep_the_current_one,
 };
-pub use soundness::goals_are_sound;
+pub use soundness::{goals_are_sound, renewed_goals_are_sound};
 pub use ties::ties_are_offered;

@@ -2,12 +2,16 @@
 ghost use Rattle.std.specs.Prelude.{◌≡◌, Bool, List, Ok, Some, true};
 ghost use Rattle.bosh_bands.specs.Apart.{AreApart};
 ghost use Rattle.bosh_base.specs.declared.goal.Goal.{Goal};
+ghost use Rattle.bosh_base.specs.declared.inst.Inst.{Inst};
 ghost use Rattle.bosh_base.specs.declared.release.Release.{Release};
 ghost use Rattle.bosh_base.specs.declared.stemcell.Stemcell.{Stemcell};
 ghost use Rattle.bosh_base.specs.declared.task.TaskKind.TheVariants.{Deploy, Fix};
 ghost use Rattle.bosh_cloudcfg.specs.declared.config.Config.{Config};
+ghost use Rattle.bosh_goal.specs.Anew.{anew};
 ghost use Rattle.bosh_goal.specs.Goal.{IsGoal};
-ghost use Rattle.bosh_goal_laws.specs.Records.{AreOrderly};
+ghost use Rattle.bosh_goal.specs.declared.change.Change.{Change};
+ghost use Rattle.bosh_goal_laws.specs.Records.{AreOrderly, IsCurrent, IsSoundAnew};
+ghost use Rattle.bosh_history.specs.Goals.{is_in};
 ghost use Rattle.bosh_history.specs.Held.{view};
 ghost use Rattle.bosh_history.specs.Known.{Known};
 ghost use Rattle.bosh_history.specs.Sound.{is_sound_goal};
@@ -23,4 +27,12 @@ pub fn goals_are_sound()
         → IsSound manifest → AreApart config.plan.subnets → AreOrderly k manifest.name
         → IsGoal manifest (Some config) releases stemcells (view k manifest.name) recreate (Ok it)
         → (is_sound_goal k Deploy it ≡ true) × (is_sound_goal k Fix it ≡ true) }
+{}
+
+/// What a task of one instance opens with has what it asks of a goal, but that its keys, which can be compiled one after
+/// another, need not stand in the order of compilation. The instance is one of the current goal.
+pub fn renewed_goals_are_sound()
+    ensures { (k : Known) (inst : Inst) (change : Change) (config : Config) (goal it : Goal)
+        → IsCurrent k goal → is_in (Some goal) inst ≡ true
+        → anew inst change (Some config) (view k goal.dep) goal ≡ Ok it → IsSoundAnew k inst it }
 {}
