@@ -1,20 +1,16 @@
 -- A goal that is made anew of the current one is sound over the records, but for the order of its keys.
-use Rattle.std.proofs.Common.{◌≡◌, ◌∙◌, ℕ, Bool, true, false, true≢false, ◌&&◌, ◌||◌, ◌==◌, not, eqb, cond, nat_le, List, [], ◌∷◌, ◌++◌, Some, Ok, filter, map, ap, refl, sym, subst, arith}
-use Rattle.std.specs.Bool.{Decides}
+use Rattle.std.proofs.Common.{◌≡◌, ◌∙◌, ℕ, Bool, true, false, ◌&&◌, ◌||◌, ◌==◌, not, cond, nat_le, List, [], ◌∷◌, ◌++◌, Some, Ok, map, ap, refl, sym, subst, arith}
 use Rattle.std.specs.Cmp.Lexicographic.{pointwise}
-use Rattle.std.specs.List.{AllByRecursion, Contains, flat_map, list_all, list_any}
+use Rattle.std.specs.List.{AllByRecursion, Contains, list_all, list_any}
 use Rattle.std.specs.Str.{bytes_eq}
-use Rattle.std.proofs.lemmas.Bool.{and_from, eq-eqb, le-leb, not-true, or_left, or_right}
-use Rattle.bosh_base.specs.declared.addr.NetAddr.{NetAddr}
+use Rattle.std.proofs.lemmas.Bool.{and_from, eq-eqb, le-leb, not-true, or_right}
 use Rattle.bosh_base.specs.declared.goal.Goal.{Goal}
 use Rattle.bosh_base.specs.declared.goal.GoalRow.{GoalRow}
 use Rattle.bosh_base.specs.declared.goal.GroupPlan.{GroupPlan}
 use Rattle.bosh_base.specs.declared.inst.Inst.{Inst}
-use Rattle.bosh_base.specs.declared.link.Joint.{Joint}
 use Rattle.bosh_base.specs.declared.link.Tie.{Tie}
 use Rattle.bosh_base.specs.declared.offer.Offer.{Offer}
 use Rattle.bosh_base.specs.declared.owner.Owner.TheVariants.{Instance}
-use Rattle.bosh_base.specs.declared.row.Row.{Row}
 use Rattle.bosh_base.specs.declared.view.View.{View}
 use Rattle.bosh_cloudcfg.specs.declared.config.Config.{Config}
 use Rattle.bosh_goal.specs.Anew.{anew, changed, is_row_of, row_anew}
@@ -23,7 +19,7 @@ use Rattle.bosh_goal.specs.declared.change.Change.TheVariants.{Fresh, To, Same}
 use Rattle.bosh_history.specs.Goals.{inst_of, is_in}
 use Rattle.bosh_history.specs.Held.{held_elsewhere, of_make, same_bytes_joint, view}
 use Rattle.bosh_history.specs.Known.{Known}
-use Rattle.bosh_history.specs.Sound.{addrs, are_rows_kept, has_addr, has_addresses, has_instances, has_no_address, has_plan, is_held, is_renewed, is_tie_kept, row_addrs, same_offer, same_plan, slot_addrs}
+use Rattle.bosh_history.specs.Sound.{addrs, are_rows_kept, has_addr, has_no_address, has_plan, is_held, is_renewed, is_tie_kept, row_addrs, same_offer, same_plan, slot_addrs}
 use Rattle.bosh_history.specs.Words.{are_distinct}
 use Rattle.bosh_pool.proofs.ListLemmas.{recursion_from_contains}
 use Rattle.bosh_rows.specs.Disks.{is_detached}
@@ -35,8 +31,8 @@ use Rattle.bosh_goal_laws.specs.Rows.{HasSoundRows}
 use Rattle.bosh_goal_laws.proofs.AnewLemmas.{IsAnew, anew-inst, is-anew, is-renewed}
 use Rattle.bosh_goal_laws.proofs.ClearedLemmas.{is-cleared-for}
 use Rattle.bosh_goal_laws.proofs.LeftLemmas.{has-keys-left}
-use Rattle.bosh_goal_laws.proofs.ListLemmas.{all_at, all_front, all_map, all_mapped, all_pass, all_unmapped, none_pass, passes}
-use Rattle.bosh_goal_laws.proofs.RecordLemmas.{Elsewhere, addresses-sound, all-both, all-unflat, all-where, in-dep, instances-sound, none-where, of-rows, other-row}
+use Rattle.bosh_goal_laws.proofs.ListLemmas.{all_at, all_front, all_map, all_mapped, all_pass, none_pass, passes}
+use Rattle.bosh_goal_laws.proofs.RecordLemmas.{Elsewhere, addresses-sound, all-both, all-unflat, all-where, instances-sound, of-rows, other-row}
 use Rattle.bosh_goal_laws.proofs.RenewalLemmas.{renewed-addresses-free}
 use Rattle.bosh_goal_laws.proofs.SameLemmas.{bytes-same, inst-is}
 use Rattle.bosh_goal_laws.proofs.TieLemmas.{joint-self}

@@ -18,6 +18,8 @@ use Rattle.bosh_instances.specs.Rows.{Scene, filed_jobs, goal_row, group_rows, i
 use Rattle.bosh_keys.specs.Works.{AreKeys}
 use Rattle.bosh_files.specs.Files.{FiledJob}
 use Rattle.bosh_manifest.specs.declared.manifest.Contents.{Contents}
+use Rattle.bosh_offers.specs.Offers.{offers}
+use Rattle.bosh_offers.specs.declared.offering.Choice.TheVariants.{Shared}
 use Rattle.bosh_offers.specs.Sited.{Sited, sites}
 use Rattle.bosh_places.specs.Plans.{plans}
 use Rattle.bosh_places.specs.Statics.{static_fault}
@@ -45,6 +47,7 @@ pub record IsMade (manifest : Contents) (config : Config) (releases : List Relea
   pub rows_are : rows (scene_of manifest.name (sites used addrs) it.ties recreate view) (sites used addrs) ≡ Ok it.rows
   pub dep_is : it.dep ≡ manifest.name
   pub plans_are : it.groups ≡ plans manifest.groups
+  pub offers_are : it.offers ≡ offers Shared manifest.name (sites used addrs)
 
 pooled : {A : Type 0} (answer : Result A PoolFault) (a : A) → with_fault Pool answer ≡ Ok a → answer ≡ Ok a
 pooled (Ok b) a h = ap Ok (same-value b a h)
@@ -79,6 +82,7 @@ is-made manifest config releases stemcells view recreate it (works, needed, told
       rows_are = f3 ∙ ap (λ (pair : List Make × List GoalRow). Ok pair.1) two;
       dep_is = refl;
       plans_are = refl;
+      offers_are = refl;
     })))))))))
 
 -- ---- the rows of a goal

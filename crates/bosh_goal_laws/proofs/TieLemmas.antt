@@ -1,6 +1,7 @@
 -- The ties of a goal are within its deployment, or to links that others are known to offer.
 use Rattle.std.proofs.Common.{◌≡◌, ◌∙◌, ℕ, zero, suc, arith, Bool, true, false, ◌&&◌, cond, List, [], ◌∷◌, ◌++◌, Option, Some, None, Result, Ok, Err, filter, map, ap, refl, sym, subst}
 use Rattle.std.specs.List.{AllByRecursion, Contains, cons_option, filter_map, flat_map, list_all, list_any}
+use Rattle.std.specs.Option.{option_map}
 use Rattle.std.specs.Str.{bytes_eq}
 use Rattle.std.proofs.lemmas.Bool.{and_from, or_left, or_right}
 use Rattle.std.proofs.lemmas.Slice.Eq.{bytes_eq-Decides}
@@ -27,6 +28,10 @@ use Rattle.bosh_links.specs.declared.fault.LinkFault.TheVariants.{NoProvider, Ty
 use Rattle.bosh_links.specs.declared.provider.Provider.{Provider}
 use Rattle.bosh_manifest.specs.declared.manifest.Contents.{Contents}
 use Rattle.bosh_manifest_parts.specs.declared.link.Offering.{Offering}
+use Rattle.bosh_offers.specs.Offers.{chosen, giving, group_offers, is_chosen, job_offers, offer_of, offers}
+use Rattle.bosh_offers.specs.Sited.{Sited, sites}
+use Rattle.bosh_offers.specs.declared.offering.Choice.{Choice}
+use Rattle.bosh_offers.specs.declared.offering.Choice.TheVariants.{Shared}
 use Rattle.bosh_pool.proofs.ListLemmas.{any_from, contains_here, contains_there, find_some}
 use Rattle.bosh_share.specs.Shared.{across_outcome, across_resolution, consumer_of, of_name, outcome_in, shared_answer}
 use Rattle.bosh_ties.specs.Links.{all_across, consumers, job_providers, joint_of, offering_in, own_ties, provide_of, provider, provider_by, providers, public_provider, ties, ties_across}
@@ -34,7 +39,7 @@ use Rattle.bosh_uses.specs.Answer.{with_fault}
 use Rattle.bosh_uses.specs.Used.{UsedGroup, UsedJob}
 use Rattle.bosh_uses.specs.declared.fault.GoalFault.{GoalFault}
 use Rattle.bosh_uses.specs.declared.fault.GoalFault.TheVariants.{Link, Share}
-use Rattle.bosh_goal_laws.specs.Ties.{AreTiesOffered, OffersAreOwn, is_tie_offered, offers_it}
+use Rattle.bosh_goal_laws.specs.Ties.{AreTiesOffered, OffersAreOf, OffersAreOwn, is_tie_offered, offers_it}
 use Rattle.bosh_goal_laws.proofs.ListLemmas.{all_append, all_at, all_everywhere, all_flat, all_map, all_pass, passes}
 use Rattle.bosh_goal_laws.proofs.PartLemmas.{IsMade, is-made}
 use Rattle.bosh_goal_laws.proofs.SameLemmas.{bytes-same}
@@ -212,3 +217,38 @@ pub has-ties-offered :
 has-ties-offered manifest config releases stemcells view recreate it own told =
     let made : IsMade manifest config releases stemcells view recreate it = is-made manifest config releases stemcells view recreate it told in
     subst (λ dep. AreTiesOffered view.known dep it.ties) (sym made.dep_is) (ties-offered manifest.name made.used view.known it.ties own made.ties_are)
+
+-- ---- what is offered
+
+abbrev IsOwnOffer : List ℕ → Offer → Type 0
+IsOwnOffer dep offer = bytes_eq offer.joint.dep dep ≡ true
+
+own-offer : (choice : Choice) (dep : List ℕ) (group : Sited) (used : UsedJob) (link : LinkSpec) (offer : Offer) → chosen choice dep group used link ≡ Some offer → IsOwnOffer dep offer
+own-offer choice dep group used link offer e = by (is_chosen choice (provide_of used link)) e
+  where
+    of-provider : (found : Option Provider) → provider (joint_of dep group.used.group.name used link) link (provide_of used link) ≡ found
+        → option_map (offer_of group (giving dep group.used.group.name used) link) found ≡ Some offer → IsOwnOffer dep offer
+    of-provider None f e = absurd (cc)
+    of-provider (Some p) f e =
+        let same : offer_of group (giving dep group.used.group.name used) link p ≡ offer = cc in
+        bytes-same offer.joint.dep dep (ap (λ (o : Offer). o.joint.dep) (sym same) ∙ own-provider dep group.used.group.name used link (offering_in (provide_of used link)) p f)
+
+    by : (b : Bool) → cond b (option_map (offer_of group (giving dep group.used.group.name used) link) (provider (joint_of dep group.used.group.name used link) link (provide_of used link))) None ≡ Some offer
+        → IsOwnOffer dep offer
+    by true e = of-provider (provider (joint_of dep group.used.group.name used link) link (provide_of used link)) refl e
+    by false e = absurd (cc)
+
+own-offers : (choice : Choice) (dep : List ℕ) (groups : List Sited) → AllByRecursion (IsOwnOffer dep) (offers choice dep groups)
+own-offers choice dep groups =
+    all_flat (IsOwnOffer dep) (group_offers choice dep) groups (all_everywhere (λ group. AllByRecursion (IsOwnOffer dep) (group_offers choice dep group)) groups
+    (λ group. all_flat (IsOwnOffer dep) (job_offers choice dep group) group.used.jobs (all_everywhere (λ used. AllByRecursion (IsOwnOffer dep) (job_offers choice dep group used)) group.used.jobs
+    (λ used. all-filtered (IsOwnOffer dep) (chosen choice dep group used) used.spec.provides (own-offer choice dep group used)))))
+
+pub has-own-offers :
+    (manifest : Contents) (config : Config) (releases : List Release) (stemcells : List Stemcell) (view : View) (recreate : Bool) (it : Goal)
+    → IsGoal manifest (Some config) releases stemcells view recreate (Ok it) → OffersAreOf it.dep it.offers
+has-own-offers manifest config releases stemcells view recreate it told =
+    let made : IsMade manifest config releases stemcells view recreate it = is-made manifest config releases stemcells view recreate it told in
+    ap (λ dep. list_all (λ (offer : Offer). bytes_eq offer.joint.dep dep) it.offers) made.dep_is
+    ∙ all_pass (λ (offer : Offer). bytes_eq offer.joint.dep manifest.name) it.offers
+    (subst (AllByRecursion (IsOwnOffer manifest.name)) (sym made.offers_are) (own-offers Shared manifest.name (sites made.used made.addrs)))

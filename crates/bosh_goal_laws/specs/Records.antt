@@ -3,7 +3,6 @@ use Rattle.std.specs.Prelude.{◌≡◌, ℕ, true, Some, List}
 use Rattle.std.specs.List.{list_all}
 use Rattle.bosh_base.specs.declared.goal.Goal.{Goal}
 use Rattle.bosh_base.specs.declared.inst.Inst.{Inst}
-use Rattle.bosh_history.specs.Goals.{is_in}
 use Rattle.bosh_history.specs.Held.{view}
 use Rattle.bosh_history.specs.Known.{Known}
 use Rattle.bosh_history.specs.Sound.{has_addresses, has_instances, is_renewed, is_tie_kept}

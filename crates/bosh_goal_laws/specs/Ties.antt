@@ -7,10 +7,16 @@ use Rattle.bosh_base.specs.declared.offer.DepOffers.{DepOffers}
 use Rattle.bosh_base.specs.declared.offer.Offer.{Offer}
 use Rattle.bosh_history.specs.Held.{is_offered}
 
--- the links that are known of a deployment are its own, which every history keeps
+-- the links are those of a deployment
+abbrev pub are_offers_of : List ℕ → List Offer → Bool
+are_offers_of dep offers = list_all (λ offer. bytes_eq offer.joint.dep dep) offers
+
+abbrev pub OffersAreOf : List ℕ → List Offer → Type 0
+OffersAreOf dep offers = are_offers_of dep offers ≡ true
+
+-- what is known of each deployment are its own links, as it is where all of them had goals that manifests gave
 abbrev pub OffersAreOwn : List DepOffers → Type 0
-OffersAreOwn known =
-    list_all (λ it. list_all (λ (offer : Offer). bytes_eq offer.joint.dep it.dep) it.offers) known ≡ true
+OffersAreOwn known = list_all (λ it. are_offers_of it.dep it.offers) known ≡ true
 
 -- the deployment of the provider is known to offer the link, of that type
 abbrev pub offers_it : Tie → DepOffers → Bool

@@ -16,4 +16,4 @@ pub use renewal::{
     renewed_goals_keep_the_current_one,
 };
 pub use soundness::{goals_are_sound, renewed_goals_are_sound};
-pub use ties::ties_are_offered;
+pub use ties::{offers_are_of_the_deployment, ties_are_offered};
