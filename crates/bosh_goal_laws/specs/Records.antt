@@ -13,8 +13,8 @@ use Rattle.bosh_goal_laws.specs.Renewed.{HasFreeRows, HasKeysLeft}
 use Rattle.bosh_goal_laws.specs.Rows.{HasSoundRows}
 use Rattle.bosh_goal_laws.specs.Ties.{OffersAreOwn}
 
--- The row of an instance says that it is of that instance; no two rows of the deployment hold one address; and what other
--- deployments offer are their own links.
+-- The row of an instance says that it is of that instance; no two rows of the deployment hold one address; and what
+-- other deployments offer are their own links.
 pub record AreOrderly (k : Known) (dep : List ℕ) : Type 0 where
   pub rows : list_all (λ i. same_inst (k.row i).inst i) k.instances ≡ true
   pub addresses : HoldOnce (view k dep).rows
@@ -30,8 +30,8 @@ pub record IsCurrent (k : Known) (goal : Goal) : Type 0 where
   pub keys : CanBeCompiled (view k goal.dep).compiled goal.keys
   pub ties : list_all (is_tie_kept k goal) goal.ties ≡ true
 
--- A goal that is made anew of the current one has what a task of that instance asks of it; its keys can be compiled, but
--- need not stand in the order of compilation.
+-- A goal that is made anew of the current one has what a task of that instance asks of it; its keys can be compiled,
+-- but need not stand in the order of compilation.
 pub record IsSoundAnew (k : Known) (inst : Inst) (it : Goal) : Type 0 where
   pub instances : has_instances k it ≡ true
   pub addresses : has_addresses k it ≡ true

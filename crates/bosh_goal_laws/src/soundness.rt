@@ -29,8 +29,9 @@ pub fn goals_are_sound()
         → (is_sound_goal k Deploy it ≡ true) × (is_sound_goal k Fix it ≡ true) }
 {}
 
-/// What a task of one instance opens with has what it asks of a goal, but that its keys, which can be compiled one after
-/// another, need not stand in the order of compilation. The instance is one of the current goal.
+/// A goal that is made anew of the current one has what a task of that instance asks of it, but that its keys, which
+/// can be compiled one after another, need not stand in the order of compilation. The instance is one of the current
+/// goal.
 pub fn renewed_goals_are_sound()
     ensures { (k : Known) (inst : Inst) (change : Change) (config : Config) (goal it : Goal)
         → IsCurrent k goal → is_in (Some goal) inst ≡ true
