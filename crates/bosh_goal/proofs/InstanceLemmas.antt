@@ -36,25 +36,25 @@ abbrev given : {A : Type 0} → Result A GoalFault → Bool
 given (Ok a) = true
 given (Err fault) = false
 
-never : {A : Type 0} (P : Type 0) (fault : GoalFault) (a : A) → ◌≡◌ {A = Result A GoalFault} (Err fault) (Ok a) → P
+pub never : {A : Type 0} (P : Type 0) (fault : GoalFault) (a : A) → ◌≡◌ {A = Result A GoalFault} (Err fault) (Ok a) → P
 never {A = A} P fault a e = absurd (true≢false (sym (ap (given {A = A}) e)))
 
 abbrev value_or : {A : Type 0} → A → Result A GoalFault → A
 value_or none (Ok a) = a
 value_or none (Err fault) = none
 
-same-value : {A : Type 0} (a b : A) → ◌≡◌ {A = Result A GoalFault} (Ok a) (Ok b) → a ≡ b
+pub same-value : {A : Type 0} (a b : A) → ◌≡◌ {A = Result A GoalFault} (Ok a) (Ok b) → a ≡ b
 same-value {A = A} a b e = ap (value_or {A = A} a) e
 
 -- what two steps come to comes of what each does
-both-steps :
+pub both-steps :
     {A B : Type 0} (P : Type 0) (step : Result A GoalFault) (next : A → Result B GoalFault) (b : B)
     → (step >>= next) ≡ Ok b → ((a : A) → step ≡ Ok a → next a ≡ Ok b → P) → P
 both-steps P (Ok a) next b e h = h a refl e
 both-steps P (Err fault) next b e h = never P fault b e
 
 -- what is gathered has the instances of its parts
-gathered-joined :
+pub gathered-joined :
     (first others : Result (List GoalRow) GoalFault) (all : List GoalRow) (P : Type 0) → joined first others ≡ Ok all
     → ((front more : List GoalRow) → first ≡ Ok front → others ≡ Ok more → front ++ more ≡ all → P) → P
 gathered-joined (Ok front) (Ok more) all P e h = h front more refl refl (same-value (front ++ more) all e)
@@ -88,7 +88,7 @@ group-insts scene group some e =
     (below group.used.group.instances) some e
     ∙ flat-one scene.dep group.used.group (below group.used.group.instances)
 
-limited-same : (some all : List GoalRow) → limited some ≡ Ok all → some ≡ all
+pub limited-same : (some all : List GoalRow) → limited some ≡ Ok all → some ≡ all
 limited-same some all e = elim (cases_Bool (nat_le (sum_by row_bytes some) 1048576)) [
   | inl within ↦ same-value some all (sym (rw within refl) ∙ e)
   | inr past ↦ never (some ≡ all) Limit all (sym (rw past refl) ∙ e)

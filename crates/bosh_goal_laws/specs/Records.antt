@@ -1,0 +1,40 @@
+-- What the laws of goals ask of what is recorded. Every history keeps it.
+use Rattle.std.specs.Prelude.{◌≡◌, ℕ, true, Some, List}
+use Rattle.std.specs.List.{list_all}
+use Rattle.bosh_base.specs.declared.goal.Goal.{Goal}
+use Rattle.bosh_base.specs.declared.inst.Inst.{Inst}
+use Rattle.bosh_history.specs.Held.{view}
+use Rattle.bosh_history.specs.Known.{Known}
+use Rattle.bosh_history.specs.Sound.{has_addresses, has_instances, is_renewed, is_tie_kept}
+use Rattle.bosh_rows.specs.Same.{same_inst}
+use Rattle.bosh_goal_laws.specs.Free.{HoldOnce}
+use Rattle.bosh_goal_laws.specs.Keys.{CanBeCompiled}
+use Rattle.bosh_goal_laws.specs.Renewed.{HasFreeRows, HasKeysLeft}
+use Rattle.bosh_goal_laws.specs.Rows.{HasSoundRows}
+use Rattle.bosh_goal_laws.specs.Ties.{OffersAreOwn}
+
+-- The row of an instance says that it is of that instance; no two rows of the deployment hold one address; and what
+-- other deployments offer are their own links.
+pub record AreOrderly (k : Known) (dep : List ℕ) : Type 0 where
+  pub rows : list_all (λ i. same_inst (k.row i).inst i) k.instances ≡ true
+  pub addresses : HoldOnce (view k dep).rows
+  pub offers : OffersAreOwn (view k dep).known
+
+-- The current goal of its deployment: its rows are sound and their addresses free, its keys can be compiled one after
+-- another, and its ties are kept.
+pub record IsCurrent (k : Known) (goal : Goal) : Type 0 where
+  pub recorded : list_all (λ i. same_inst (k.row i).inst i) k.instances ≡ true
+  pub is : k.goal goal.dep ≡ Some goal
+  pub rows : HasSoundRows k.last_call goal
+  pub addresses : HasFreeRows (view k goal.dep) goal
+  pub keys : CanBeCompiled (view k goal.dep).compiled goal.keys
+  pub ties : list_all (is_tie_kept k goal) goal.ties ≡ true
+
+-- A goal that is made anew of the current one has what a task of that instance asks of it; its keys can be compiled,
+-- but need not stand in the order of compilation.
+pub record IsSoundAnew (k : Known) (inst : Inst) (it : Goal) : Type 0 where
+  pub instances : has_instances k it ≡ true
+  pub addresses : has_addresses k it ≡ true
+  pub keys : HasKeysLeft (view k it.dep).compiled it
+  pub ties : list_all (is_tie_kept k it) it.ties ≡ true
+  pub renewed : is_renewed k it inst (k.goal it.dep) ≡ true
