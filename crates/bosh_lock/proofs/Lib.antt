@@ -1,0 +1,7 @@
+mod Ends
+mod Extending
+mod Knowing
+mod Leaving
+mod Places
+mod Shares
+mod Taking

@@ -1,0 +1,6 @@
+pub mod Extends
+pub mod Gates
+pub mod Grows
+pub mod Lends
+pub mod Steps
+pub mod Views

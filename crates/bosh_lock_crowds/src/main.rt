@@ -1,0 +1,80 @@
+//! Crowds of 2, 4 and 8 threads enter one lock, each 10,000 times, and note their number and their count. Now and then
+//! one waits until others have noted more. At the end the list has each thread's notes, each once and in its order.
+#![tactic(auto)]
+
+mod crowd;
+mod marks;
+mod order;
+
+use crate::crowd::{Plan, eight, four, two};
+use crate::marks::Marks;
+use crate::order::is_in_order;
+use bosh_lock::{Pass, SiteLock};
+use std::io;
+use std::process::ExitCode;
+use std::sync::Wait;
+use std::thread::Threads;
+
+/// How often each thread enters.
+const TIMES: u64 = 10_000;
+
+/// The crowd of so many threads.
+fn crowd_of<R: Threads + Wait + Sync>(
+    rt: &R,
+    lock: &SiteLock<Marks>,
+    pass: Pass<Marks>,
+    plan: Plan,
+) -> Pass<Marks>
+    requires lock { pass.lock ≡ lock.now }
+    requires share { 8 ≤ pass.share }
+    ensures lock { result.lock ≡ lock.entry.now }
+    ensures share { result.share ≡ pass.share }
+{
+    match plan.threads {
+        2 => two(rt, lock, pass, 0, plan),
+        4 => four(rt, lock, pass, 0, plan),
+        _ => eight(rt, lock, pass, plan),
+    }
+}
+
+/// What a crowd leaves, or nothing for want of memory.
+fn marks_of(rt: &HostRuntime, plan: Plan) -> Option<Marks> {
+    let marks = Marks::with_room(rt.alloc(), plan.threads * plan.times).ok()?;
+    match SiteLock::new(rt.alloc(), marks) {
+        Ok((lock, pass)) => {
+            let pass = crowd_of(rt, &lock, pass, plan);
+            Some(lock.close(pass))
+        }
+        Err((marks, _)) => {
+            drop(marks);
+            None
+        }
+    }
+}
+
+fn report(rt: &HostRuntime, threads: u64) -> io::Result<bool> {
+    let plan = Plan {
+        threads,
+        times: TIMES,
+    };
+    let Some(marks) = marks_of(rt, plan) else {
+        println!(rt; "{threads} threads: no memory")?;
+        return Ok(false);
+    };
+    let is_right = is_in_order(marks.all(), plan);
+    let told = if is_right { "each once and in its order" } else { "not in order" };
+    println!(rt; "{threads} threads: {} notes, {told}", marks.all().len())?;
+    Ok(is_right)
+}
+
+fn main(rt: HostRuntime) -> io::Result<ExitCode> {
+    let mut is_right = true;
+    for threads in [2, 4, 8] {
+        is_right &= report(&rt, threads)?;
+    }
+    Ok(if is_right {
+        ExitCode::SUCCESS
+    } else {
+        ExitCode::FAILURE
+    })
+}
