@@ -1,11 +1,11 @@
 -- A lock that begins, and one that ends.
-use Rattle.std.proofs.Common.{◌≡◌, ◌≢◌, ℕ, zero, suc, ◌+◌, ◌^◌, Bool, true, false, List, [], ◌∷◌, length, Option, Some, sym, refl, ap, ◌∙◌, subst, inl, inr, arith}
+use Rattle.std.proofs.Common.{◌≡◌, ℕ, zero, suc, ◌^◌, false, List, [], ◌∷◌, length, Option, Some, sym, refl, ap, ◌∙◌, subst, inl}
 use Rattle.std.specs.Option.{unwrap_or}
-use mathlib.Core.Option.{none, some, some-injective, some-ne-none}
+use mathlib.Core.Option.{some, some-injective, some-ne-none}
 use lib.ListN.{get_elem?}
-use Rattle.atomic_table.specs.Table.{State, opening, Final, Seen}
+use Rattle.atomic_table.specs.Table.{opening, Final, Seen}
 use Rattle.bosh_lock.specs.Extends.{Extends}
-use Rattle.bosh_lock.specs.Grows.{Grows, IsHome, Knows, first_view}
+use Rattle.bosh_lock.specs.Grows.{Grows, Knows, first_view}
 use Rattle.bosh_lock.specs.declared.rule.View.{View}
 use Rattle.bosh_lock.proofs.Extending.{Extends_refl}
 use Rattle.bosh_lock.proofs.Knowing.{closes_home}

@@ -1,16 +1,16 @@
 -- The steps that only look, and those that cut views in two and make two views one.
-use Rattle.std.proofs.Common.{◌≡◌, ◌≢◌, ◌⊎◌, if◌then◌else◌, slice_index, ℕ, ◌+◌, ◌-◌, ◌/◌, ◌^◌, ◌<◌, ◌≤◌, Bool, true, false, List, [], ◌∷◌, ◌++◌, length, get_or, set, Option, Some, sym, refl, ap, ◌∙◌, subst, inl, inr, ⊎_elim, arith, length-set, get_or-set_same, get_or-set_other, ltb, ltb-true, ltb-false}
-use mathlib.Core.Option.{none, some, some-injective}
+use Rattle.std.proofs.Common.{◌≡◌, ◌⊎◌, if◌then◌else◌, slice_index, ℕ, ◌^◌, Bool, true, false, List, [], ◌∷◌, ◌++◌, length, get_or, set, Option, Some, sym, refl, ap, ◌∙◌, subst, inl, inr, ⊎_elim, arith, length-set, get_or-set_same, get_or-set_other, ltb}
+use mathlib.Core.Option.{some, some-injective}
 use lib.ListN.{get_elem?}
-use Rattle.atomic_table.specs.Table.{State, Step, keeps, stepped, Allows, Splits, Joins}
+use Rattle.atomic_table.specs.Table.{State, keeps, stepped, Allows, Splits, Joins}
 use Rattle.std.proofs.lemmas.Bool.{false_from_ne_true}
 use Rattle.atomic_table.proofs.Lists.{set_again, set_else, at_longer, at_snoc}
-use Rattle.bosh_lock.specs.Extends.{Extends, longer, shorter}
+use Rattle.bosh_lock.specs.Extends.{Extends}
 use Rattle.bosh_lock.specs.Grows.{Grows, IsHome, IsOut, Knows, shares}
 use Rattle.bosh_lock.specs.Steps.{Sat, Looks, Stays, Weighs, kept_half, given_half, both_views, spent_view}
 use Rattle.bosh_lock.specs.declared.rule.View.{View}
 use Rattle.bosh_lock.proofs.Extending.{Extends_refl, Extends_beside}
-use Rattle.bosh_lock.proofs.Places.{Each, not_both, each_set, each_last, seated_set}
+use Rattle.bosh_lock.proofs.Places.{not_both, each_set, each_last}
 use Rattle.bosh_lock.proofs.Shares.{shares_set, shares_last, share_within, two_within}
 
 module _ {S I : Type 0} (items_of : S → List I) where

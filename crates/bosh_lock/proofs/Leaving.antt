@@ -1,10 +1,10 @@
 -- The steps of `take`, `watch` and `leave`, where a seat is known by equations.
-use Rattle.std.proofs.Common.{◌≡◌, ◌≢◌, ℕ, suc, eqb, ◌≤◌, Bool, true, false, List, [], ◌∷◌, length, Option, Some, None, sym, refl, ap, ◌∙◌, subst, arith}
+use Rattle.std.proofs.Common.{◌≡◌, ◌≢◌, ℕ, suc, eqb, true, List, [], ◌∷◌, length, Option, Some, None, sym, refl, ap, ◌∙◌, subst, arith}
 use prog.Atomic.{either}
-use Rattle.atomic_table.specs.Table.{Step, rest, Allows}
+use Rattle.atomic_table.specs.Table.{rest, Allows}
 use Rattle.atomic_table.proofs.Lists.{exchanged}
 use Rattle.bosh_lock.specs.Extends.{Extends}
-use Rattle.bosh_lock.specs.Gates.{Watched}
+use Rattle.bosh_lock.specs.Gates.{Entered, Watched}
 use Rattle.bosh_lock.specs.Grows.{Grows}
 use Rattle.bosh_lock.specs.Steps.{Sat, Counts, Gives, Looks}
 use Rattle.bosh_lock.proofs.Extending.{Extends_trans}
@@ -31,6 +31,12 @@ module _ {S I : Type 0} where
   )
 
 module _ {S I : Type 0} (items_of : S → List I) where
+  -- who has entered holds the slot, with a value of the list that it has seen
+  pub has_slot : (was now : Sat S I) → Entered items_of was now → (x : Option S) × (now.1 ≡ (0, x) ∷ rest now.1)
+  has_slot was now entered =
+      let held : now.1 ≡ (0, Some entered.0) ∷ was.1 = ap (λ (m : Sat S I). m.1) entered.1 in
+      (Some entered.0, held ∙ ap (λ (c : List (ℕ × Option S)). (0, Some entered.0) ∷ c) (sym (ap rest held)))
+
   -- the value was put into the slot, and its moves are counted
   pub leaves_counted : (slots id : ℕ) (me now : Sat S I) (value : S) (n : ℕ) → me.0.holds ≡ true → me.1 ≡ (0, None) ∷ []
       → now ≡ (me.0, (0, Some value) ∷ rest me.1) → Extends me.0.seen (items_of value) → n ≡ length (items_of value)

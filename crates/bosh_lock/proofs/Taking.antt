@@ -1,12 +1,10 @@
 -- The steps that take the slot, count the moves of its value, and give it back.
-use Rattle.std.proofs.Common.{◌≡◌, ◌≢◌, ℕ, ◌+◌, ◌^◌, ◌<◌, ◌≤◌, Bool, true, false, List, [], ◌∷◌, length, get_or, set, Option, Some, sym, refl, ap, ◌∙◌, subst, inl, inr, ⊎_elim, arith, length-set, get_or-set_same, get_or-set_other}
-use mathlib.Core.Logic.{dite}
+use Rattle.std.proofs.Common.{◌≡◌, ◌≢◌, ℕ, ◌≤◌, true, false, List, [], ◌∷◌, length, get_or, set, Option, Some, sym, refl, ap, ◌∙◌, subst, inl, inr, ⊎_elim, arith, length-set, get_or-set_same, get_or-set_other}
 use mathlib.Core.Option.{none, some, some-injective}
-use native.Mathlib.Decide.{ℕ_discrete}
 use lib.ListN.{get_elem?}
-use Rattle.atomic_table.specs.Table.{State, Act, Step, step, keeps, takes, gives, stepped, rest, put_back, Allows}
+use Rattle.atomic_table.specs.Table.{State, keeps, takes, gives, stepped, put_back, Allows}
 use Rattle.std.proofs.lemmas.Bool.{false_from_ne_true}
-use Rattle.atomic_table.proofs.Lists.{set_again, set_here, at_longer}
+use Rattle.atomic_table.proofs.Lists.{set_again}
 use Rattle.bosh_lock.specs.Extends.{Extends}
 use Rattle.bosh_lock.specs.Grows.{Grows, IsHome, IsOut, Knows, shares}
 use Rattle.bosh_lock.specs.Steps.{Sat, Takes, Counts, Gives}

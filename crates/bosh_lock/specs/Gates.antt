@@ -1,5 +1,5 @@
 -- What is done on the words of a lock.
-use Rattle.std.specs.Prelude.{◌≡◌, ℕ, true, List, ◌∷◌, Option, Some}
+use Rattle.std.specs.Prelude.{◌≡◌, true, List, ◌∷◌, Some}
 use Rattle.atomic_table.specs.Seated.{TableId}
 use Rattle.bosh_lock.specs.Extends.{Extends}
 use Rattle.bosh_lock.specs.Steps.{Sat}
