@@ -6,6 +6,7 @@ use atomic_table::Seat;
 use std::marker::Model;
 
 /// The leave to enter one lock. It carries the length that it has seen of the list, and a share of 2^32.
+#[derive(Drop)]
 pub struct Pass<S: Chronicle> {
     pub(crate) seat: Seat<Option<S>, View<S::Item>>,
     pub(crate) share: u64,

@@ -9,9 +9,11 @@ mod rounds;
 use crate::quiet::Quiet;
 use crate::rounds::{lock_alone, lock_beside, mutex_alone, mutex_beside};
 use bosh_lock::SiteLock;
+use std::alloc::Global;
 use std::process::ExitCode;
 use std::rt::Clock;
-use std::sync::Mutex;
+use std::sync::{Mutex, Wait};
+use std::thread::Threads;
 use std::time::{Duration, Instant};
 use std::{env, io};
 
@@ -46,8 +48,8 @@ fn crowd_of(word: &str) -> Option<Crowd> {
 }
 
 /// Enters a lock so often. False for want of memory.
-fn enter_lock(rt: &HostRuntime, crowd: Crowd, times: u64) -> bool {
-    match SiteLock::new(rt.alloc(), Quiet) {
+fn enter_lock<R: Threads + Wait + Sync>(rt: &R, alloc: Global, crowd: Crowd, times: u64) -> bool {
+    match SiteLock::new(alloc, Quiet) {
         Ok((lock, pass)) => {
             let pass = match crowd {
                 Crowd::Alone => lock_alone(rt, &lock, pass, times),
@@ -60,7 +62,7 @@ fn enter_lock(rt: &HostRuntime, crowd: Crowd, times: u64) -> bool {
     }
 }
 
-fn enter_mutex(rt: &HostRuntime, crowd: Crowd, times: u64) {
+fn enter_mutex<R: Threads + Wait + Sync>(rt: &R, crowd: Crowd, times: u64) {
     let mutex = Mutex::new(0);
     match crowd {
         Crowd::Alone => mutex_alone(rt, &mutex, times),
@@ -69,10 +71,16 @@ fn enter_mutex(rt: &HostRuntime, crowd: Crowd, times: u64) {
 }
 
 /// How long it takes, where there is memory and a clock.
-fn time_of(rt: &HostRuntime, door: Door, crowd: Crowd, times: u64) -> Option<Duration> {
+fn time_of<R: Threads + Wait + Sync + Clock>(
+    rt: &R,
+    alloc: Global,
+    door: Door,
+    crowd: Crowd,
+    times: u64,
+) -> Option<Duration> {
     let start = Instant::now(rt).ok()?;
     let is_done = match door {
-        Door::Lock => enter_lock(rt, crowd, times),
+        Door::Lock => enter_lock(rt, alloc, crowd, times),
         Door::Mutex => {
             enter_mutex(rt, crowd, times);
             true
@@ -95,7 +103,7 @@ fn main(rt: HostRuntime) -> io::Result<ExitCode> {
     ) else {
         return Ok(ExitCode::FAILURE);
     };
-    match time_of(&rt, door, crowd, times) {
+    match time_of(&rt, rt.alloc(), door, crowd, times) {
         Some(took) => {
             println!(rt; "{}", took.as_micros())?;
             Ok(ExitCode::SUCCESS)

@@ -17,12 +17,16 @@ pub struct Plan {
 }
 
 impl Plan {
+    /// How many notes there are in the end.
+    pub fn all(self) -> u64 {
+        self.threads.saturating_mul(self.times)
+    }
+
     /// Whether others still have to note something, where a thread has noted so many, and there were so many notes of
     /// all when it noted its last. Whoever noted the last of all alone finds no more, so one at a time waits long.
     fn awaits_others(self, noted: u64, length: u64) -> bool {
         let own = self.times.saturating_sub(noted);
-        let all = self.threads.saturating_mul(self.times);
-        noted % STRETCH == 0 && length < all.saturating_sub(own)
+        noted % STRETCH == 0 && length < self.all().saturating_sub(own)
     }
 }
 

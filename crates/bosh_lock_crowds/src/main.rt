@@ -2,6 +2,8 @@
 //! one waits until others have noted more. At the end the list has each thread's notes, each once and in its order.
 #![tactic(auto)]
 
+ghost use Rattle.std.specs.Prelude.{◌≡◌, ◌≤◌};
+
 mod crowd;
 mod marks;
 mod order;
@@ -10,6 +12,7 @@ use crate::crowd::{Plan, eight, four, two};
 use crate::marks::Marks;
 use crate::order::is_in_order;
 use bosh_lock::{Pass, SiteLock};
+use std::alloc::Global;
 use std::io;
 use std::process::ExitCode;
 use std::sync::Wait;
@@ -38,9 +41,9 @@ fn crowd_of<R: Threads + Wait + Sync>(
 }
 
 /// What a crowd leaves, or nothing for want of memory.
-fn marks_of(rt: &HostRuntime, plan: Plan) -> Option<Marks> {
-    let marks = Marks::with_room(rt.alloc(), plan.threads * plan.times).ok()?;
-    match SiteLock::new(rt.alloc(), marks) {
+fn marks_of<R: Threads + Wait + Sync>(rt: &R, alloc: Global, plan: Plan) -> Option<Marks> {
+    let marks = Marks::with_room(alloc, plan.all()).ok()?;
+    match SiteLock::new(alloc, marks) {
         Ok((lock, pass)) => {
             let pass = crowd_of(rt, &lock, pass, plan);
             Some(lock.close(pass))
@@ -52,12 +55,16 @@ fn marks_of(rt: &HostRuntime, plan: Plan) -> Option<Marks> {
     }
 }
 
-fn report(rt: &HostRuntime, threads: u64) -> io::Result<bool> {
+fn report<R: Threads + Wait + Sync + Print>(
+    rt: &R,
+    alloc: Global,
+    threads: u64,
+) -> io::Result<bool> {
     let plan = Plan {
         threads,
         times: TIMES,
     };
-    let Some(marks) = marks_of(rt, plan) else {
+    let Some(marks) = marks_of(rt, alloc, plan) else {
         println!(rt; "{threads} threads: no memory")?;
         return Ok(false);
     };
@@ -70,7 +77,7 @@ fn report(rt: &HostRuntime, threads: u64) -> io::Result<bool> {
 fn main(rt: HostRuntime) -> io::Result<ExitCode> {
     let mut is_right = true;
     for threads in [2, 4, 8] {
-        is_right &= report(&rt, threads)?;
+        is_right &= report(&rt, rt.alloc(), threads)?;
     }
     Ok(if is_right {
         ExitCode::SUCCESS

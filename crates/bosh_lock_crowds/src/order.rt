@@ -22,5 +22,5 @@ pub fn is_in_order(marks: &[Mark], plan: Plan) -> bool {
             return false;
         }
     }
-    marks.len() as u64 == plan.threads.wrapping_mul(plan.times)
+    marks.len() as u64 == plan.all()
 }
