@@ -1,5 +1,6 @@
 mod Ends
 mod Extending
+mod Following
 mod Knowing
 mod Leaving
 mod Places

@@ -5,6 +5,7 @@
 mod chronicle;
 mod fault;
 mod gate;
+mod laws;
 mod lock;
 mod pass;
 mod rule;
@@ -14,6 +15,7 @@ mod turn;
 
 pub use chronicle::Chronicle;
 pub use fault::LockFault;
+pub use laws::{what_all_have, what_crosses_threads};
 pub use lock::SiteLock;
 pub use pass::Pass;
 pub use rule::{Growth, View};
