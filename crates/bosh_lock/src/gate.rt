@@ -1,11 +1,12 @@
 //! The words of a lock, and what is done on them.
-ghost use Rattle.std.specs.Prelude.{◌≡◌, ◌≢◌, ◌≤◌, ◌<◌, false, [], ◌∷◌, length, Some};
+ghost use Rattle.std.specs.Prelude.{◌≡◌, ◌≢◌, ◌≤◌, false, length, MatchBool};
 ghost use Rattle.bosh_lock.specs.Gates.{Entered, IsGateOf, Watched};
 
 use crate::chronicle::Chronicle;
 use crate::rule::{Growth, View};
 use crate::steps::{Look, Take};
 use atomic_table::{Seat, Shared};
+use std::hint::spin_loop;
 use std::snapshot::Snapshot;
 use std::sync::Wait;
 
@@ -31,6 +32,48 @@ pub(crate) const OUT: u64 = 1;
 /// It is out, and somebody may wait for it.
 pub(crate) const AWAITED: u64 = 2;
 
+/// How often one looks whether the slot is home again before one sleeps.
+const LOOKS: u32 = 100;
+
+/// Takes the slot where it may be taken, and says whether it did.
+fn try_take<S: Chronicle>(gate: &Gate<S>, seat: &mut Place<S>) -> bool
+    requires gate { IsGateOf gate.now.table_id seat.old.table_id }
+    requires share { 1 ≤ seat.old.me.0.share }
+    ensures gate { seat.new.table_id ≡ seat.old.table_id }
+    ensures entered { MatchBool result (Entered S.items seat.old.me seat.new.me) (seat.new.me ≡ seat.old.me) }
+{
+    gate.compare_exchange::<Take>(seat, DOOR, FREE, OUT) == FREE
+}
+
+/// Looks for a while, as long as the slot is out and nobody sleeps.
+fn linger<S: Chronicle>(gate: &Gate<S>)
+    requires { gate.now.table_id.words ≡ 3 }
+{
+    for _ in 0..LOOKS {
+        if gate.peek(DOOR) != OUT {
+            return;
+        }
+        spin_loop();
+    }
+}
+
+/// Takes the slot, and sleeps where it is out.
+fn take_in_turn<S: Chronicle, R: Wait>(rt: &R, gate: &Gate<S>, seat: &mut Place<S>)
+    requires gate { IsGateOf gate.now.table_id seat.old.table_id }
+    requires share { 1 ≤ seat.old.me.0.share }
+    ensures gate { seat.new.table_id ≡ seat.old.table_id }
+    ensures entered { Entered S.items seat.old.me seat.new.me }
+{
+    for _ in rt.forever() {
+        if gate.swap::<Take>(seat, DOOR, AWAITED) == FREE {
+            return;
+        }
+        gate.park(rt, DOOR, AWAITED as u32);
+        linger(gate);
+    }
+    unreachable!()
+}
+
 /// Takes the slot, and waits where it is out.
 pub(crate) fn take<S: Chronicle, R: Wait>(rt: &R, gate: &Gate<S>, seat: &mut Place<S>)
     requires gate { IsGateOf gate.now.table_id seat.old.table_id }
@@ -38,16 +81,14 @@ pub(crate) fn take<S: Chronicle, R: Wait>(rt: &R, gate: &Gate<S>, seat: &mut Pla
     ensures gate { seat.new.table_id ≡ seat.old.table_id }
     ensures entered { Entered S.items seat.old.me seat.new.me }
 {
-    if gate.compare_exchange::<Take>(seat, DOOR, FREE, OUT) == FREE {
+    if try_take(gate, seat) {
         return;
     }
-    for _ in rt.forever() {
-        if gate.swap::<Take>(seat, DOOR, AWAITED) == FREE {
-            return;
-        }
-        gate.park(rt, DOOR, AWAITED as u32);
+    linger(gate);
+    if try_take(gate, seat) {
+        return;
     }
-    unreachable!()
+    take_in_turn(rt, gate, seat);
 }
 
 /// Waits until the list has another length than the one that was seen, and answers it.
