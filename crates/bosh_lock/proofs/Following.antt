@@ -1,9 +1,7 @@
 -- What follows from the rule of a lock.
-use Rattle.std.proofs.Common.{◌≡◌, ◌⊎◌, ℕ, ◌≤◌, List, length, Option, inl, inr, ⊎_elim, sym, ◌∙◌, arith}
+use Rattle.std.proofs.Common.{List, length, inl, inr, ⊎_elim, sym, ◌∙◌, arith}
 use mathlib.Core.Logic.{dite}
-use mathlib.Core.Option.{some}
 use native.Mathlib.Decide.{dec_le}
-use lib.ListN.{get_elem?}
 use Rattle.bosh_lock.specs.Laws.{HasOneHolder, HasOneList, IsWhole}
 use Rattle.bosh_lock.proofs.Extending.{Extends_beside}
 use Rattle.bosh_lock.proofs.Places.{not_both}

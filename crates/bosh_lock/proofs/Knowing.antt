@@ -46,7 +46,7 @@ module _ {S I : Type 0} (items_of : S → List I) where
   there_still : (views : List (View I)) (id : ℕ) (v w : View I) → get_elem? views id ≡ some v → v.holds ≡ false
       → (j : ℕ) (u : View I) → get_elem? views j ≡ some u → u.holds ≡ true → get_elem? (set views id w) j ≡ some u
   there_still views id v w at idle j u e held = set_else views id j w (λ same.
-        absurd (not_both u.holds held (ap (λ (x : View I). x.holds) (some-injective u v (sym e ∙ (ap (λ k. get_elem? views k) same ∙ at))) ∙ idle))) ∙ e
+      absurd (not_both u.holds held (ap (λ (x : View I). x.holds) (some-injective u v (sym e ∙ (ap (λ k. get_elem? views k) same ∙ at))) ∙ idle))) ∙ e
 
   here_before : (views : List (View I)) (id : ℕ) (w : View I) → w.holds ≡ false
       → (j : ℕ) (u : View I) → get_elem? (set views id w) j ≡ some u → u.holds ≡ true → get_elem? views j ≡ some u
@@ -75,7 +75,7 @@ module _ {S I : Type 0} (items_of : S → List I) where
           placed = stays_placed s t r.items (get_or-set_other s.words 1 0 n 0 (λ e. omega arith)) refl
               (there_still s.views id me.0 w at idle) (here_before s.views id w idle) r.placed;
         },
-        (r.items, refl, (r.known id me.0 at).0, r.counted),
+        ((r.items, refl, (r.known id me.0 at).0), r.counted),
       )
 
   -- a word past the second changes, and nothing else
@@ -173,7 +173,7 @@ module _ {S I : Type 0} (items_of : S → List I) where
   closes_home id v s all idle r at = ⊎_elim
       (λ h. (h.value, h.home, subst (Extends v.seen) (sym h.lists) (r.known id v at).0))
       (λ o.
-        let two = two_within s.views id o.holder v o.view at o.seated (λ same. not_both o.view.holds o.held
-              (ap (λ (x : View I). x.holds) (some-injective o.view v (sym o.seated ∙ (ap (λ k. get_elem? s.views k) same ∙ at))) ∙ idle)) in
-        let some_share = o.shared in
-        let whole = r.whole in absurd (omega arith)) r.placed
+      let two = two_within s.views id o.holder v o.view at o.seated (λ same. not_both o.view.holds o.held
+      (ap (λ (x : View I). x.holds) (some-injective o.view v (sym o.seated ∙ (ap (λ k. get_elem? s.views k) same ∙ at))) ∙ idle)) in
+      let some_share = o.shared in
+      let whole = r.whole in absurd (omega arith)) r.placed

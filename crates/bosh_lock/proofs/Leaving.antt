@@ -4,10 +4,8 @@ use prog.Atomic.{either}
 use Rattle.atomic_table.specs.Table.{rest, Allows}
 use Rattle.atomic_table.proofs.Lists.{exchanged}
 use Rattle.bosh_lock.specs.Extends.{Extends}
-use Rattle.bosh_lock.specs.Gates.{Entered, Watched}
 use Rattle.bosh_lock.specs.Grows.{Grows}
-use Rattle.bosh_lock.specs.Steps.{Sat, Counts, Gives, Looks}
-use Rattle.bosh_lock.proofs.Extending.{Extends_trans}
+use Rattle.bosh_lock.specs.Steps.{Counts, Enters, Gives, Sat}
 use Rattle.bosh_lock.proofs.Taking.{counts_moves, gives_back}
 
 -- a door that was free is not free once it is taken
@@ -18,21 +16,9 @@ not_free n = exchanged n 0 1 (λ z. z ≢ 0) (λ _ e. omega arith) (λ ne. ne)
 pub not_zero : (n : ℕ) → suc n ≢ 0
 not_zero n e = omega arith
 
-module _ {S I : Type 0} where
-  -- another look sees more
-  pub watched_on : (was middle now : Sat S I) (n : ℕ) → Watched was middle → Looks middle n now → Watched was now × (n ≡ length now.0.seen)
-  watched_on was middle now n a b = (
-    (
-      b.0,
-      b.1 ∙ ap (λ (m : Sat S I). (record m.0 { seen = b.0 }, m.1)) a.1,
-      Extends_trans was.0.seen a.0 b.0 a.2 (subst (λ (m : Sat S I). Extends m.0.seen b.0) a.1 b.2),
-    ),
-    b.3 ∙ ap (λ (m : Sat S I). length m.0.seen) (sym b.1),
-  )
-
 module _ {S I : Type 0} (items_of : S → List I) where
   -- who has entered holds the slot, with a value of the list that it has seen
-  pub has_slot : (was now : Sat S I) → Entered items_of was now → (x : Option S) × (now.1 ≡ (0, x) ∷ rest now.1)
+  pub has_slot : (was now : Sat S I) → Enters items_of was now → (x : Option S) × (now.1 ≡ (0, x) ∷ rest now.1)
   has_slot was now entered =
       let held : now.1 ≡ (0, Some entered.0) ∷ was.1 = ap (λ (m : Sat S I). m.1) entered.1 in
       (Some entered.0, held ∙ ap (λ (c : List (ℕ × Option S)). (0, Some entered.0) ∷ c) (sym (ap rest held)))

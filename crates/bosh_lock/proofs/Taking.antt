@@ -90,39 +90,39 @@ module _ {S I : Type 0} (items_of : S → List I) where
   counts_moves slots id me value n held carried longer long s r _ at _ = ⊎_elim
       (λ h. absurd (not_both me.0.holds held (h.unheld id me.0 at)))
       (λ o.
-        let mine : id ≡ o.holder = o.alone id me.0 at held in
-        let view : o.view ≡ me.0 = some-injective o.view me.0 (sym o.seated ∙ (ap (λ k. get_elem? s.views k) (sym mine) ∙ at)) in
-        let list : r.items ≡ me.0.seen = sym o.newest ∙ ap (λ (v : View I). v.seen) view in
-        let more : Extends r.items (items_of value) = Extends_trans r.items me.0.seen (items_of value) (Extends_same r.items me.0.seen list) longer in
-        let w : View I = record me.0 { seen = items_of value } in
-        let sum = shares_set s.views id me.0 w at in
-        let wide = r.wide in
-        let whole = r.whole in (
-          w,
-          keeps,
-          tt,
-          record {
-            items = items_of value;
-            wide = length-set s.words 1 n ∙ r.wide;
-            counted = get_or-set_same s.words 1 n 0 (omega arith) ∙ long;
-            whole = omega arith;
-            known = each_set (λ _ v. Knows (items_of value) v) s.views id w
-                (Extends_refl (items_of value), Extends_trans me.0.joined r.items (items_of value) (r.known id me.0 at).1 more)
-                (λ j v _ e. knows_more r.items (items_of value) more v (r.known j v e));
-            placed = inr record {
-              holder = id;
-              view = w;
-              taken = λ e. o.taken (sym (get_or-set_other s.words 1 0 n 0 (λ z. omega arith)) ∙ e);
-              out = o.out;
-              seated = seated_set s.views id me.0 w at;
-              held = held;
-              shared = subst (λ (v : View I). 1 ≤ v.share) view o.shared;
-              newest = refl;
-              alone = each_set (λ j v. v.holds ≡ true → j ≡ id) s.views id w (λ _. refl) (λ j v _ e held'. o.alone j v e held' ∙ sym mine);
-            };
-          },
-          λ other is. ap (λ (c : List (ℕ × Option S)). (record me.0 { seen = items_of (held_of value c) }, me.1)) (sym carried ∙ is),
-        )) r.placed
+      let mine : id ≡ o.holder = o.alone id me.0 at held in
+      let view : o.view ≡ me.0 = some-injective o.view me.0 (sym o.seated ∙ (ap (λ k. get_elem? s.views k) (sym mine) ∙ at)) in
+      let list : r.items ≡ me.0.seen = sym o.newest ∙ ap (λ (v : View I). v.seen) view in
+      let more : Extends r.items (items_of value) = Extends_trans r.items me.0.seen (items_of value) (Extends_same r.items me.0.seen list) longer in
+      let w : View I = record me.0 { seen = items_of value } in
+      let sum = shares_set s.views id me.0 w at in
+      let wide = r.wide in
+      let whole = r.whole in (
+        w,
+        keeps,
+        tt,
+        record {
+          items = items_of value;
+          wide = length-set s.words 1 n ∙ r.wide;
+          counted = get_or-set_same s.words 1 n 0 (omega arith) ∙ long;
+          whole = omega arith;
+          known = each_set (λ _ v. Knows (items_of value) v) s.views id w
+              (Extends_refl (items_of value), Extends_trans me.0.joined r.items (items_of value) (r.known id me.0 at).1 more)
+              (λ j v _ e. knows_more r.items (items_of value) more v (r.known j v e));
+          placed = inr record {
+            holder = id;
+            view = w;
+            taken = λ e. o.taken (sym (get_or-set_other s.words 1 0 n 0 (λ z. omega arith)) ∙ e);
+            out = o.out;
+            seated = seated_set s.views id me.0 w at;
+            held = held;
+            shared = subst (λ (v : View I). 1 ≤ v.share) view o.shared;
+            newest = refl;
+            alone = each_set (λ j v. v.holds ≡ true → j ≡ id) s.views id w (λ _. refl) (λ j v _ e held'. o.alone j v e held' ∙ sym mine);
+          };
+        },
+        λ other is. ap (λ (c : List (ℕ × Option S)). (record me.0 { seen = items_of (held_of value c) }, me.1)) (sym carried ∙ is),
+      )) r.placed
     where
       held_of : S → List (ℕ × Option S) → S
       held_of d [] = d
@@ -138,30 +138,30 @@ module _ {S I : Type 0} (items_of : S → List I) where
   gives_back slots id me value held carried newest s r _ at _ = ⊎_elim
       (λ h. absurd (not_both me.0.holds held (h.unheld id me.0 at)))
       (λ o.
-        let mine : id ≡ o.holder = o.alone id me.0 at held in
-        let view : o.view ≡ me.0 = some-injective o.view me.0 (sym o.seated ∙ (ap (λ k. get_elem? s.views k) (sym mine) ∙ at)) in
-        let list : r.items ≡ me.0.seen = sym o.newest ∙ ap (λ (v : View I). v.seen) view in
-        let w : View I = record me.0 { holds = false } in
-        let sum = shares_set s.views id me.0 w at in
-        let wide = r.wide in
-        let whole = r.whole in (
-          w,
-          gives,
-          tt,
-          record {
-            items = r.items;
-            wide = length-set s.words 0 0 ∙ r.wide;
-            counted = get_or-set_other s.words 0 1 0 0 (λ e. omega arith) ∙ r.counted;
-            whole = omega arith;
-            known = each_set (λ _ v. Knows r.items v) s.views id w (r.known id me.0 at) (λ j v _ e. r.known j v e);
-            placed = inl record {
-              value = value;
-              lists = sym newest ∙ sym list;
-              free = get_or-set_same s.words 0 0 0 (omega arith);
-              home = ap (put_back s.homes) carried ∙ ap (λ hs. set hs 0 (some (Some value))) o.out;
-              unheld = each_set (λ _ v. v.holds ≡ false) s.views id w refl
-                  (λ j v apart e. false_from_ne_true v.holds (λ is. apart (o.alone j v e is ∙ sym mine)));
-            };
-          },
-          refl,
-        )) r.placed
+      let mine : id ≡ o.holder = o.alone id me.0 at held in
+      let view : o.view ≡ me.0 = some-injective o.view me.0 (sym o.seated ∙ (ap (λ k. get_elem? s.views k) (sym mine) ∙ at)) in
+      let list : r.items ≡ me.0.seen = sym o.newest ∙ ap (λ (v : View I). v.seen) view in
+      let w : View I = record me.0 { holds = false } in
+      let sum = shares_set s.views id me.0 w at in
+      let wide = r.wide in
+      let whole = r.whole in (
+        w,
+        gives,
+        tt,
+        record {
+          items = r.items;
+          wide = length-set s.words 0 0 ∙ r.wide;
+          counted = get_or-set_other s.words 0 1 0 0 (λ e. omega arith) ∙ r.counted;
+          whole = omega arith;
+          known = each_set (λ _ v. Knows r.items v) s.views id w (r.known id me.0 at) (λ j v _ e. r.known j v e);
+          placed = inl record {
+            value = value;
+            lists = sym newest ∙ sym list;
+            free = get_or-set_same s.words 0 0 0 (omega arith);
+            home = ap (put_back s.homes) carried ∙ ap (λ hs. set hs 0 (some (Some value))) o.out;
+            unheld = each_set (λ _ v. v.holds ≡ false) s.views id w refl
+                (λ j v apart e. false_from_ne_true v.holds (λ is. apart (o.alone j v e is ∙ sym mine)));
+          };
+        },
+        refl,
+      )) r.placed

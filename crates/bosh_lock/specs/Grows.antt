@@ -1,7 +1,8 @@
 -- What holds of a lock between any two steps: its words, its slot, and what each pass and turn knows.
 -- Word 0 is 0 where the slot may be taken, 1 where it is out, and 2 where it is out and awaited. Word 1 is the length
 -- of the list. Word 2 counts who waits for a longer one.
-use Rattle.std.specs.Prelude.{◌≡◌, ◌≢◌, ◌⊎◌, ℕ, ◌+◌, ◌^◌, ◌≤◌, true, false, List, [], ◌∷◌, length, slice_index, Option, Some}
+use Rattle.std.specs.Prelude.{◌≡◌, ◌≢◌, ◌⊎◌, ℕ, ◌+◌, ◌^◌, ◌≤◌, true, false}
+use Rattle.std.specs.Prelude.{List, [], ◌∷◌, length, slice_index, Option, Some}
 use mathlib.Core.Option.{none, some}
 use lib.ListN.{get_elem?}
 use Rattle.atomic_table.specs.Table.{State}

@@ -1,6 +1,7 @@
 //! The words of a lock, and what is done on them.
 ghost use Rattle.std.specs.Prelude.{◌≡◌, ◌≢◌, ◌≤◌, false, length, MatchBool};
-ghost use Rattle.bosh_lock.specs.Gates.{Entered, IsGateOf, Watched};
+ghost use Rattle.bosh_lock.specs.Gates.{IsGateOf};
+ghost use Rattle.bosh_lock.specs.Steps.{Enters, Sees};
 
 use crate::chronicle::Chronicle;
 use crate::rule::{Growth, View};
@@ -40,7 +41,7 @@ fn try_take<S: Chronicle>(gate: &Gate<S>, seat: &mut Place<S>) -> bool
     requires gate { IsGateOf gate.now.table_id seat.old.table_id }
     requires share { 1 ≤ seat.old.me.0.share }
     ensures gate { seat.new.table_id ≡ seat.old.table_id }
-    ensures entered { MatchBool result (Entered S.items seat.old.me seat.new.me) (seat.new.me ≡ seat.old.me) }
+    ensures enters { MatchBool result (Enters S.items seat.old.me seat.new.me) (seat.new.me ≡ seat.old.me) }
 {
     gate.compare_exchange::<Take>(seat, DOOR, FREE, OUT) == FREE
 }
@@ -62,7 +63,7 @@ fn take_in_turn<S: Chronicle, R: Wait>(rt: &R, gate: &Gate<S>, seat: &mut Place<
     requires gate { IsGateOf gate.now.table_id seat.old.table_id }
     requires share { 1 ≤ seat.old.me.0.share }
     ensures gate { seat.new.table_id ≡ seat.old.table_id }
-    ensures entered { Entered S.items seat.old.me seat.new.me }
+    ensures enters { Enters S.items seat.old.me seat.new.me }
 {
     for _ in rt.forever() {
         if gate.swap::<Take>(seat, DOOR, AWAITED) == FREE {
@@ -79,7 +80,7 @@ pub(crate) fn take<S: Chronicle, R: Wait>(rt: &R, gate: &Gate<S>, seat: &mut Pla
     requires gate { IsGateOf gate.now.table_id seat.old.table_id }
     requires share { 1 ≤ seat.old.me.0.share }
     ensures gate { seat.new.table_id ≡ seat.old.table_id }
-    ensures entered { Entered S.items seat.old.me seat.new.me }
+    ensures enters { Enters S.items seat.old.me seat.new.me }
 {
     if try_take(gate, seat) {
         return;
@@ -101,7 +102,7 @@ pub(crate) fn watch<S: Chronicle, R: Wait>(
     requires gate { IsGateOf gate.now.table_id seat.old.table_id }
     requires idle { seat.old.me.0.holds ≡ false }
     ensures gate { seat.new.table_id ≡ seat.old.table_id }
-    ensures watched { Watched seat.old.me seat.new.me }
+    ensures sees { Sees seat.old.me seat.new.me }
     ensures reached { (result ≡ length seat.new.me.0.seen) × (result ≢ reached) }
 {
     for _ in rt.forever() {

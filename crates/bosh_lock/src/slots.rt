@@ -24,7 +24,9 @@ pub(crate) fn value_of<S>(slots: Vec<Option<S>>) -> S
     ensures { slots.items ≡ Some result ∷ [] }
 {
     let mut slots = slots;
-    let Some(slot) = slots.pop() else { unreachable!() };
+    let Some(slot) = slots.pop() else {
+        unreachable!()
+    };
     slots.destroy_empty();
     let Some(value) = slot else { unreachable!() };
     value

@@ -1,5 +1,6 @@
 //! What each step on the table of a lock tells.
-ghost use Rattle.bosh_lock.specs.Steps.{Counts, Gives, Looks, Stays, Takes, Weighs, both_views, given_half, kept_half, spent_view};
+ghost use Rattle.bosh_lock.specs.Steps.{Counts, Gives, Looks, Stays, Takes, Weighs};
+ghost use Rattle.bosh_lock.specs.Steps.{both_views, given_half, kept_half, spent_view};
 
 use crate::chronicle::Chronicle;
 use crate::rule::View;

@@ -69,7 +69,11 @@ fn report<R: Threads + Wait + Sync + Print>(
         return Ok(false);
     };
     let is_right = is_in_order(marks.all(), plan);
-    let told = if is_right { "each once and in its order" } else { "not in order" };
+    let told = if is_right {
+        "each once and in its order"
+    } else {
+        "not in order"
+    };
     println!(rt; "{threads} threads: {} notes, {told}", marks.all().len())?;
     Ok(is_right)
 }

@@ -12,5 +12,5 @@ unreachable-requires g c =
 pub returns : goal.returns
 returns g c =
     let end = ends_with g.S.Chronicle.items _ _ _ _ _ c.in-Some.value (search rules) (search rules) c.close_with-closed.ensures.values.2
-          c.take-slot.ensures.value c.in-Some.is in
+    c.take-slot.ensures.value c.in-Some.is in
     subst (λ (seen : List g.row.S-Item.Denot). Extends seen (g.S.Chronicle.items c.in-Some.value)) (ap (λ (p : PassView g.row.S-Item.Denot). p.seen) c.pass.view_is) end
