@@ -1,6 +1,6 @@
 //! Times how long it takes to enter and to leave, in one thread alone or in two beside each other. The words are `lock`
 //! or `mutex`, of the standard library, `alone` or `beside`, and how often each thread does. The time is printed in
-//! microseconds. Without words it does nothing.
+//! microseconds. With other words, or none, it does nothing.
 #![tactic(auto)]
 
 mod quiet;
@@ -10,6 +10,7 @@ use crate::quiet::Quiet;
 use crate::rounds::{lock_alone, lock_beside, mutex_alone, mutex_beside};
 use bosh_lock::SiteLock;
 use std::alloc::Global;
+use std::env::Args;
 use std::process::ExitCode;
 use std::rt::Clock;
 use std::sync::{Mutex, Wait};
@@ -29,6 +30,14 @@ enum Door {
 enum Crowd {
     Alone,
     Beside,
+}
+
+/// What is done.
+#[derive(Clone, Copy)]
+struct Work {
+    door: Door,
+    crowd: Crowd,
+    times: u64,
 }
 
 fn door_of(word: &str) -> Option<Door> {
@@ -74,15 +83,13 @@ fn enter_mutex<R: Threads + Wait + Sync>(rt: &R, crowd: Crowd, times: u64) {
 fn time_of<R: Threads + Wait + Sync + Clock>(
     rt: &R,
     alloc: Global,
-    door: Door,
-    crowd: Crowd,
-    times: u64,
+    work: Work,
 ) -> Option<Duration> {
     let start = Instant::now(rt).ok()?;
-    let is_done = match door {
-        Door::Lock => enter_lock(rt, alloc, crowd, times),
+    let is_done = match work.door {
+        Door::Lock => enter_lock(rt, alloc, work.crowd, work.times),
         Door::Mutex => {
-            enter_mutex(rt, crowd, times);
+            enter_mutex(rt, work.crowd, work.times);
             true
         }
     };
@@ -90,24 +97,46 @@ fn time_of<R: Threads + Wait + Sync + Clock>(
     if is_done { Some(took) } else { None }
 }
 
+fn next_door(words: &mut Args) -> Option<Door> {
+    match words.next() {
+        Some(word) => door_of(word.as_str()),
+        None => None,
+    }
+}
+
+fn next_crowd(words: &mut Args) -> Option<Crowd> {
+    match words.next() {
+        Some(word) => crowd_of(word.as_str()),
+        None => None,
+    }
+}
+
+fn next_times(words: &mut Args) -> Option<u64> {
+    match words.next() {
+        Some(word) => word.as_str().parse::<u64>().ok(),
+        None => None,
+    }
+}
+
+/// The work that the words of the program name, after its own name.
+fn work_of(words: &mut Args) -> Option<Work> {
+    let _program = words.next();
+    let door = next_door(words)?;
+    let crowd = next_crowd(words)?;
+    let times = next_times(words)?;
+    Some(Work { door, crowd, times })
+}
+
 fn main(rt: HostRuntime) -> io::Result<ExitCode> {
     let mut words = env::args(&rt)?;
-    let _program = words.next();
-    let (Some(door), Some(crowd), Some(times)) = (words.next(), words.next(), words.next()) else {
+    let work = work_of(&mut words);
+    drop(words);
+    let Some(work) = work else {
         return Ok(ExitCode::SUCCESS);
     };
-    let (Some(door), Some(crowd), Ok(times)) = (
-        door_of(door.as_str()),
-        crowd_of(crowd.as_str()),
-        times.as_str().parse::<u64>(),
-    ) else {
+    let Some(took) = time_of(&rt, rt.alloc(), work) else {
         return Ok(ExitCode::FAILURE);
     };
-    match time_of(&rt, rt.alloc(), door, crowd, times) {
-        Some(took) => {
-            println!(rt; "{}", took.as_micros())?;
-            Ok(ExitCode::SUCCESS)
-        }
-        None => Ok(ExitCode::FAILURE),
-    }
+    println!(rt; "{}", took.as_micros())?;
+    Ok(ExitCode::SUCCESS)
 }

@@ -40,6 +40,23 @@ fn crowd_of<R: Threads + Wait + Sync>(
     }
 }
 
+/// What came of a crowd.
+#[derive(Clone, Copy)]
+struct Outcome {
+    notes: usize,
+    is_right: bool,
+}
+
+impl Outcome {
+    fn told(self) -> &'static str {
+        if self.is_right {
+            "each once and in its order"
+        } else {
+            "not in order"
+        }
+    }
+}
+
 /// What a crowd leaves, or nothing for want of memory.
 fn marks_of<R: Threads + Wait + Sync>(rt: &R, alloc: Global, plan: Plan) -> Option<Marks> {
     let marks = Marks::with_room(alloc, plan.all()).ok()?;
@@ -55,6 +72,14 @@ fn marks_of<R: Threads + Wait + Sync>(rt: &R, alloc: Global, plan: Plan) -> Opti
     }
 }
 
+fn outcome_of<R: Threads + Wait + Sync>(rt: &R, alloc: Global, plan: Plan) -> Option<Outcome> {
+    let marks = marks_of(rt, alloc, plan)?;
+    Some(Outcome {
+        notes: marks.all().len(),
+        is_right: is_in_order(marks.all(), plan),
+    })
+}
+
 fn report<R: Threads + Wait + Sync + Print>(
     rt: &R,
     alloc: Global,
@@ -64,17 +89,12 @@ fn report<R: Threads + Wait + Sync + Print>(
         threads,
         times: TIMES,
     };
-    let Some(marks) = marks_of(rt, alloc, plan) else {
+    let Some(outcome) = outcome_of(rt, alloc, plan) else {
         println!(rt; "{threads} threads: no memory")?;
         return Ok(false);
     };
-    let is_right = is_in_order(marks.all(), plan);
-    let told = if is_right {
-        "each once and in its order"
-    } else {
-        "not in order"
-    };
-    println!(rt; "{threads} threads: {} notes, {told}", marks.all().len())?;
+    let Outcome { notes, is_right } = outcome;
+    println!(rt; "{threads} threads: {notes} notes, {}", outcome.told())?;
     Ok(is_right)
 }
 
