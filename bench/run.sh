@@ -6,7 +6,8 @@
 # body of a large entry is written and read, beside a plain copy of its bytes; and how long it takes to collect releases
 # of 64, 128 and 256 packages, each of which needs all before it. And how long it takes to check cloud configs of 8 and 16
 # networks, and to assign 512 addresses of which none, 16,384 and 32,768 are held. And how long ten calls take on each of
-# 5,000 and 10,000 machines of a cloud, and a load of what they leave. Each time is the least of five runs; only the ratios within one run
+# 5,000 and 10,000 machines of a cloud, and a load of what they leave; and to enter a lock and leave it 1,000,000 times, in
+# one thread alone and in each of two, beside a mutex. Each time is the least of five runs; only the ratios within one run
 # say something.
 set -u
 here=$(cd "$(dirname "$0")" && pwd)
@@ -18,6 +19,7 @@ codec=$top/crates/bosh_entry_bench/out/bosh_entry_bench
 releases=$top/crates/bosh_release_bench/out/bosh_release_bench
 config=$top/crates/bosh_config_bench/out/bosh_config_bench
 cloud=$top/crates/bosh_cloud_bench/out/bosh_cloud_bench
+lock=$top/crates/bosh_lock_bench/out/bosh_lock_bench
 folder=$(mktemp -d)
 trap 'rm -rf "$folder"' EXIT
 
@@ -122,6 +124,15 @@ speeds() {
         { printf "%-6s of an entry %10.1f MiB/s  %8.2f times a copy\n", $1, $2 / 1.048576 / time, time / copied }'
 }
 
+# How long it takes to enter a lock and leave it so many thousand times, beside a mutex of the standard library.
+doors() {
+    local crowd
+    for crowd in alone beside; do
+        line "$1" "thousand times in and out, $crowd" "$(least_told "$lock" lock "$crowd" "${1}000")" \
+            "$(least_told "$lock" mutex "$crowd" "${1}000")" "a mutex's"
+    done
+}
+
 table machines machines 16 64 256
 table "MiB of comment lines" comments 1 4 8
 table_of "$levels" chain "works, each on the one before" "the first" 64 128 256
@@ -141,3 +152,4 @@ table_of "$config" assign "held, 512 addresses assigned" "the first" 0
 table_of "$config" assign "held, 512 addresses assigned" "the first" 16384 32768
 table_of "$cloud" calls "machines with ten calls each" "the first" 5000 10000
 table_of "$cloud" load "machines with ten calls, loaded" "the first" 5000 10000
+doors 1000

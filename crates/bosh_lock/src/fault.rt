@@ -1,0 +1,5 @@
+/// Why there is no lock.
+#[derive(Clone, Copy, Debug, PartialEq, Eq)]
+pub enum LockFault {
+    Memory,
+}
