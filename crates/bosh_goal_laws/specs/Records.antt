@@ -2,7 +2,6 @@
 use Rattle.std.specs.Prelude.{◌≡◌, ℕ, true, Some, List}
 use Rattle.std.specs.List.{list_all}
 use Rattle.bosh_base.specs.declared.goal.Goal.{Goal}
-use Rattle.bosh_base.specs.declared.inst.Inst.{Inst}
 use Rattle.bosh_history.specs.Held.{view}
 use Rattle.bosh_history.specs.Known.{Known}
 use Rattle.bosh_history.specs.Sound.{has_offers, is_tie_kept}
