@@ -1,7 +1,8 @@
--- A goal that is made anew of the current one is sound over the records, but for the order of its keys.
-use Rattle.std.proofs.Common.{◌≡◌, ◌∙◌, ℕ, Bool, true, false, ◌&&◌, ◌||◌, ◌==◌, not, cond, nat_le, List, [], ◌∷◌, ◌++◌, Some, Ok, map, ap, refl, sym, subst, arith}
+-- A goal that is made anew of the current one is sound over the records.
+use Rattle.std.proofs.Common.{◌≡◌, ◌∙◌, ℕ, Bool, true, false, true≢false, ◌&&◌, ◌||◌, ◌==◌, not, cond, nat_le, List, [], ◌∷◌, ◌++◌, Option, Some, None, Ok, map, ap, refl, sym, subst, arith}
 use Rattle.std.specs.Cmp.Lexicographic.{pointwise}
 use Rattle.std.specs.List.{AllByRecursion, Contains, list_all, list_any}
+use Rattle.std.specs.Option.{is_some}
 use Rattle.std.specs.Str.{bytes_eq}
 use Rattle.std.proofs.lemmas.Bool.{and_from, eq-eqb, le-leb, not-true, or_right}
 use Rattle.bosh_base.specs.declared.goal.Goal.{Goal}
@@ -11,28 +12,32 @@ use Rattle.bosh_base.specs.declared.inst.Inst.{Inst}
 use Rattle.bosh_base.specs.declared.link.Tie.{Tie}
 use Rattle.bosh_base.specs.declared.offer.Offer.{Offer}
 use Rattle.bosh_base.specs.declared.owner.Owner.TheVariants.{Instance}
+use Rattle.bosh_base.specs.declared.task.TaskKind.{TaskKind}
+use Rattle.bosh_base.specs.declared.task.TaskKind.TheVariants.{CleanUp, DeleteDeployment, DeleteDisk, Deploy, Fix, Recreate, Resolve, Start, Stop}
 use Rattle.bosh_base.specs.declared.view.View.{View}
 use Rattle.bosh_cloudcfg.specs.declared.config.Config.{Config}
 use Rattle.bosh_goal.specs.Anew.{anew, changed, is_row_of, row_anew}
 use Rattle.bosh_goal.specs.declared.change.Change.{Change}
 use Rattle.bosh_goal.specs.declared.change.Change.TheVariants.{Fresh, To, Same}
-use Rattle.bosh_history.specs.Goals.{inst_of, is_in}
+use Rattle.bosh_history.specs.Goals.{inst_of, is_in, named}
 use Rattle.bosh_history.specs.Held.{held_elsewhere, of_make, same_bytes_joint, view}
+use Rattle.bosh_history.specs.Keys.{are_left}
 use Rattle.bosh_history.specs.Known.{Known}
-use Rattle.bosh_history.specs.Sound.{addrs, are_rows_kept, has_addr, has_no_address, has_plan, is_held, is_renewed, is_tie_kept, row_addrs, same_offer, same_plan, slot_addrs}
+use Rattle.bosh_history.specs.Slots.{is_compiled}
+use Rattle.bosh_history.specs.Sound.{addrs, are_rows_kept, has_addr, has_addresses, has_instances, has_no_address, has_offers, has_plan, has_slots, is_held, is_renewed, is_sound_goal, is_tie_kept, row_addrs, same_offer, same_plan, slot_addrs}
 use Rattle.bosh_history.specs.Words.{are_distinct}
 use Rattle.bosh_pool.proofs.ListLemmas.{recursion_from_contains}
 use Rattle.bosh_rows.specs.Disks.{is_detached}
 use Rattle.bosh_rows.specs.Same.{same_inst, same_tie}
 use Rattle.bosh_goal_laws.specs.Free.{HasFreeAddresses}
-use Rattle.bosh_goal_laws.specs.Records.{IsCurrent, IsSoundAnew}
+use Rattle.bosh_goal_laws.specs.Records.{IsCurrent}
 use Rattle.bosh_goal_laws.specs.Renewed.{HasKeysLeft, IsRenewed, is_cleared, is_cleared_for}
 use Rattle.bosh_goal_laws.specs.Rows.{HasSoundRows}
 use Rattle.bosh_goal_laws.proofs.AnewLemmas.{IsAnew, anew-inst, is-anew, is-renewed}
 use Rattle.bosh_goal_laws.proofs.ClearedLemmas.{is-cleared-for}
 use Rattle.bosh_goal_laws.proofs.LeftLemmas.{has-keys-left}
 use Rattle.bosh_goal_laws.proofs.ListLemmas.{all_at, all_front, all_map, all_mapped, all_pass, none_pass, passes}
-use Rattle.bosh_goal_laws.proofs.RecordLemmas.{Elsewhere, addresses-sound, all-both, all-unflat, all-where, instances-sound, of-rows, other-row}
+use Rattle.bosh_goal_laws.proofs.RecordLemmas.{Elsewhere, addresses-sound, all-both, all-unflat, all-where, instances-sound, keys-left-sound, of-rows, other-row}
 use Rattle.bosh_goal_laws.proofs.RenewalLemmas.{renewed-addresses-free}
 use Rattle.bosh_goal_laws.proofs.SameLemmas.{bytes-same, inst-is}
 use Rattle.bosh_goal_laws.proofs.TieLemmas.{joint-self}
@@ -152,10 +157,35 @@ module _ (k : Known) (it : Goal) (recorded : list_all (λ i. same_inst (k.row i)
 
 -- ---- all
 
+-- a task of one instance asks the same, whatever it is to do
+for-each-kind : (k : Known) (kind : TaskKind) (inst : Inst) (it : Goal) → named kind ≡ Some inst → is_sound_goal k (Recreate inst) it ≡ true → is_sound_goal k kind it ≡ true
+for-each-kind k kind inst it names sound = by kind names
+  where
+    inst_in : Option Inst → Inst
+    inst_in (Some i) = i
+    inst_in None = inst
+
+    as_named : (i : Inst) → Some i ≡ Some inst → inst ≡ i
+    as_named i e = sym (ap inst_in e)
+
+    none : None ≡ Some inst → (kind : TaskKind) → is_sound_goal k kind it ≡ true
+    none e kind = absurd (true≢false (sym (ap is_some e)))
+
+    by : (kind : TaskKind) → named kind ≡ Some inst → is_sound_goal k kind it ≡ true
+    by (Recreate i) e = subst (λ j. is_sound_goal k (Recreate j) it ≡ true) (as_named i e) sound
+    by (Start i) e = subst (λ j. is_sound_goal k (Start j) it ≡ true) (as_named i e) sound
+    by (Stop i) e = subst (λ j. is_sound_goal k (Stop j) it ≡ true) (as_named i e) sound
+    by (Resolve i) e = subst (λ j. is_sound_goal k (Resolve j) it ≡ true) (as_named i e) sound
+    by Deploy e = none e Deploy
+    by DeleteDeployment e = none e DeleteDeployment
+    by (DeleteDisk d) e = none e (DeleteDisk d)
+    by CleanUp e = none e CleanUp
+    by Fix e = none e Fix
+
 pub is-sound-anew :
-    (k : Known) (inst : Inst) (change : Change) (config : Config) (goal it : Goal) → IsCurrent k goal → is_in (Some goal) inst ≡ true
-    → anew inst change (Some config) (view k goal.dep) goal ≡ Ok it → IsSoundAnew k inst it
-is-sound-anew k inst change config goal it now inside told =
+    (k : Known) (kind : TaskKind) (inst : Inst) (change : Change) (config : Config) (goal it : Goal) → named kind ≡ Some inst → IsCurrent k goal → is_in (Some goal) inst ≡ true
+    → anew inst change (Some config) (view k goal.dep) goal ≡ Ok it → is_sound_goal k kind it ≡ true
+is-sound-anew k kind inst change config goal it names now inside told =
     let seen : View = view k goal.dep in
     let made : IsAnew inst change config seen goal it = is-anew inst change config seen goal it told in
     let kept : IsRenewed inst seen goal it = is-renewed inst change config seen goal it told in
@@ -165,17 +195,20 @@ is-sound-anew k inst change config goal it now inside told =
     subst (λ dep. HasFreeAddresses (view k dep) it) dep_is (renewed-addresses-free inst change config seen goal it now.is now.addresses told) in
     let cleared : is_cleared_for (view k it.dep).rows it inst ≡ true =
     ap (λ dep. is_cleared_for (view k dep).rows it inst) (sym dep_is) ∙ is-cleared-for inst change config seen goal it now.rows.distinct told in
-    record {
-      instances = instances-sound k it rows;
-      addresses = addresses-sound k it now.recorded rows.of_the_deployment free;
-      keys = subst (λ dep. HasKeysLeft (view k dep).compiled it) dep_is (has-keys-left inst change config seen goal it now.keys told);
-      ties = subst (λ (g : Goal). list_all (is_tie_kept k g) g.ties ≡ true) (sym made.is) now.ties;
-      renewed =
-          ap (λ dep. is_renewed k it inst (k.goal dep)) (sym dep_is) ∙ (ap (is_renewed k it inst) now.is
-          ∙ and_from (is_in (Some goal) inst) _ inside
-          (and_from (are_rows_kept inst it.rows goal.rows) _ kept.rows
-          (and_from (pointwise same_plan it.groups goal.groups) _ (ap (λ plans. pointwise same_plan plans goal.groups) kept.plans ∙ pointwise-self same_plan plan-self goal.groups)
-          (and_from (pointwise same_tie it.ties goal.ties) _ (ap (λ ties. pointwise same_tie ties goal.ties) kept.ties ∙ pointwise-self same_tie tie-self goal.ties)
-          (and_from (pointwise same_offer it.offers goal.offers) _ (ap (λ offers. pointwise same_offer offers goal.offers) kept.offers ∙ pointwise-self same_offer offer-self goal.offers)
-          (named-row k it now.recorded rows.of_the_deployment free.untaken inst cleared))))));
-    }
+    let keys : (are_left (is_compiled k) it.keys && has_slots it) ≡ true =
+    keys-left-sound k it (subst (λ dep. HasKeysLeft (view k dep).compiled it) dep_is (has-keys-left inst change config seen goal it now.keys told)) in
+    let ties : list_all (is_tie_kept k it) it.ties ≡ true = subst (λ (g : Goal). list_all (is_tie_kept k g) g.ties ≡ true) (sym made.is) now.ties in
+    let offers : has_offers it ≡ true = subst (λ (g : Goal). has_offers g ≡ true) (sym made.is) now.offers in
+    let renewed : is_renewed k it inst (k.goal it.dep) ≡ true =
+    ap (λ dep. is_renewed k it inst (k.goal dep)) (sym dep_is) ∙ (ap (is_renewed k it inst) now.is
+    ∙ and_from (is_in (Some goal) inst) _ inside
+    (and_from (are_rows_kept inst it.rows goal.rows) _ kept.rows
+    (and_from (pointwise same_plan it.groups goal.groups) _ (ap (λ plans. pointwise same_plan plans goal.groups) kept.plans ∙ pointwise-self same_plan plan-self goal.groups)
+    (and_from (pointwise same_tie it.ties goal.ties) _ (ap (λ ties. pointwise same_tie ties goal.ties) kept.ties ∙ pointwise-self same_tie tie-self goal.ties)
+    (and_from (pointwise same_offer it.offers goal.offers) _ (ap (λ offers. pointwise same_offer offers goal.offers) kept.offers ∙ pointwise-self same_offer offer-self goal.offers)
+    (named-row k it now.recorded rows.of_the_deployment free.untaken inst cleared)))))) in
+    for-each-kind k kind inst it names
+    (and_from (has_instances k it) _ (instances-sound k it rows)
+    (and_from (has_addresses k it) _ (addresses-sound k it now.recorded rows.of_the_deployment free)
+    (and_from (are_left (is_compiled k) it.keys && has_slots it) _ keys
+    (and_from (list_all (is_tie_kept k it) it.ties) _ ties (and_from (has_offers it) (is_renewed k it inst (k.goal it.dep)) offers renewed)))))

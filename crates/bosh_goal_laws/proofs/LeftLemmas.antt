@@ -13,8 +13,8 @@ use Rattle.bosh_compile.specs.Readiness.{is_among, same_key}
 use Rattle.bosh_compile.proofs.KeyLemmas.{same_key_decides}
 use Rattle.bosh_goal.specs.Anew.{anew, is_left}
 use Rattle.bosh_goal.specs.declared.change.Change.{Change}
-use Rattle.bosh_history.specs.Keys.{Leveled, are_after, are_in_order, comes_after, is_listed, leveled}
-use Rattle.bosh_goal_laws.specs.Keys.{CanBeCompiled, stand_after_needs}
+use Rattle.bosh_history.specs.Keys.{Leveled, are_after, are_in_order, comes_after, is_listed, leveled, stand_after_needs}
+use Rattle.bosh_goal_laws.specs.Keys.{CanBeCompiled}
 use Rattle.bosh_goal_laws.specs.Renewed.{HasKeysLeft}
 use Rattle.bosh_goal_laws.proofs.AnewLemmas.{IsAnew, is-anew}
 use Rattle.bosh_goal_laws.proofs.KeyLemmas.{slotted}

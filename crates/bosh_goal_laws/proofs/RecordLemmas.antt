@@ -28,12 +28,12 @@ use Rattle.bosh_compile.specs.Readiness as readiness
 use Rattle.bosh_goal.specs.Goal.{IsGoal}
 use Rattle.bosh_history.specs.Goals.{inst_of, is_in}
 use Rattle.bosh_history.specs.Held.{held, held_by_goals, held_by_machines, held_by_rows, held_by_slots, held_elsewhere, is_offered, known_offers, of_make, offers_in, same_bytes_joint, view}
-use Rattle.bosh_history.specs.Keys.{are_in_order}
+use Rattle.bosh_history.specs.Keys.{are_in_order, are_left}
 use Rattle.bosh_history.specs.Known.{Known}
 use Rattle.bosh_history.specs.Moments.{dep_of}
 use Rattle.bosh_history.specs.Slots.{is_compiled}
 use Rattle.bosh_history.specs.Sound as sound
-use Rattle.bosh_history.specs.Sound.{addrs, has_addr, has_addresses, has_instances, has_keys, has_plan, is_held, is_row_of, is_sound_goal, is_tie_kept, is_wanted, row_addrs, slot_addrs}
+use Rattle.bosh_history.specs.Sound.{addrs, has_addr, has_addresses, has_instances, has_offers, has_plan, has_slots, is_held, is_row_of, is_sound_goal, is_tie_kept, is_wanted, row_addrs, slot_addrs}
 use Rattle.bosh_history.specs.Words.{are_distinct}
 use Rattle.bosh_manifest.specs.Sound.{IsSound}
 use Rattle.bosh_manifest.specs.declared.manifest.Contents.{Contents}
@@ -43,6 +43,7 @@ use Rattle.bosh_goal_laws.specs.Free.{HasFreeAddresses, another_keeps, is_own}
 use Rattle.bosh_goal_laws.specs.Free as free
 use Rattle.bosh_goal_laws.specs.Keys.{HasSoundKeys}
 use Rattle.bosh_goal_laws.specs.Records.{AreOrderly}
+use Rattle.bosh_goal_laws.specs.Renewed.{HasKeysLeft}
 use Rattle.bosh_goal_laws.specs.Rows.{HasSoundRows}
 use Rattle.bosh_goal_laws.specs.Ties.{AreTiesOffered, is_tie_offered, offers_it}
 use Rattle.bosh_goal_laws.proofs.FreeLemmas.{has-free-addresses}
@@ -51,7 +52,7 @@ use Rattle.bosh_goal_laws.proofs.ListLemmas.{all_at, all_back, all_front, all_ma
 use Rattle.bosh_goal_laws.proofs.PartLemmas.{is-made}
 use Rattle.bosh_goal_laws.proofs.PlanLemmas.{has-sound-rows}
 use Rattle.bosh_goal_laws.proofs.SameLemmas.{inst-is}
-use Rattle.bosh_goal_laws.proofs.TieLemmas.{has-ties-offered}
+use Rattle.bosh_goal_laws.proofs.TieLemmas.{has-own-offers, has-ties-offered}
 
 -- ---- lists
 
@@ -228,10 +229,18 @@ instances-sound k goal it =
     (λ want plan fresh. and_from (has_plan goal want) (nat_le want.fresh_after k.last_call) plan fresh)
     (passes (has_plan goal) goal.rows it.planned) (passes (λ want. nat_le want.fresh_after k.last_call) goal.rows it.fresh))))
 
-pub keys-sound : (k : Known) (goal : Goal) → HasSoundKeys (view k goal.dep).compiled goal → has_keys k goal ≡ true
+compiled-are : (k : Known) → (λ (key : Key). readiness.is_among key (map (λ built. built.key) k.built)) ≡ is_compiled k
+compiled-are k = λ i key. any_map (λ each. same_key each key) (λ built. built.key) k.built i
+
+pub keys-sound : (k : Known) (goal : Goal) → HasSoundKeys (view k goal.dep).compiled goal → (are_in_order (is_compiled k) goal.keys && has_slots goal) ≡ true
 keys-sound k goal it =
-    let compiled : (λ (key : Key). readiness.is_among key (map (λ built. built.key) k.built)) ≡ is_compiled k = λ i key. any_map (λ each. same_key each key) (λ built. built.key) k.built i in
-    and_from (are_in_order (is_compiled k) goal.keys) _ (sym (ap (λ test. are_in_order test goal.keys) compiled) ∙ it.ordered) it.slotted
+    and_from (are_in_order (is_compiled k) goal.keys) (has_slots goal) (sym (ap (λ test. are_in_order test goal.keys) (compiled-are k)) ∙ it.ordered) it.slotted
+
+pub keys-left-sound : (k : Known) (goal : Goal) → HasKeysLeft (view k goal.dep).compiled goal → (are_left (is_compiled k) goal.keys && has_slots goal) ≡ true
+keys-left-sound k goal it =
+    and_from (are_left (is_compiled k) goal.keys) (has_slots goal)
+    (sym (ap (λ test. are_left test goal.keys) (compiled-are k)) ∙ and_from (list_all (λ work. not (readiness.is_among work.key (view k goal.dep).compiled)) goal.keys) _ it.uncompiled it.can_be_compiled)
+    it.slotted
 
 -- ---- ties
 
@@ -300,9 +309,13 @@ is-sound manifest config releases stemcells k recreate it checked apart orderly 
     let free_ : HasFreeAddresses (view k it.dep) it =
     subst (λ dep. HasFreeAddresses (view k dep) it) dep_is (has-free-addresses manifest config releases stemcells seen recreate it checked apart orderly.addresses told) in
     let addresses : has_addresses k it ≡ true = addresses-sound k it orderly.rows planned.of_the_deployment free_ in
-    let keys : has_keys k it ≡ true = keys-sound k it (has-sound-keys manifest config releases stemcells seen recreate it told) in
+    let keys : (are_in_order (is_compiled k) it.keys && has_slots it) ≡ true = keys-sound k it (has-sound-keys manifest config releases stemcells seen recreate it told) in
     let ties : list_all (is_tie_kept k it) it.ties ≡ true =
     ties-sound k it (subst (λ dep. AreTiesOffered (view k dep).known it.dep it.ties) dep_is (has-ties-offered manifest config releases stemcells seen recreate it orderly.offers told)) in
-    let all : (kept : Bool) → kept ≡ true → (has_instances k it && (has_addresses k it && (has_keys k it && (list_all (is_tie_kept k it) it.ties && kept)))) ≡ true =
-    λ kept h. and_from (has_instances k it) _ instances (and_from (has_addresses k it) _ addresses (and_from (has_keys k it) _ keys (and_from (list_all (is_tie_kept k it) it.ties) kept ties h))) in
-    (all true refl, all true refl)
+    let offers : has_offers it ≡ true = has-own-offers manifest config releases stemcells seen recreate it told in
+    let all : (has_instances k it && (has_addresses k it && ((are_in_order (is_compiled k) it.keys && has_slots it) && (list_all (is_tie_kept k it) it.ties && (has_offers it && true))))) ≡ true =
+    and_from (has_instances k it) _ instances
+    (and_from (has_addresses k it) _ addresses
+    (and_from (are_in_order (is_compiled k) it.keys && has_slots it) _ keys
+    (and_from (list_all (is_tie_kept k it) it.ties) _ ties (and_from (has_offers it) true offers refl)))) in
+    (all, all)

@@ -2,14 +2,13 @@
 use Rattle.std.specs.Prelude.{◌≡◌, ℕ, true, Some, List}
 use Rattle.std.specs.List.{list_all}
 use Rattle.bosh_base.specs.declared.goal.Goal.{Goal}
-use Rattle.bosh_base.specs.declared.inst.Inst.{Inst}
 use Rattle.bosh_history.specs.Held.{view}
 use Rattle.bosh_history.specs.Known.{Known}
-use Rattle.bosh_history.specs.Sound.{has_addresses, has_instances, is_renewed, is_tie_kept}
+use Rattle.bosh_history.specs.Sound.{has_offers, is_tie_kept}
 use Rattle.bosh_rows.specs.Same.{same_inst}
 use Rattle.bosh_goal_laws.specs.Free.{HoldOnce}
 use Rattle.bosh_goal_laws.specs.Keys.{CanBeCompiled}
-use Rattle.bosh_goal_laws.specs.Renewed.{HasFreeRows, HasKeysLeft}
+use Rattle.bosh_goal_laws.specs.Renewed.{HasFreeRows}
 use Rattle.bosh_goal_laws.specs.Rows.{HasSoundRows}
 use Rattle.bosh_goal_laws.specs.Ties.{OffersAreOwn}
 
@@ -21,7 +20,7 @@ pub record AreOrderly (k : Known) (dep : List ℕ) : Type 0 where
   pub offers : OffersAreOwn (view k dep).known
 
 -- The current goal of its deployment: its rows are sound and their addresses free, its keys can be compiled one after
--- another, and its ties are kept.
+-- another, its ties are kept, and the links that it offers are its own.
 pub record IsCurrent (k : Known) (goal : Goal) : Type 0 where
   pub recorded : list_all (λ i. same_inst (k.row i).inst i) k.instances ≡ true
   pub is : k.goal goal.dep ≡ Some goal
@@ -29,12 +28,4 @@ pub record IsCurrent (k : Known) (goal : Goal) : Type 0 where
   pub addresses : HasFreeRows (view k goal.dep) goal
   pub keys : CanBeCompiled (view k goal.dep).compiled goal.keys
   pub ties : list_all (is_tie_kept k goal) goal.ties ≡ true
-
--- A goal that is made anew of the current one has what a task of that instance asks of it; its keys can be compiled,
--- but need not stand in the order of compilation.
-pub record IsSoundAnew (k : Known) (inst : Inst) (it : Goal) : Type 0 where
-  pub instances : has_instances k it ≡ true
-  pub addresses : has_addresses k it ≡ true
-  pub keys : HasKeysLeft (view k it.dep).compiled it
-  pub ties : list_all (is_tie_kept k it) it.ties ≡ true
-  pub renewed : is_renewed k it inst (k.goal it.dep) ≡ true
+  pub offers : has_offers goal ≡ true

@@ -1,5 +1,5 @@
 -- What a goal has of the current one that it is made anew of, for a task of one instance (this project's profile).
-use Rattle.std.specs.Prelude.{◌≡◌, Bool, true, eqb, nat_le, not, ◌||◌, Some, List, filter, length}
+use Rattle.std.specs.Prelude.{◌≡◌, Bool, true, eqb, not, ◌||◌, Some, List, filter}
 use Rattle.std.specs.List.{list_all, list_any}
 use Rattle.bosh_base.specs.declared.goal.Goal.{Goal}
 use Rattle.bosh_base.specs.declared.goal.GoalRow.{GoalRow}
@@ -10,7 +10,7 @@ use Rattle.bosh_base.specs.declared.view.View.{View}
 use Rattle.bosh_compile.specs.Readiness.{is_among}
 use Rattle.bosh_goal.specs.Anew.{is_left}
 use Rattle.bosh_history.specs.Goals.{is_in}
-use Rattle.bosh_history.specs.Sound.{addrs, are_rows_kept, has_addr, is_held, row_addrs}
+use Rattle.bosh_history.specs.Sound.{addrs, are_rows_kept, has_addr, has_slots, is_held, row_addrs}
 use Rattle.bosh_history.specs.Words.{are_distinct}
 use Rattle.bosh_rows.specs.Disks.{is_detached}
 use Rattle.bosh_rows.specs.Same.{same_inst}
@@ -50,4 +50,4 @@ pub record HasFreeRows (view : View) (goal : Goal) : Type 0 where
 pub record HasKeysLeft (compiled : List Key) (it : Goal) : Type 0 where
   pub uncompiled : list_all (λ work. not (is_among work.key compiled)) it.keys ≡ true
   pub can_be_compiled : CanBeCompiled compiled it.keys
-  pub slotted : (nat_le (length it.keys) 0 || nat_le 1 (length it.slots)) ≡ true
+  pub slotted : has_slots it ≡ true

@@ -6,11 +6,9 @@ use Rattle.bosh_base.specs.declared.link.Tie.{Tie}
 use Rattle.bosh_base.specs.declared.offer.DepOffers.{DepOffers}
 use Rattle.bosh_base.specs.declared.offer.Offer.{Offer}
 use Rattle.bosh_history.specs.Held.{is_offered}
+use Rattle.bosh_history.specs.Sound.{are_offers_of}
 
 -- the links are those of a deployment
-abbrev pub are_offers_of : List ℕ → List Offer → Bool
-are_offers_of dep offers = list_all (λ offer. bytes_eq offer.joint.dep dep) offers
-
 abbrev pub OffersAreOf : List ℕ → List Offer → Type 0
 OffersAreOf dep offers = are_offers_of dep offers ≡ true
 

@@ -6,12 +6,13 @@ ghost use Rattle.bosh_base.specs.declared.inst.Inst.{Inst};
 ghost use Rattle.bosh_base.specs.declared.release.Release.{Release};
 ghost use Rattle.bosh_base.specs.declared.stemcell.Stemcell.{Stemcell};
 ghost use Rattle.bosh_base.specs.declared.task.TaskKind.TheVariants.{Deploy, Fix};
+ghost use Rattle.bosh_base.specs.declared.task.TaskKind.{TaskKind};
 ghost use Rattle.bosh_cloudcfg.specs.declared.config.Config.{Config};
 ghost use Rattle.bosh_goal.specs.Anew.{anew};
 ghost use Rattle.bosh_goal.specs.Goal.{IsGoal};
 ghost use Rattle.bosh_goal.specs.declared.change.Change.{Change};
-ghost use Rattle.bosh_goal_laws.specs.Records.{AreOrderly, IsCurrent, IsSoundAnew};
-ghost use Rattle.bosh_history.specs.Goals.{is_in};
+ghost use Rattle.bosh_goal_laws.specs.Records.{AreOrderly, IsCurrent};
+ghost use Rattle.bosh_history.specs.Goals.{is_in, named};
 ghost use Rattle.bosh_history.specs.Held.{view};
 ghost use Rattle.bosh_history.specs.Known.{Known};
 ghost use Rattle.bosh_history.specs.Sound.{is_sound_goal};
@@ -29,11 +30,10 @@ pub fn goals_are_sound()
         → (is_sound_goal k Deploy it ≡ true) × (is_sound_goal k Fix it ≡ true) }
 {}
 
-/// A goal that is made anew of the current one has what a task of that instance asks of it, but that its keys, which
-/// can be compiled one after another, need not stand in the order of compilation. The instance is one of the current
-/// goal.
+/// A task of one instance may open with the goal that is made anew of the current one, where the instance is one of
+/// that goal.
 pub fn renewed_goals_are_sound()
-    ensures { (k : Known) (inst : Inst) (change : Change) (config : Config) (goal it : Goal)
-        → IsCurrent k goal → is_in (Some goal) inst ≡ true
-        → anew inst change (Some config) (view k goal.dep) goal ≡ Ok it → IsSoundAnew k inst it }
+    ensures { (k : Known) (kind : TaskKind) (inst : Inst) (change : Change) (config : Config) (goal it : Goal)
+        → named kind ≡ Some inst → IsCurrent k goal → is_in (Some goal) inst ≡ true
+        → anew inst change (Some config) (view k goal.dep) goal ≡ Ok it → is_sound_goal k kind it ≡ true }
 {}

@@ -9,7 +9,7 @@ use Rattle.bosh_base.specs.declared.key.Key.{Key}
 use Rattle.bosh_base.specs.declared.key.KeyWork.{KeyWork}
 use Rattle.bosh_compile.specs.CompileOrder.{key_cmp}
 use Rattle.bosh_compile.specs.Level.{greatest, needs}
-use Rattle.bosh_compile.specs.Readiness.{same_key}
+use Rattle.bosh_compile.specs.Readiness.{is_among, same_key}
 
 -- a key with its level: one more than the greatest of those of the goal that it needs
 pub record Leveled : Type 0 where
@@ -51,3 +51,17 @@ are_after is_compiled before (work ∷ works) =
 -- the keys, none of which is compiled, are in compile order
 abbrev pub are_in_order : (Key → Bool) → List KeyWork → Bool
 are_in_order is_compiled works = are_after is_compiled [] works
+
+-- no key stands twice, and what each needs is compiled or stands before it
+abbrev pub stand_after_needs : (Key → Bool) → List Key → List KeyWork → Bool
+stand_after_needs is_compiled before [] = true
+stand_after_needs is_compiled before (work ∷ works) =
+    not (is_among work.key before)
+    && (list_all (λ key. is_compiled key || is_among key before) work.deps
+    && stand_after_needs is_compiled (work.key ∷ before) works)
+
+-- The keys, none of which is compiled, can be compiled one after another. So can what is left of keys in compile order
+-- when some are compiled, though what needed those is on a lower level then, and the rest may be out of that order.
+abbrev pub are_left : (Key → Bool) → List KeyWork → Bool
+are_left is_compiled works =
+    list_all (λ work. not (is_compiled work.key)) works && stand_after_needs is_compiled [] works

@@ -18,7 +18,7 @@ use Rattle.bosh_base.specs.declared.task.TaskKind.TheVariants.{DeleteDeployment}
 use Rattle.bosh_base.specs.declared.view.Held.{Held}
 use Rattle.bosh_history.specs.Goals.{named, inst_of, is_in}
 use Rattle.bosh_history.specs.Held.{held_by_machines, held_elsewhere, is_offered, offers_in, same_bytes_joint}
-use Rattle.bosh_history.specs.Keys.{are_in_order}
+use Rattle.bosh_history.specs.Keys.{are_in_order, are_left}
 use Rattle.bosh_history.specs.Known.{Known}
 use Rattle.bosh_history.specs.Slots.{is_compiled}
 use Rattle.bosh_history.specs.Words.{is_among, are_distinct, holds}
@@ -89,10 +89,18 @@ has_addresses k goal =
 
 -- ---- keys
 
--- they are in compile order, and where there are keys there is a slot
-abbrev pub has_keys : Known → Goal → Bool
-has_keys k goal =
-    are_in_order (is_compiled k) goal.keys && (nat_le (length goal.keys) 0 || nat_le 1 (length goal.slots))
+-- where there are keys there is a slot
+abbrev pub has_slots : Goal → Bool
+has_slots goal = nat_le (length goal.keys) 0 || nat_le 1 (length goal.slots)
+
+-- They are in compile order; those of a task of one instance, which are what is left of the current goal's, need only
+-- stand each after what it needs. There is a slot for them.
+abbrev pub has_keys : Known → TaskKind → Goal → Bool
+has_keys k kind goal = by_name (named kind) && has_slots goal
+  where
+    by_name : Option Inst → Bool
+    by_name (Some i) = are_left (is_compiled k) goal.keys
+    by_name None = are_in_order (is_compiled k) goal.keys
 
 -- ---- links
 
@@ -102,6 +110,14 @@ is_tie_kept k goal tie =
     bytes_eq tie.provider.dep goal.dep
     || (is_offered tie.provider tie.kind (k.shared tie.provider.dep)
     && is_offered tie.provider tie.kind (offers_in (k.goal tie.provider.dep)))
+
+-- the links are those of a deployment
+abbrev pub are_offers_of : List ℕ → List Offer → Bool
+are_offers_of dep offers = list_all (λ offer. bytes_eq offer.joint.dep dep) offers
+
+-- it offers links of its own deployment alone
+abbrev pub has_offers : Goal → Bool
+has_offers goal = are_offers_of goal.dep goal.offers
 
 -- ---- one instance
 
@@ -168,7 +184,8 @@ abbrev pub is_sound_goal : Known → TaskKind → Goal → Bool
 is_sound_goal k kind goal =
     has_instances k goal
     && (has_addresses k goal
-    && (has_keys k goal && (list_all (is_tie_kept k goal) goal.ties && is_of_kind k kind goal)))
+    && (has_keys k kind goal
+    && (list_all (is_tie_kept k goal) goal.ties && (has_offers goal && is_of_kind k kind goal))))
 
 abbrev pub is_sound : Known → TaskOpen → Bool
 is_sound k o = by_goal o.goal

@@ -1,5 +1,7 @@
 -- Goals that a task may open with, or not, after the first moves of a history.
 use Rattle.std.specs.Prelude.{◌≡◌, ℕ, Bool, true, false, codes, Some, None, List, [], ◌∷◌, ◌++◌}
+use Rattle.bosh_base.specs.declared.answer.Answer.TheVariants as answers
+use Rattle.bosh_base.specs.declared.call.Call.TheVariants as calls
 use Rattle.bosh_base.specs.declared.goal.Goal.{Goal}
 use Rattle.bosh_base.specs.declared.goal.GoalRow.{GoalRow}
 use Rattle.bosh_base.specs.declared.goal.GroupPlan.{GroupPlan}
@@ -8,6 +10,8 @@ use Rattle.bosh_base.specs.declared.key.KeyWork.{KeyWork}
 use Rattle.bosh_base.specs.declared.link.Tie.{Tie}
 use Rattle.bosh_base.specs.declared.make.Make.{Make}
 use Rattle.bosh_base.specs.declared.moves.Move.TheVariants.{Note}
+use Rattle.bosh_base.specs.declared.offer.Offer.{Offer}
+use Rattle.bosh_base.specs.declared.owner.Owner.TheVariants.{Compile}
 use Rattle.bosh_base.specs.declared.state.State.{State}
 use Rattle.bosh_base.specs.declared.state.State.TheVariants.{Running}
 use Rattle.bosh_base.specs.declared.task.TaskKind.{TaskKind}
@@ -16,8 +20,8 @@ use Rattle.bosh_history.specs.Moments.{Moment}
 use Rattle.bosh_history.specs.Sound.{is_sound_goal}
 use Rattle.bosh_history_examples.specs.Links.{links, offer_withdrawn_goal}
 use Rattle.bosh_history_examples.specs.Migrated.{migrated}
-use Rattle.bosh_history_examples.specs.Scenes.{Builder, History, opening, part, sourced}
-use Rattle.bosh_history_examples.specs.Values.{digest, goal, group, joint, no_jobs, plain, row, tie}
+use Rattle.bosh_history_examples.specs.Scenes.{Builder, History, called, opening, part, sourced}
+use Rattle.bosh_history_examples.specs.Values.{digest, goal, group, joint, no_jobs, offer, plain, row, slot, tie}
 use Rattle.bosh_history_examples.specs.Values.{web, work_p, z1, z2}
 use Rattle.bosh_history_examples.specs.Verdicts.{after}
 
@@ -78,6 +82,23 @@ work_q = record { name = codes "q"; key = key_q; deps = work_p.key ∷ [] }
 abbrev pub work_r : KeyWork
 work_r = record { name = codes "r"; key = record key_q { fingerprint = digest 8 }; deps = [] }
 
+-- .. one more that needs none, and two of the next level before compilation: one needs `p`, the other `x`
+abbrev pub work_x : KeyWork
+work_x = record { name = codes "x"; key = record key_q { fingerprint = digest 5 }; deps = [] }
+
+abbrev pub work_a : KeyWork
+work_a = record { name = codes "a"; key = record key_q { fingerprint = digest 3 }; deps = work_p.key ∷ [] }
+
+abbrev pub work_b : KeyWork
+work_b = record { name = codes "b"; key = record key_q { fingerprint = digest 4 }; deps = work_x.key ∷ [] }
+
+abbrev pub of_offer : Offer → Goal
+of_offer it = goal (codes "dep") (web_at 0 10 ∷ []) (one ∷ []) [] [] [] (it ∷ [])
+
+-- the link that `web` of a deployment offers
+abbrev pub offer_of : List ℕ → Offer
+offer_of dep = offer (joint dep (codes "web") (codes "web") (codes "db"))
+
 -- a tie of `web` to the link that `db` of a deployment offers
 abbrev pub tie_to : List ℕ → Tie
 tie_to dep = tie (joint (codes "dep") (codes "web") (codes "web") (codes "db"))
@@ -108,6 +129,20 @@ handed_on built =
     (opening 2 kinds.Deploy (Some (codes "dep")) (Some (of_rows (web_at 1 10 ∷ []))) (web 1 ∷ []) (web 0 ∷ []) []
     sourced)
     ∷ []
+
+-- ---- a goal of which one key is compiled
+
+abbrev pub four_keys : Goal
+four_keys = of_keys (work_p ∷ work_x ∷ work_a ∷ work_b ∷ []) (slot z1 11 ∷ [])
+
+-- A deploy compiles the first of its keys.
+abbrev pub first_compiled : History
+first_compiled built =
+    (Note (opening 1 kinds.Deploy (Some (codes "dep")) (Some four_keys) (web 0 ∷ []) [] [] sourced) ∷ [])
+    ++ called 1 1 0 (Compile 1 0) (calls.CreateVm (plain z1 11) []) true (answers.Cid 1)
+    ++ called 2 1 0 (Compile 1 0) (calls.CompilePackage 1 work_p []) false (answers.Built (built work_p []))
+
+-- ---- offers that are withdrawn
 
 -- A deployment is deployed, and then deployed anew without its offer; that is not done yet.
 abbrev pub withdrawn : History

@@ -8,9 +8,11 @@ ghost use Rattle.bosh_history_examples.specs.Swept.{swept};
 ghost use Rattle.bosh_history_examples.specs.Together.{together};
 ghost use Rattle.bosh_history_examples.specs.Two.{two};
 ghost use Rattle.bosh_history_examples.specs.Values.{disk, goal, group, inst, no_jobs, plain, row, slot, web, with_j, work_p, z1};
-ghost use Rattle.bosh_moment_examples.specs.Goals.{both, both_as_they_are, fresh_after, handed_on, in_state};
-ghost use Rattle.bosh_moment_examples.specs.Goals.{nothing_wanted, of_keys, of_other_type, of_plans, of_rows, of_slots};
-ghost use Rattle.bosh_moment_examples.specs.Goals.{of_tie, one, second_at, tie_to, web_at, withdrawn, work_q, work_r};
+ghost use Rattle.bosh_moment_examples.specs.Goals.{both, both_as_they_are, first_compiled, four_keys, fresh_after};
+ghost use Rattle.bosh_moment_examples.specs.Goals.{handed_on, in_state, nothing_wanted, of_keys, of_offer};
+ghost use Rattle.bosh_moment_examples.specs.Goals.{of_other_type, of_plans, of_rows, of_slots, offer_of};
+ghost use Rattle.bosh_moment_examples.specs.Goals.{of_tie, one, second_at, tie_to, web_at, withdrawn};
+ghost use Rattle.bosh_moment_examples.specs.Goals.{work_a, work_b, work_q, work_r, work_x};
 ghost use Rattle.bosh_moment_examples.specs.Goals.{IsSoundGoal, IsUnsoundGoal};
 ghost use Rattle.bosh_moment_examples.specs.Moves.{none};
 
@@ -32,6 +34,7 @@ pub fn goals_are_sound()
         (goal (codes "c") [] [] (work_q ∷ []) (slot z1 20 ∷ []) [] []) }
     ensures tie_within { IsSoundGoal prepared 0 none Deploy (of_tie (tie_to (codes "dep"))) }
     ensures tie_across { IsSoundGoal with_release 13 links Deploy (of_tie (tie_to (codes "shop"))) }
+    ensures own_offer { IsSoundGoal prepared 0 none Deploy (of_offer (offer_of (codes "dep"))) }
     ensures more_instances { IsSoundGoal prepared 25 two Deploy
         (of_rows (web_at 0 10 ∷ second_at 11 ∷ web_at 2 12 ∷ [])) }
     ensures address_of_one_that_goes { IsSoundGoal prepared 25 two Deploy (of_rows (web_at 2 10 ∷ [])) }
@@ -68,8 +71,8 @@ pub fn goals_of_unsound_addresses()
     ensures slot_of_the_current_goal { IsUnsoundGoal prepared 3 failed Deploy (of_slots (slot z1 11 ∷ [])) }
 {}
 
-/// Goals whose keys or ties are not as they should be.
-pub fn goals_of_unsound_keys_and_ties()
+/// Goals whose keys, ties or offers are not as they should be.
+pub fn goals_of_unsound_keys_and_links()
     ensures compiled { IsUnsoundGoal with_release 12 together Deploy
         (goal (codes "c") [] [] (work_p ∷ []) (slot z1 20 ∷ []) [] []) }
     ensures twice { IsUnsoundGoal prepared 0 none Deploy (of_keys (work_p ∷ work_p ∷ []) (slot z1 11 ∷ [])) }
@@ -87,6 +90,27 @@ pub fn goals_of_unsound_keys_and_ties()
         (of_tie (of_other_type (tie_to (codes "shop")))) }
     ensures tie_that_is_withdrawn { IsUnsoundGoal with_release 15 withdrawn Deploy (of_tie (tie_to (codes "shop"))) }
     ensures tie_to_one_not_done { IsUnsoundGoal with_release 11 links Deploy (of_tie (tie_to (codes "shop"))) }
+    ensures offer_of_another { IsUnsoundGoal prepared 0 none Deploy (of_offer (offer_of (codes "shop"))) }
+{}
+
+/// Once a key of a goal is compiled, what is left need not be in the order that a deploy asks for: `a`, which needed
+/// that key, would come first. A task of one instance opens with the keys as they stand, each after what it needs.
+pub fn goals_of_keys_that_are_left()
+    ensures at_first { IsSoundGoal prepared 0 none Deploy four_keys }
+    ensures left { IsSoundGoal prepared 7 first_compiled (Recreate (web 0))
+        (of_keys (work_x ∷ work_a ∷ work_b ∷ []) (slot z1 12 ∷ [])) }
+    ensures left_to_a_deploy { IsUnsoundGoal prepared 7 first_compiled Deploy
+        (of_keys (work_x ∷ work_a ∷ work_b ∷ []) (slot z1 12 ∷ [])) }
+    ensures of_a_deploy { IsSoundGoal prepared 7 first_compiled Deploy
+        (of_keys (work_a ∷ work_x ∷ work_b ∷ []) (slot z1 12 ∷ [])) }
+    ensures with_the_compiled_one { IsUnsoundGoal prepared 7 first_compiled (Recreate (web 0))
+        (of_keys (work_p ∷ work_x ∷ work_a ∷ work_b ∷ []) (slot z1 12 ∷ [])) }
+    ensures before_what_it_needs { IsUnsoundGoal prepared 7 first_compiled (Recreate (web 0))
+        (of_keys (work_b ∷ work_x ∷ work_a ∷ []) (slot z1 12 ∷ [])) }
+    ensures twice { IsUnsoundGoal prepared 7 first_compiled (Recreate (web 0))
+        (of_keys (work_x ∷ work_a ∷ work_x ∷ work_b ∷ []) (slot z1 12 ∷ [])) }
+    ensures without_slots { IsUnsoundGoal prepared 7 first_compiled (Recreate (web 0))
+        (of_keys (work_x ∷ work_a ∷ work_b ∷ []) []) }
 {}
 
 /// Goals that a task of one instance, or a deletion, may open with.

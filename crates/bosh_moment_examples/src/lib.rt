@@ -16,8 +16,9 @@ pub use entries::{
     uploads_are_refused,
 };
 pub use goals::{
-    goals_are_sound, goals_of_other_tasks_are_sound, goals_of_other_tasks_are_unsound,
-    goals_of_unsound_addresses, goals_of_unsound_instances, goals_of_unsound_keys_and_ties,
+    goals_are_sound, goals_of_keys_that_are_left, goals_of_other_tasks_are_sound,
+    goals_of_other_tasks_are_unsound, goals_of_unsound_addresses, goals_of_unsound_instances,
+    goals_of_unsound_keys_and_links,
 };
 pub use left::{deploys_do_not_leave, deploys_leave, fixes_leave, reports_of_done};
 pub use loads::{openings_are_safe, openings_are_unsafe, openings_do_not_fit, openings_fit};
