@@ -1,4 +1,4 @@
-ghost use Rattle.std.specs.Prelude.{◌≡◌, length, replicate, slice_index_or, slice_set, true, false, IfOk};
+ghost use Rattle.std.specs.Prelude.{◌≡◌, [], length, replicate, slice_index_or, slice_set, true, false, IfOk};
 ghost use Rattle.bosh_progress.specs.Tree.{first_marked, marked_in};
 
 use crate::tree::Tree;
@@ -23,6 +23,13 @@ impl Model for PlaceSet {
 }
 
 impl PlaceSet {
+    /// No place.
+    pub fn empty() -> PlaceSet
+        ensures { result ≡ [] }
+    {
+        PlaceSet { tree: Tree::Empty }
+    }
+
     /// As many places, none of which is marked.
     pub fn unmarked(alloc: Global, len: usize) -> Result<PlaceSet, AllocError>
         ensures { IfOk result (λ set. set ≡ replicate len false) }

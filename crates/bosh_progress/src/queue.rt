@@ -1,4 +1,4 @@
-ghost use Rattle.std.specs.Prelude.{◌≡◌, ◌==◌, replicate, slice_index_or, slice_set, false, true, if◌then◌else◌, IfOk};
+ghost use Rattle.std.specs.Prelude.{◌≡◌, ◌==◌, [], replicate, slice_index_or, slice_set, false, true, if◌then◌else◌, IfOk};
 ghost use Rattle.bosh_progress.specs.Tree.{first_marked, marked_in};
 
 use crate::PlaceSet;
@@ -15,6 +15,17 @@ pub struct Queue {
 }
 
 impl Queue {
+    /// No items.
+    pub fn empty() -> Queue
+        ensures left { result.left ≡ [] }
+        ensures free { result.free ≡ [] }
+    {
+        Queue {
+            left: PlaceSet::empty(),
+            free: PlaceSet::empty(),
+        }
+    }
+
     /// As many items, of which each is left and free.
     pub fn full(alloc: Global, len: usize) -> Result<Queue, AllocError>
         ensures left { IfOk result (λ queue. queue.left ≡ replicate len true) }

@@ -1,4 +1,4 @@
-ghost use Rattle.std.specs.Prelude.{◌≡◌, ◌==◌, ◌&&◌, replicate, slice_index_or, slice_set, false, true, if◌then◌else◌, IfOk};
+ghost use Rattle.std.specs.Prelude.{◌≡◌, ◌==◌, ◌&&◌, [], replicate, slice_index_or, slice_set, false, true, if◌then◌else◌, IfOk};
 ghost use Rattle.bosh_progress.specs.Rolling.{are_past, first_claimable, is_allowed, is_none_below, least};
 ghost use Rattle.bosh_progress.specs.Tree.{first_marked, marked_in};
 
@@ -22,6 +22,19 @@ pub struct Rolling {
 }
 
 impl Rolling {
+    /// No instances.
+    pub fn empty() -> Rolling
+        ensures { result ≡ record { canaries = 0; limit = 0; waiting = []; busy = []; idle = [] } }
+    {
+        Rolling {
+            canaries: 0,
+            limit: 0,
+            waiting: PlaceSet::empty(),
+            busy: PlaceSet::empty(),
+            idle: PlaceSet::empty(),
+        }
+    }
+
     /// As many changed instances, none of which has begun.
     pub fn new(
         alloc: Global,
