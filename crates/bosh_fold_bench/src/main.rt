@@ -1,6 +1,6 @@
-//! Times a deploy of instances in eight groups to its end, from one call to the next, and then the fold of its entries.
-//! The word is the number of instances, at most 512; printed are the number of entries and both times in microseconds.
-//! Without a word it does nothing.
+//! Times a deploy of instances in eight groups to its end, from one call to the next, or the fold of its entries. The
+//! words are the form, `drive` or `fold`, and the number of instances, at most 512; the time is printed in microseconds.
+//! Without words it does nothing.
 #![tactic(auto)]
 
 mod asked;
@@ -8,55 +8,69 @@ mod driven;
 
 use crate::asked::opening;
 use crate::driven::{driven, folded};
+use std::alloc::Global;
 use std::process::ExitCode;
 use std::rt::Clock;
-use std::time::Instant;
+use std::time::{Duration, Instant};
 use std::{env, io};
 
 /// How many instances there may be.
 const MOST: u32 = 512;
 
-/// How many entries a deploy noted, and how many microseconds it and their fold took.
-#[derive(Clone, Copy, Debug)]
-struct Times {
-    entries: usize,
-    driven: u128,
-    folded: u128,
+/// What is timed.
+#[derive(Clone, Copy, Debug, PartialEq, Eq)]
+enum Form {
+    Drive,
+    Fold,
 }
 
-fn times_for(clock: &impl Clock, alloc: std::alloc::Global, count: u32) -> Option<Times> {
-    let opening = opening(alloc, count).ok()?;
-    let start = Instant::now(clock).ok()?;
-    let entries = driven(alloc, opening).ok()?;
-    let driven = start.elapsed(clock).ok()?;
-    let start = Instant::now(clock).ok()?;
-    let calls = folded(alloc, entries.as_slice()).ok()?;
-    let folded = start.elapsed(clock).ok()?;
-    if calls == 0 && count > 0 {
+fn form_of(word: &str) -> Option<Form> {
+    match word {
+        "drive" => Some(Form::Drive),
+        "fold" => Some(Form::Fold),
+        _ => None,
+    }
+}
+
+fn time_for(clock: &impl Clock, alloc: Global, form: Form, count: u32) -> Option<Duration> {
+    if count > MOST {
         return None;
     }
-    Some(Times {
-        entries: entries.len(),
-        driven: driven.as_micros(),
-        folded: folded.as_micros(),
-    })
+    match form {
+        Form::Drive => time_of_drive(clock, alloc, count),
+        Form::Fold => time_of_fold(clock, alloc, count),
+    }
+}
+
+fn time_of_drive(clock: &impl Clock, alloc: Global, count: u32) -> Option<Duration> {
+    let opening = opening(alloc, count).ok()?;
+    let start = Instant::now(clock).ok()?;
+    let entries = driven(alloc, opening);
+    let took = start.elapsed(clock).ok()?;
+    if entries.is_ok() { Some(took) } else { None }
+}
+
+fn time_of_fold(clock: &impl Clock, alloc: Global, count: u32) -> Option<Duration> {
+    let opening = opening(alloc, count).ok()?;
+    let entries = driven(alloc, opening).ok()?;
+    let start = Instant::now(clock).ok()?;
+    let calls = folded(alloc, entries.as_slice());
+    let took = start.elapsed(clock).ok()?;
+    if calls.is_ok() { Some(took) } else { None }
 }
 
 fn main(rt: HostRuntime) -> io::Result<ExitCode> {
     let mut words = env::args(&rt)?;
     let _program = words.next();
-    let Some(count) = words.next() else {
+    let (Some(form), Some(count)) = (words.next(), words.next()) else {
         return Ok(ExitCode::SUCCESS);
     };
-    let Ok(count) = count.as_str().parse::<u32>() else {
+    let (Some(form), Ok(count)) = (form_of(form.as_str()), count.as_str().parse::<u32>()) else {
         return Ok(ExitCode::FAILURE);
     };
-    if count > MOST {
-        return Ok(ExitCode::FAILURE);
-    }
-    match times_for(&rt, rt.alloc(), count) {
-        Some(times) => {
-            println!(rt; "{} {} {}", times.entries, times.driven, times.folded)?;
+    match time_for(&rt, rt.alloc(), form, count) {
+        Some(took) => {
+            println!(rt; "{}", took.as_micros())?;
             Ok(ExitCode::SUCCESS)
         }
         None => Ok(ExitCode::FAILURE),
