@@ -1,5 +1,6 @@
 use crate::ClaimFault;
 use crate::choice::begin;
+use crate::place::beside;
 use bosh_base::{Call, Copyable, Entry, GoalRow, Inst, Owner, Row, Update};
 use bosh_fold::{Records, Work};
 use bosh_rows::{bare, call_of, has_its_machine, next};
@@ -41,12 +42,22 @@ pub(crate) fn gone(
         return Ok(None);
     };
     match step(alloc, records, None, inst)? {
-        Some(call) => {
-            let owner = Owner::Instance(inst.copy(alloc)?);
-            begin(records, work, worker, Some((owner, call)))
-        }
+        Some(call) => begun(alloc, records, work, worker, inst, call),
         None => Ok(Some(Entry::Gone(update(alloc, work, inst)?))),
     }
+}
+
+/// The beginning of a call of an instance.
+pub(crate) fn begun(
+    alloc: Global,
+    records: &Records,
+    work: &Work,
+    worker: u8,
+    inst: &Inst,
+    call: Call,
+) -> Result<Option<Entry>, ClaimFault> {
+    let (call, inst) = beside(call, inst.copy(alloc))?;
+    begin(records, work, worker, Some((Owner::Instance(inst), call)))
 }
 
 fn first_obsolete(work: &Work) -> Option<&Inst> {

@@ -10,6 +10,7 @@ mod fault;
 mod instance;
 mod opening;
 mod phase;
+mod place;
 mod snapshot;
 mod sweep;
 mod update;

@@ -1,7 +1,7 @@
 use crate::ClaimFault;
-use crate::choice::begin;
-use crate::instance::{step, update};
-use bosh_base::{Copyable, Entry, Inst, Owner};
+use crate::instance::{begun, step, update};
+use crate::place::is_some;
+use bosh_base::{Entry, Inst};
 use bosh_fold::{GroupPlace, Records, Work};
 use std::alloc::Global;
 
@@ -17,15 +17,28 @@ pub(crate) fn updated(
     let Some((change, inst)) = first(work, stage) else {
         return Ok(None);
     };
-    match step(alloc, records, records.want_of(inst), inst)? {
+    let call = step(alloc, records, records.want_of(inst), inst)?;
+    if is_waiting(work, change) {
+        return Ok(Some(first_word(alloc, work, inst, is_some(call))?));
+    }
+    match call {
+        Some(call) => begun(alloc, records, work, worker, inst, call),
         None => Ok(Some(Entry::UpdDone(update(alloc, work, inst)?))),
-        Some(_) if is_waiting(work, change) => Ok(Some(Entry::UpdBegin(update(
-            alloc, work, inst,
-        )?))),
-        Some(call) => {
-            let owner = Owner::Instance(inst.copy(alloc)?);
-            begin(records, work, worker, Some((owner, call)))
-        }
+    }
+}
+
+// The update begins where there is a call to make, and else it is done at once.
+fn first_word(
+    alloc: Global,
+    work: &Work,
+    inst: &Inst,
+    has_call: bool,
+) -> Result<Entry, ClaimFault> {
+    let update = update(alloc, work, inst)?;
+    if has_call {
+        Ok(Entry::UpdBegin(update))
+    } else {
+        Ok(Entry::UpdDone(update))
     }
 }
 

@@ -1,3 +1,4 @@
+use crate::place::{beside, put_where};
 use crate::{FoldFault, Machine, MachineName, Records};
 use bosh_base::{Begin, Call, CompileRow, Copyable, Doubt, Inst, Make, Name, Owner, Row};
 use bosh_rows::{bare, begin};
@@ -23,8 +24,8 @@ pub struct Begun {
 impl Records {
     pub(crate) fn plan_begin(&mut self, begin: &Begin) -> Result<Begun, FoldFault> {
         self.calls.ensure(begin.n)?;
-        let subject = self.begun(begin)?;
-        let begin = begin.copy(self.alloc)?;
+        let copy = begin.copy(self.alloc)?;
+        let (begin, subject) = beside(copy, self.begun(begin))?;
         Ok(Begun { begin, subject })
     }
 
@@ -48,12 +49,17 @@ impl Records {
 
     fn row_begun(&mut self, inst: &Inst, begun: &Begin) -> Result<Row, FoldFault> {
         self.instances.ensure(self.alloc, inst)?;
-        let mut row = match self.instances.row(inst) {
-            Some(row) => row.copy(self.alloc)?,
-            None => bare(self.alloc, inst.copy(self.alloc)?),
-        };
-        begin(self.alloc, &mut row, begun.n, &begun.call)?;
+        let mut row = self.row_or_bare(inst)?;
+        let begun = begin(self.alloc, &mut row, begun.n, &begun.call);
+        let (row, ()) = beside(row, begun)?;
         Ok(row)
+    }
+
+    fn row_or_bare(&self, inst: &Inst) -> Result<Row, FoldFault> {
+        match self.instances.row(inst) {
+            Some(row) => Ok(row.copy(self.alloc)?),
+            None => Ok(bare(self.alloc, inst.copy(self.alloc)?)),
+        }
     }
 
     fn doubt(&self, begin: &Begin) -> Result<Doubt, FoldFault> {
@@ -157,22 +163,26 @@ impl Records {
     }
 
     fn set_doubt(&mut self, owner: &Owner, doubt: Doubt) {
+        let place = self.doubt_place(owner);
+        put_where(place, Some(doubt));
+    }
+
+    // Where the doubt of a compile machine or of an orphaned disk stands.
+    fn doubt_place(&mut self, owner: &Owner) -> Option<&mut Option<Doubt>> {
         match owner {
+            Owner::Instance(_) => None,
             Owner::Compile(task, slot) => {
                 let name = MachineName {
                     task: *task,
                     slot: *slot,
                 };
-                if let Some(machine) = self.machines.get_mut(&name) {
-                    machine.row.doubt = Some(doubt);
-                }
+                let machine = self.machines.get_mut(&name)?;
+                Some(&mut machine.row.doubt)
             }
             Owner::Disk(disk) => {
-                if let Some(loose) = self.orphans.get_mut(disk) {
-                    loose.orphan.doubt = Some(doubt);
-                }
+                let loose = self.orphans.get_mut(disk)?;
+                Some(&mut loose.orphan.doubt)
             }
-            Owner::Instance(_) => {}
         }
     }
 

@@ -1,6 +1,7 @@
 ghost use Rattle.std.specs.Prelude.{IfOk};
 ghost use Rattle.bosh_fold.specs.Room.{HasRoom};
 
+use crate::place::put;
 use crate::{Begun, Ended, FoldFault, Opened, Records, Updated};
 use bosh_base::{Copyable, Entry, Offer, Release, Seq, Stemcell, TaskEnd, Text};
 
@@ -61,22 +62,18 @@ impl Records {
     pub fn learn(&mut self, entry: &Entry, change: Change)
         requires { HasRoom self.old change }
     {
-        match (entry, change) {
-            (_, Change::Release(release)) => self.releases.push_reserved(release),
-            (_, Change::Stemcell(stemcell)) => self.stemcells.push_reserved(stemcell),
-            (_, Change::Config(file)) => self.config = Some(file),
-            (_, Change::Opened(opened)) => self.learn_opening(opened),
-            (_, Change::Begun(begun)) => self.learn_begin(begun),
-            (_, Change::Ended(ended)) => self.learn_end(ended),
-            (Entry::UpdBegin(update), _) => self.learn_update_begin(update),
-            (Entry::UpdDone(update), Change::Updated(updated)) => self.learn_update_done(
-                update, updated,
-            ),
-            (Entry::Gone(update), Change::Updated(updated)) => self.learn_gone(update, updated),
-            (Entry::TaskDone(task), Change::Offers(offers)) => self.learn_done(*task, offers),
-            (Entry::TaskError(error), Change::End(end)) => self.learn_error(error.task, end),
-            (_, Change::Records(records)) => *self = Box::into_inner(records),
-            _ => {}
+        match change {
+            Change::Release(release) => self.releases.push_reserved(release),
+            Change::Stemcell(stemcell) => self.stemcells.push_reserved(stemcell),
+            Change::Config(file) => put(&mut self.config, Some(file)),
+            Change::Opened(opened) => self.learn_opening(opened),
+            Change::Begun(begun) => self.learn_begin(begun),
+            Change::Ended(ended) => self.learn_end(ended),
+            Change::Updated(updated) => self.learn_updated(entry, updated),
+            Change::Offers(offers) => self.learn_done(entry, offers),
+            Change::End(end) => self.learn_error(entry, end),
+            Change::Records(records) => put(self, Box::into_inner(records)),
+            Change::Nothing => self.learn_update_begin(entry),
         }
     }
 

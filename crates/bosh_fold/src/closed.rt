@@ -1,6 +1,9 @@
-use crate::{FoldFault, Records, Work};
+use crate::instances::Instances;
+use crate::place::put_where;
+use crate::table::Table;
+use crate::{FoldFault, LooseDisk, Machine, MachineName, Records, Since, Work};
 use bosh_base::{
-    Begin, Copyable, DepRow, Failure, Inst, Name, Offer, Owner, Seq, TaskEnd, TaskError, TaskKind,
+    Begin, Copyable, DepRow, Entry, Failure, Name, Offer, Seq, TaskEnd, TaskError, TaskKind,
 };
 
 impl Records {
@@ -38,7 +41,11 @@ impl Records {
 
     /// A task is done: a deploy offers what its goal does from now on, and a deployment that is deleted is recorded no
     /// more.
-    pub(crate) fn learn_done(&mut self, task: u64, offers: Seq<Offer>) {
+    pub(crate) fn learn_done(&mut self, entry: &Entry, offers: Seq<Offer>) {
+        let Entry::TaskDone(task) = entry else {
+            return;
+        };
+        let task = *task;
         if self.deployed_by(task).is_some() {
             self.share(task, offers);
         } else if self.is_deletion(task) {
@@ -59,28 +66,37 @@ impl Records {
     }
 
     fn share(&mut self, task: u64, offers: Seq<Offer>) {
-        let Some(since) = self.dep_of(task).and_then(|dep| self.since(dep)) else {
-            return;
-        };
-        if let Some(row) = self.deployments.get_mut(&since) {
-            row.shared = offers;
-        }
+        let place = self.shared_place(task);
+        put_where(place, offers);
+    }
+
+    fn shared_place(&mut self, task: u64) -> Option<&mut Seq<Offer>> {
+        let since = self.since_of(task)?;
+        let row = self.deployments.get_mut(&since)?;
+        Some(&mut row.shared)
+    }
+
+    // Since when the deployment of a task is recorded.
+    fn since_of(&self, task: u64) -> Option<Since> {
+        self.since(self.dep_of(task)?)
     }
 
     fn drop_deployment(&mut self, task: u64) {
-        let Some(since) = self.dep_of(task).and_then(|dep| self.since(dep)) else {
-            return;
-        };
-        self.clear_wants(since);
-        self.deployments.remove(&since);
+        if let Some(since) = self.since_of(task) {
+            self.clear_wants(since);
+            self.deployments.delete(&since);
+        }
     }
 
     /// A task ends without being done. After a stop none of its calls is open.
-    pub(crate) fn learn_error(&mut self, task: u64, end: TaskEnd) {
-        if let TaskEnd::Interrupted = end {
-            self.forget_calls_of(task);
+    pub(crate) fn learn_error(&mut self, entry: &Entry, end: TaskEnd) {
+        let Entry::TaskError(error) = entry else {
+            return;
+        };
+        if let TaskEnd::Interrupted = &end {
+            self.forget_calls_of(error.task);
         }
-        self.close(task, end);
+        self.close(error.task, end);
     }
 
     /// The calls of a task are open no more, since the director stopped.
@@ -109,34 +125,49 @@ impl Records {
     }
 
     fn close(&mut self, task: u64, end: TaskEnd) {
-        if let Some(row) = self.tasks.get_mut(&task) {
-            row.end = Some(end);
+        let place = self.end_place(task);
+        put_where(place, Some(end));
+        if let Some(work) = self.works.get(&task) {
+            clear_instances(work, &mut self.instances);
+            clear_machines(work, &mut self.machines);
+            clear_disks(work, &mut self.orphans);
         }
-        if let Some(work) = self.works.remove(&task) {
-            self.clear_parts(&work);
-        }
+        self.works.delete(&task);
     }
 
-    // No instance, machine or disk stands in the task any more.
-    fn clear_parts(&mut self, work: &Work) {
-        for inst in work.pings.items.iter() {
-            self.instances.set_ping(inst, None);
+    fn end_place(&mut self, task: u64) -> Option<&mut Option<TaskEnd>> {
+        let row = self.tasks.get_mut(&task)?;
+        Some(&mut row.end)
+    }
+}
+
+// No instance stands in the task any more.
+fn clear_instances(work: &Work, instances: &mut Instances) {
+    for inst in work.pings.items.iter() {
+        instances.set_ping(inst, None);
+    }
+    for inst in work.obsolete.items.iter() {
+        instances.set_leaving(inst, None);
+    }
+    for inst in work.changed.iter() {
+        instances.set_change(inst, None);
+    }
+}
+
+// Nor does a compile machine.
+fn clear_machines(work: &Work, machines: &mut Table<MachineName, Machine>) {
+    for name in work.sweep.items.iter() {
+        if let Some(machine) = machines.get_mut(name) {
+            machine.sweep = None;
         }
-        for name in work.sweep.items.iter() {
-            if let Some(machine) = self.machines.get_mut(name) {
-                machine.sweep = None;
-            }
-        }
-        for inst in work.obsolete.items.iter() {
-            self.instances.set_leaving(inst, None);
-        }
-        for inst in work.changed.iter() {
-            self.instances.set_change(inst, None);
-        }
-        for disk in work.disks.items.iter() {
-            if let Some(loose) = self.orphans.get_mut(disk) {
-                loose.deleting = None;
-            }
+    }
+}
+
+// Nor does a disk.
+fn clear_disks(work: &Work, orphans: &mut Table<u64, LooseDisk>) {
+    for disk in work.disks.items.iter() {
+        if let Some(loose) = orphans.get_mut(disk) {
+            loose.deleting = None;
         }
     }
 }

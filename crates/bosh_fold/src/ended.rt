@@ -1,3 +1,4 @@
+use crate::place::{beside, let_go, put};
 use crate::{FoldFault, MachineName, Records};
 use bosh_base::{Answer, Begin, Call, Copyable, Digest, End, Inst, Key, Owner, Row, TaskEnd, Vm};
 use bosh_rows::after;
@@ -69,7 +70,8 @@ impl Records {
             return Ok(None);
         };
         let mut row = row.copy(self.alloc)?;
-        after(self.alloc, &mut row, begin.n, &begin.call, answer)?;
+        let told = after(self.alloc, &mut row, begin.n, &begin.call, answer);
+        let (row, ()) = beside(row, told)?;
         Ok(Some(After::Instance(row)))
     }
 
@@ -105,22 +107,24 @@ impl Records {
     }
 
     pub(crate) fn learn_end(&mut self, ended: Ended) {
+        match self.calls.remove(&ended.n) {
+            Some(begin) => self.answered(&begin, ended),
+            None => let_go(ended),
+        }
+    }
+
+    fn answered(&mut self, begin: &Begin, ended: Ended) {
         let Ended {
-            n,
+            n: _,
             after,
             failed,
             built,
             is_asked,
         } = ended;
-        match self.calls.remove(&n) {
-            Some(begin) => {
-                self.close_call(&begin, is_asked);
-                self.fail(begin.task, failed);
-                self.built(&begin.call, built);
-                self.tell(&begin.owner, after);
-            }
-            None => {}
-        }
+        self.close_call(begin, is_asked);
+        self.fail(begin.task, failed);
+        self.built(&begin.call, built);
+        self.tell(&begin.owner, after);
     }
 
     fn close_call(&mut self, begin: &Begin, is_asked: bool) {
@@ -196,7 +200,7 @@ impl Records {
             Told::There(vm) => {
                 if let Some(machine) = self.machines.get_mut(&name) {
                     machine.row.vm = vm.or(machine.row.vm);
-                    machine.row.doubt = None;
+                    put(&mut machine.row.doubt, None);
                 }
             }
             Told::Absent => self.drop_machine(name),
@@ -204,18 +208,22 @@ impl Records {
     }
 
     fn drop_machine(&mut self, name: MachineName) {
-        let Some(machine) = self.machines.remove(&name) else {
+        let Some((key, sweep)) = self.uses_of(name) else {
             return;
         };
+        self.machines.delete(&name);
         if let Some(work) = self.works.get_mut(&name.task) {
-            work.machines = work.machines.saturating_sub(1);
-            if let Some(place) = machine.key {
-                work.keys.give(place);
-            }
+            work.drop_machine(key);
         }
-        if let Some(place) = machine.sweep {
+        if let Some(place) = sweep {
             self.swept(name, place);
         }
+    }
+
+    // The key that a machine is for, and its place among those that are swept.
+    fn uses_of(&self, name: MachineName) -> Option<(Option<usize>, Option<usize>)> {
+        let machine = self.machines.get(&name)?;
+        Some((machine.key, machine.sweep))
     }
 
     fn tell_disk(&mut self, disk: u64, told: Told) {
@@ -223,7 +231,7 @@ impl Records {
             Told::Nothing => {}
             Told::There(_) => {
                 if let Some(loose) = self.orphans.get_mut(&disk) {
-                    loose.orphan.doubt = None;
+                    put(&mut loose.orphan.doubt, None);
                 }
             }
             Told::Absent => self.drop_disk(disk),
@@ -231,10 +239,9 @@ impl Records {
     }
 
     fn drop_disk(&mut self, disk: u64) {
-        let Some(loose) = self.orphans.remove(&disk) else {
-            return;
-        };
-        if let Some(place) = loose.deleting {
+        let place = self.places_of(&Owner::Disk(disk)).deleting;
+        self.orphans.delete(&disk);
+        if let Some(place) = place {
             self.deleted(disk, place);
         }
     }

@@ -1,4 +1,5 @@
 use crate::FoldFault;
+use crate::place::put_where;
 use bosh_base::{Copyable, Inst, Owner, Row};
 use std::alloc::Global;
 use std::collections::BTreeMap;
@@ -93,11 +94,15 @@ impl Instances {
         Ok(())
     }
 
+    fn row_place(&mut self, inst: &Inst) -> Option<&mut Option<Row>> {
+        let instance = self.by_inst.get_mut(inst)?;
+        Some(&mut instance.row)
+    }
+
     /// Puts down what is recorded of an instance.
     pub(crate) fn record(&mut self, row: Row) {
-        if let Some(instance) = self.by_inst.get_mut(&row.inst) {
-            instance.row = Some(row);
-        }
+        let place = self.row_place(&row.inst);
+        put_where(place, Some(row));
     }
 
     /// The same, where there is a row to put down.
@@ -109,9 +114,8 @@ impl Instances {
 
     /// Nothing is recorded of an instance any more.
     pub(crate) fn forget(&mut self, inst: &Inst) {
-        if let Some(instance) = self.by_inst.get_mut(inst) {
-            instance.row = None;
-        }
+        let place = self.row_place(inst);
+        put_where(place, None);
     }
 
     /// Notes how a goal wants an instance.

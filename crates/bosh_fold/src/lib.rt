@@ -14,6 +14,7 @@ mod keys;
 mod machines;
 mod opened;
 mod orphans;
+mod place;
 mod places;
 mod records;
 mod snapshot;

@@ -1,5 +1,6 @@
 use crate::grouping::grouped;
 use crate::key_progress::KeyProgress;
+use crate::place::{beside, put};
 use crate::snapshot::copies;
 use crate::work::{Line, Work};
 use crate::{FoldFault, GroupPlace, MachineName, Records, Since};
@@ -39,28 +40,46 @@ impl Records {
     }
 
     fn opened(&self, opening: &TaskOpen) -> Result<Opened, FoldFault> {
+        let (deployment, row) = beside(
+            deployment_of(self.alloc, opening)?,
+            task_row(self.alloc, opening),
+        )?;
+        finished(deployment, row, self.work_of(opening))
+    }
+
+    fn work_of(&self, opening: &TaskOpen) -> Result<Work, FoldFault> {
         let mut work = Work::nothing(self.alloc, opening.task);
-        self.fill(&mut work, opening)?;
-        let deployment = deployment_of(self.alloc, opening)?;
-        let row = task_row(self.alloc, opening)?;
-        Ok(Opened {
-            row,
-            deployment,
-            work,
-        })
+        let filled = self.fill(&mut work, opening);
+        let (work, ()) = beside(work, filled)?;
+        Ok(work)
     }
 
     fn fill(&self, work: &mut Work, opening: &TaskOpen) -> Result<(), FoldFault> {
-        work.pings = Line::full(self.alloc, self.to_ping(opening)?)?;
-        work.sweep = Line::full(self.alloc, self.to_sweep(opening)?)?;
+        put(
+            &mut work.pings,
+            Line::full(self.alloc, self.to_ping(opening)?)?,
+        );
+        put(
+            &mut work.sweep,
+            Line::full(self.alloc, self.to_sweep(opening)?)?,
+        );
         if let Some(goal) = &opening.goal {
-            work.keys = KeyProgress::of(self.alloc, goal.keys.as_slice(), &self.keys)?;
+            put(
+                &mut work.keys,
+                KeyProgress::of(self.alloc, goal.keys.as_slice(), &self.keys)?,
+            );
             work.slots = u32::try_from(goal.slots.len()).unwrap_or(u32::MAX);
         }
-        work.obsolete = Line::full(self.alloc, copies(self.alloc, opening.obsolete.as_slice())?)?;
-        work.changed = opening.changed.copy(self.alloc)?;
-        work.groups = grouped(self.alloc, opening)?;
-        work.disks = Line::full(self.alloc, copies(self.alloc, opening.disks.as_slice())?)?;
+        put(
+            &mut work.obsolete,
+            Line::full(self.alloc, copies(self.alloc, opening.obsolete.as_slice())?)?,
+        );
+        put(&mut work.changed, opening.changed.copy(self.alloc)?);
+        put(&mut work.groups, grouped(self.alloc, opening)?);
+        put(
+            &mut work.disks,
+            Line::full(self.alloc, copies(self.alloc, opening.disks.as_slice())?)?,
+        );
         Ok(())
     }
 
@@ -186,6 +205,21 @@ impl Records {
         if let Some(loose) = self.orphans.get_mut(&disk) {
             loose.deleting = Some(place);
         }
+    }
+}
+
+fn finished(
+    deployment: Option<DepRow>,
+    row: TaskRow,
+    work: Result<Work, FoldFault>,
+) -> Result<Opened, FoldFault> {
+    match work {
+        Ok(work) => Ok(Opened {
+            row,
+            deployment,
+            work,
+        }),
+        Err(fault) => Err(fault),
     }
 }
 

@@ -1,3 +1,4 @@
+use crate::place::put;
 use crate::{FoldFault, Instance, LooseDisk, Machine, MachineName, Records, Since};
 use bosh_base::{BuiltKey, CompileRow, Copyable, DepRow, Orphan, Row, Seq, Snapshot, TaskRow};
 use std::alloc::Global;
@@ -11,15 +12,24 @@ impl Records {
     }
 
     fn write(&self, snapshot: &mut Snapshot) -> Result<(), FoldFault> {
-        snapshot.releases = Seq::from(copies(self.alloc, self.releases())?);
-        snapshot.stemcells = Seq::from(copies(self.alloc, self.stemcells())?);
-        snapshot.config = self.config.copy(self.alloc)?;
-        snapshot.deployments = Seq::from(self.deployment_rows()?);
-        snapshot.rows = Seq::from(self.instance_rows()?);
-        snapshot.compile_rows = Seq::from(self.compile_rows()?);
-        snapshot.orphans = Seq::from(self.orphan_rows()?);
-        snapshot.built_keys = self.built_keys()?;
-        snapshot.tasks = Seq::from(self.task_rows()?);
+        put(
+            &mut snapshot.releases,
+            Seq::from(copies(self.alloc, self.releases())?),
+        );
+        put(
+            &mut snapshot.stemcells,
+            Seq::from(copies(self.alloc, self.stemcells())?),
+        );
+        put(&mut snapshot.config, self.config.copy(self.alloc)?);
+        put(
+            &mut snapshot.deployments,
+            Seq::from(self.deployment_rows()?),
+        );
+        put(&mut snapshot.rows, Seq::from(self.instance_rows()?));
+        put(&mut snapshot.compile_rows, Seq::from(self.compile_rows()?));
+        put(&mut snapshot.orphans, Seq::from(self.orphan_rows()?));
+        put(&mut snapshot.built_keys, self.built_keys()?);
+        put(&mut snapshot.tasks, Seq::from(self.task_rows()?));
         snapshot.last_call = self.last_call;
         Ok(())
     }
@@ -82,28 +92,59 @@ impl Records {
     }
 
     fn read(&mut self, snapshot: &Snapshot) -> Result<(), FoldFault> {
-        self.releases = copies(self.alloc, snapshot.releases.as_slice())?;
-        self.stemcells = copies(self.alloc, snapshot.stemcells.as_slice())?;
-        self.config = snapshot.config.copy(self.alloc)?;
+        self.read_uploads(snapshot)?;
+        self.read_deployments(snapshot)?;
+        self.read_rows(snapshot)?;
+        self.read_disks_and_keys(snapshot)?;
+        self.read_tasks(snapshot)?;
+        self.last_call = snapshot.last_call;
+        Ok(())
+    }
+
+    fn read_uploads(&mut self, snapshot: &Snapshot) -> Result<(), FoldFault> {
+        put(
+            &mut self.releases,
+            copies(self.alloc, snapshot.releases.as_slice())?,
+        );
+        put(
+            &mut self.stemcells,
+            copies(self.alloc, snapshot.stemcells.as_slice())?,
+        );
+        put(&mut self.config, snapshot.config.copy(self.alloc)?);
+        Ok(())
+    }
+
+    fn read_deployments(&mut self, snapshot: &Snapshot) -> Result<(), FoldFault> {
         for (place, row) in snapshot.deployments.iter().enumerate() {
             self.read_deployment(place, row)?;
         }
+        Ok(())
+    }
+
+    fn read_rows(&mut self, snapshot: &Snapshot) -> Result<(), FoldFault> {
         for row in snapshot.rows.iter() {
             self.read_row(row)?;
         }
         for row in snapshot.compile_rows.iter() {
             self.read_machine(row)?;
         }
+        Ok(())
+    }
+
+    fn read_disks_and_keys(&mut self, snapshot: &Snapshot) -> Result<(), FoldFault> {
         for orphan in snapshot.orphans.iter() {
             self.read_orphan(orphan)?;
         }
         for built in snapshot.built_keys.iter() {
             self.read_built(built)?;
         }
+        Ok(())
+    }
+
+    fn read_tasks(&mut self, snapshot: &Snapshot) -> Result<(), FoldFault> {
         for row in snapshot.tasks.iter() {
             self.read_task(row)?;
         }
-        self.last_call = snapshot.last_call;
         Ok(())
     }
 

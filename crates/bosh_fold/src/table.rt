@@ -59,6 +59,11 @@ impl<K: Ord + Drop, V: Drop> Table<K, V> {
         }
     }
 
+    /// Lets a thing go, with its place.
+    pub(crate) fn delete(&mut self, key: &K) {
+        self.places.remove(key);
+    }
+
     /// Takes a thing away, with its place.
     pub(crate) fn remove(&mut self, key: &K) -> Option<V> {
         self.places.remove(key)?

@@ -1,5 +1,6 @@
+use crate::place::beside;
 use crate::{FoldFault, Records};
-use bosh_base::{Copyable, DiskRow, Inst, Orphan, Row, Seq, Update};
+use bosh_base::{Copyable, DiskRow, Entry, Inst, Orphan, Row, Seq, Update};
 use bosh_rows::update_done;
 use std::alloc::Global;
 
@@ -29,20 +30,16 @@ impl Records {
             return Ok(None);
         };
         let mut row = row.copy(self.alloc)?;
-        let disks = update_done(self.alloc, &mut row, want)?;
-        orphan(self.alloc, inst, disks, left)?;
+        let disks = update_done(self.alloc, &mut row, want);
+        let (row, disks) = beside(row, disks)?;
+        let (row, ()) = beside(row, orphan(self.alloc, inst, &disks, left))?;
         Ok(Some(row))
     }
 
     pub(crate) fn plan_gone(&mut self, update: &Update) -> Result<Updated, FoldFault> {
         let mut left = Vec::new(self.alloc);
         if let Some(row) = self.row(&update.inst) {
-            orphan(
-                self.alloc,
-                &update.inst,
-                row.disks.copy(self.alloc)?,
-                &mut left,
-            )?;
+            orphan(self.alloc, &update.inst, &row.disks, &mut left)?;
         }
         self.ensure_disks(left.as_slice())?;
         Ok(Updated { row: None, left })
@@ -56,33 +53,41 @@ impl Records {
     }
 
     /// The update of an instance begins.
-    pub(crate) fn learn_update_begin(&mut self, update: &Update) {
+    pub(crate) fn learn_update_begin(&mut self, entry: &Entry) {
+        let Entry::UpdBegin(update) = entry else {
+            return;
+        };
         let change = self.instances.part(&update.inst).change;
         if let Some(work) = self.works.get_mut(&update.task) {
             work.begin_update(change);
         }
     }
 
-    /// The update of an instance is done.
-    pub(crate) fn learn_update_done(&mut self, update: &Update, updated: Updated) {
+    /// The update of an instance is done, or an obsolete one has nothing left.
+    pub(crate) fn learn_updated(&mut self, entry: &Entry, updated: Updated) {
         let Updated { row, left } = updated;
-        let change = self.instances.part(&update.inst).change;
-        if let Some(work) = self.works.get_mut(&update.task) {
-            work.finish_update(change);
+        match entry {
+            Entry::UpdDone(update) => self.finish_update(update),
+            Entry::Gone(update) => self.leave(update),
+            _ => {}
         }
         self.instances.record_where(row);
         self.add_orphans(left);
     }
 
-    /// An obsolete instance has nothing left.
-    pub(crate) fn learn_gone(&mut self, update: &Update, updated: Updated) {
-        let Updated { row: _, left } = updated;
+    fn finish_update(&mut self, update: &Update) {
+        let change = self.instances.part(&update.inst).change;
+        if let Some(work) = self.works.get_mut(&update.task) {
+            work.finish_update(change);
+        }
+    }
+
+    fn leave(&mut self, update: &Update) {
         let leaving = self.instances.part(&update.inst).leaving;
         if let Some(work) = self.works.get_mut(&update.task) {
             work.leave(leaving);
         }
         self.instances.forget(&update.inst);
-        self.add_orphans(left);
     }
 
     fn add_orphans(&mut self, left: Vec<Orphan>) {
@@ -96,7 +101,7 @@ impl Records {
 fn orphan(
     alloc: Global,
     inst: &Inst,
-    disks: Seq<DiskRow>,
+    disks: &Seq<DiskRow>,
     left: &mut Vec<Orphan>,
 ) -> Result<(), FoldFault> {
     for disk in disks.iter() {

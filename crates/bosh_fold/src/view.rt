@@ -1,3 +1,4 @@
+use crate::place::put;
 use crate::{FoldFault, Records};
 use bosh_base::{
     Copyable, DepOffers, DepRow, Goal, Held, Make, Name, Offer, Owner, Row, Seq, TaskRow, View,
@@ -14,14 +15,14 @@ impl Records {
 
     fn look(&self, dep: &Name, view: &mut View) -> Result<(), FoldFault> {
         if let Some(goal) = self.goal_of(dep) {
-            view.goal = Some(goal.copy(self.alloc)?);
+            put(&mut view.goal, Some(goal.copy(self.alloc)?));
         }
-        view.rows = Seq::from(self.rows_of(dep)?);
-        view.taken = Seq::from(self.taken(dep)?);
-        view.leftover = Seq::from(self.leftover(dep)?);
-        view.compiled = self.keys.compiled(self.alloc)?;
+        put(&mut view.rows, Seq::from(self.rows_of(dep)?));
+        put(&mut view.taken, Seq::from(self.taken(dep)?));
+        put(&mut view.leftover, Seq::from(self.leftover(dep)?));
+        put(&mut view.compiled, self.keys.compiled(self.alloc)?);
         view.last_call = self.last_call;
-        view.known = Seq::from(self.known()?);
+        put(&mut view.known, Seq::from(self.known()?));
         Ok(())
     }
 

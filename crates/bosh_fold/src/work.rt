@@ -128,6 +128,14 @@ impl Work {
         }
     }
 
+    /// One of its compile machines is not there any more; it was for a key.
+    pub(crate) fn drop_machine(&mut self, key: Option<usize>) {
+        self.machines = self.machines.saturating_sub(1);
+        if let Some(place) = key {
+            self.keys.give(place);
+        }
+    }
+
     /// An obsolete instance has left.
     pub(crate) fn leave(&mut self, place: Option<usize>) {
         if let Some(place) = place {

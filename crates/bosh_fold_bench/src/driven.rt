@@ -46,9 +46,20 @@ fn go_on(records: &mut Records, entries: &mut Vec<Entry>, entry: Entry) -> Resul
 }
 
 fn note(records: &mut Records, entries: &mut Vec<Entry>, entry: Entry) -> Result<(), NoMemory> {
-    records.apply(&entry)?;
-    entries.push(entry)?;
-    Ok(())
+    let applied = records.apply(&entry);
+    keep(entries, entry, applied)
+}
+
+// Adds an item, where all is well so far. It is generic, since an entry that is let go is dear to prove.
+fn keep<T: Drop>(
+    items: &mut Vec<T>,
+    item: T,
+    so_far: Result<(), FoldFault>,
+) -> Result<(), NoMemory> {
+    match so_far {
+        Ok(()) => Ok(items.push(item)?),
+        Err(fault) => Err(NoMemory::from(fault)),
+    }
 }
 
 fn end_of(entry: &Entry) -> Option<End> {

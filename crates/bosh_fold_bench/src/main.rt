@@ -6,8 +6,9 @@
 mod asked;
 mod driven;
 
-use crate::asked::opening;
+use crate::asked::{NoMemory, opening};
 use crate::driven::{driven, folded};
+use bosh_base::Entry;
 use std::alloc::Global;
 use std::process::ExitCode;
 use std::rt::Clock;
@@ -43,18 +44,31 @@ fn time_for(clock: &impl Clock, alloc: Global, form: Form, count: u32) -> Option
 }
 
 fn time_of_drive(clock: &impl Clock, alloc: Global, count: u32) -> Option<Duration> {
-    let opening = opening(alloc, count).ok()?;
     let start = Instant::now(clock).ok()?;
-    let entries = driven(alloc, opening);
+    let is_done = deploys(alloc, count);
     let took = start.elapsed(clock).ok()?;
-    if entries.is_ok() { Some(took) } else { None }
+    if is_done { Some(took) } else { None }
+}
+
+fn deploys(alloc: Global, count: u32) -> bool {
+    match entries_of(alloc, count) {
+        Ok(entries) => !entries.is_empty(),
+        Err(_) => false,
+    }
+}
+
+fn entries_of(alloc: Global, count: u32) -> Result<Vec<Entry>, NoMemory> {
+    driven(alloc, opening(alloc, count)?)
 }
 
 fn time_of_fold(clock: &impl Clock, alloc: Global, count: u32) -> Option<Duration> {
-    let opening = opening(alloc, count).ok()?;
-    let entries = driven(alloc, opening).ok()?;
+    let entries = entries_of(alloc, count).ok()?;
+    time_of_entries(clock, alloc, entries.as_slice())
+}
+
+fn time_of_entries(clock: &impl Clock, alloc: Global, entries: &[Entry]) -> Option<Duration> {
     let start = Instant::now(clock).ok()?;
-    let calls = folded(alloc, entries.as_slice());
+    let calls = folded(alloc, entries);
     let took = start.elapsed(clock).ok()?;
     if calls.is_ok() { Some(took) } else { None }
 }
