@@ -39,6 +39,7 @@ bench: build
 	@cd crates/bosh_config_bench && rt run < /dev/null > /dev/null
 	@cd crates/bosh_cloud_bench && rt run < /dev/null > /dev/null
 	@cd crates/bosh_lock_bench && rt run < /dev/null > /dev/null
+	@cd crates/bosh_fold_bench && rt run < /dev/null > /dev/null
 	@cd crates/bosh_keep_bench && rt run < /dev/null > /dev/null
 	@bash bench/run.sh
 	@bash bench/keep.sh

@@ -1,0 +1,55 @@
+use crate::ClaimFault;
+use crate::beginning::begins;
+use crate::ending::{ends_task, ends_update, fails_task, leaves};
+use crate::opening::opens;
+use crate::snapshot::is_sound;
+use crate::updating::begins_update;
+use bosh_base::{End, Entry, Release, Stemcell, is_version, version_order};
+use bosh_fold::Records;
+use std::alloc::Global;
+use std::cmp::Ordering;
+
+/// Whether an entry may stand after those that the records stand for. What a config says, and whether a release goes with
+/// the others, is not looked at; nor is whether a goal is the one that its manifest asks for.
+pub fn is_allowed(alloc: Global, records: &Records, entry: &Entry) -> Result<bool, ClaimFault> {
+    match entry {
+        Entry::Release(release) => Ok(is_new_release(records, release)),
+        Entry::Stemcell(stemcell) => Ok(is_new_stemcell(records, stemcell)),
+        Entry::Config(_) => Ok(true),
+        Entry::TaskOpen(opening) => Ok(opens(records, opening)),
+        Entry::Begin(begin) => begins(alloc, records, begin),
+        Entry::End(end) => Ok(ends_call(records, end)),
+        Entry::UpdBegin(update) => Ok(begins_update(records, update)),
+        Entry::UpdDone(update) => ends_update(alloc, records, update),
+        Entry::Gone(update) => leaves(alloc, records, update),
+        Entry::TaskDone(task) => Ok(ends_task(records, *task)),
+        Entry::TaskError(error) => Ok(fails_task(records, error)),
+        Entry::Snapshot(snapshot) => Ok(records.is_empty() && is_sound(snapshot)),
+        Entry::Effect(_) | Entry::Write(_) | Entry::Lost(_) => Ok(false),
+    }
+}
+
+// Two versions that compare equal are one version.
+fn is_new_release(records: &Records, release: &Release) -> bool {
+    is_version(release.version.as_slice())
+        && !records.releases().iter().any(|it| it.name == release.name
+            && are_equal(it.version.as_slice(), release.version.as_slice()))
+}
+
+fn is_new_stemcell(records: &Records, stemcell: &Stemcell) -> bool {
+    is_version(stemcell.version.as_slice())
+        && !records.stemcells().iter().any(|it| it.os == stemcell.os
+            && are_equal(it.version.as_slice(), stemcell.version.as_slice()))
+}
+
+fn are_equal(one: &[u8], other: &[u8]) -> bool {
+    matches!(version_order(one, other), Some(Ordering::Equal))
+}
+
+// The call is open, and the answer is of its kind.
+fn ends_call(records: &Records, end: &End) -> bool {
+    match records.call(end.n) {
+        Some(begin) => end.answer.is_kind(begin.call.method()),
+        None => false,
+    }
+}

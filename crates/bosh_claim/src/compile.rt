@@ -1,0 +1,115 @@
+use crate::ClaimFault;
+use bosh_base::{Call, Copyable, Digest, KeyWork, Make, Owner, Seq};
+use bosh_fold::{Machine, MachineName, Records, Work};
+use std::alloc::Global;
+
+/// The call for the first slot of a task that is not passed over.
+pub(crate) fn slot_call(
+    alloc: Global,
+    records: &Records,
+    work: &Work,
+) -> Result<Option<(Owner, Call)>, ClaimFault> {
+    for slot in 0..work.slots {
+        let name = MachineName {
+            task: work.task,
+            slot,
+        };
+        let call = match records.machine(name) {
+            Some(machine) => own_call(alloc, records, work, machine)?,
+            None => creation(alloc, records, work, slot)?,
+        };
+        if let Some(call) = call {
+            return Ok(Some((Owner::Compile(name.task, name.slot), call)));
+        }
+    }
+    Ok(None)
+}
+
+// A machine is deleted once its key is compiled, waits while another call compiles the key, and else compiles it. One
+// with an open call or in doubt is passed over.
+pub(crate) fn own_call(
+    alloc: Global,
+    records: &Records,
+    work: &Work,
+    machine: &Machine,
+) -> Result<Option<Call>, ClaimFault> {
+    let (None, None, Some(it)) = (machine.call, &machine.row.doubt, machine.row.vm) else {
+        return Ok(None);
+    };
+    let Some(key) = machine.key.and_then(|place| work_at(records, work, place)) else {
+        return Ok(None);
+    };
+    if records.digest_of(&key.key).is_some() {
+        return Ok(Some(Call::DeleteVm { vm: it.vm }));
+    }
+    if records.is_compiling(&key.key) {
+        return Ok(None);
+    }
+    Ok(Some(compiling(alloc, records, it.vm, key)?))
+}
+
+/// What a task compiles, by its place among the keys of the goal.
+pub(crate) fn work_at<'a>(records: &'a Records, work: &Work, place: usize) -> Option<&'a KeyWork> {
+    let dep = records.task(work.task)?.dep.as_ref()?;
+    records.goal_of(dep)?.keys.get(place)
+}
+
+/// The make of a slot of a task.
+pub(crate) fn slot_at<'a>(records: &'a Records, work: &Work, slot: u32) -> Option<&'a Make> {
+    let dep = records.task(work.task)?.dep.as_ref()?;
+    records.goal_of(dep)?.slots.get(slot as usize)
+}
+
+fn compiling(alloc: Global, records: &Records, vm: u64, key: &KeyWork) -> Result<Call, ClaimFault> {
+    let deps = digests(alloc, records, key)?;
+    let work = key.copy(alloc)?;
+    Ok(Call::CompilePackage { vm, work, deps })
+}
+
+// The digests of what the work needs.
+fn digests(alloc: Global, records: &Records, key: &KeyWork) -> Result<Seq<Digest>, ClaimFault> {
+    let mut found = Vec::new(alloc);
+    for dep in key.deps.iter() {
+        if let Some(digest) = records.digest_of(dep) {
+            found.push(digest)?;
+        }
+    }
+    Ok(Seq::from(found))
+}
+
+// An idle slot makes a machine for the first key that it may take.
+pub(crate) fn creation(
+    alloc: Global,
+    records: &Records,
+    work: &Work,
+    slot: u32,
+) -> Result<Option<Call>, ClaimFault> {
+    let Some(key) = work
+        .keys
+        .next()
+        .and_then(|place| work_at(records, work, place))
+    else {
+        return Ok(None);
+    };
+    let Some(make) = slot_at(records, work, slot) else {
+        return Ok(None);
+    };
+    let make = compile_make(alloc, key, make)?;
+    Ok(Some(Call::CreateVm {
+        make,
+        disks: Seq::new(alloc),
+    }))
+}
+
+// The make of the slot, with the operating system and the version of the key.
+fn compile_make(alloc: Global, key: &KeyWork, make: &Make) -> Result<Make, ClaimFault> {
+    let mut made = make.copy(alloc)?;
+    set_stemcell(alloc, &mut made, key)?;
+    Ok(made)
+}
+
+fn set_stemcell(alloc: Global, make: &mut Make, key: &KeyWork) -> Result<(), ClaimFault> {
+    make.os = key.key.os.copy(alloc)?;
+    make.version = key.key.version.copy(alloc)?;
+    Ok(())
+}

@@ -1,0 +1,121 @@
+use crate::ClaimFault;
+use crate::beginning::is_leaving;
+use crate::instance::step;
+use crate::phase::{Phase, present};
+use crate::updating::of_present;
+use bosh_base::{Failure, GoalRow, Inst, Name, TaskEnd, TaskError, Update};
+use bosh_fold::{GroupWork, Records, Work, number};
+use std::alloc::Global;
+
+/// Whether the update of an instance is done: it is left, nobody works on it, it has no next call, and it is a canary or
+/// every canary is done.
+pub(crate) fn ends_update(
+    alloc: Global,
+    records: &Records,
+    update: &Update,
+) -> Result<bool, ClaimFault> {
+    let Some(work) = records.work(update.task) else {
+        return Ok(false);
+    };
+    let Some((group, place)) = of_present(records, work, &update.inst) else {
+        return Ok(false);
+    };
+    if !is_left(group, place) || !is_in_turn(group, place) {
+        return Ok(false);
+    }
+    let want: Option<&GoalRow> = records.want_of(&update.inst);
+    has_no_step(alloc, records, want, &update.inst)
+}
+
+fn is_left(group: &GroupWork, place: usize) -> bool {
+    group.roll.is_waiting(place) || group.roll.idle.is_marked(place)
+}
+
+fn is_in_turn(group: &GroupWork, place: usize) -> bool {
+    place < group.roll.canaries || group.roll.are_canaries_done()
+}
+
+fn has_no_step(
+    alloc: Global,
+    records: &Records,
+    want: Option<&GoalRow>,
+    inst: &Inst,
+) -> Result<bool, ClaimFault> {
+    let call = step(alloc, records, want, inst)?;
+    Ok(call.is_none())
+}
+
+/// Whether an obsolete instance has nothing left.
+pub(crate) fn leaves(
+    alloc: Global,
+    records: &Records,
+    update: &Update,
+) -> Result<bool, ClaimFault> {
+    let Some(work) = records.work(update.task) else {
+        return Ok(false);
+    };
+    if present(work) != Some(Phase::Leave) || !is_leaving(records, work, &update.inst) {
+        return Ok(false);
+    }
+    has_no_step(alloc, records, None, &update.inst)
+}
+
+/// Whether a task is done: none of its calls failed or is open, nothing is left in any phase, each key of its goal is
+/// compiled, and no compile machine of its deployment is recorded.
+pub(crate) fn ends_task(records: &Records, task: u64) -> bool {
+    match records.work(task) {
+        Some(work) => {
+            work.failed.is_none()
+                && work.open == 0
+                && present(work).is_none()
+                && work.keys.is_over()
+                && !has_machine(records, dep_of(records, task))
+        }
+        None => false,
+    }
+}
+
+fn dep_of(records: &Records, task: u64) -> Option<&Name> {
+    records.task(task)?.dep.as_ref()
+}
+
+fn has_machine(records: &Records, dep: Option<&Name>) -> bool {
+    for (_, machine) in records.machines() {
+        if let (Some(machine), Some(dep)) = (machine, dep) {
+            if machine.row.dep == *dep {
+                return true;
+            }
+        }
+    }
+    false
+}
+
+/// Whether a task ends by its least failed call, once none of its calls is open, or because the director stopped.
+pub(crate) fn fails_task(records: &Records, error: &TaskError) -> bool {
+    match error.cause {
+        Failure::Interrupted => is_open(records, error.task),
+        Failure::Call(n) => has_failed(records.work(error.task), n, false),
+        Failure::Gone(n) => has_failed(records.work(error.task), n, true),
+    }
+}
+
+fn is_open(records: &Records, task: u64) -> bool {
+    match records.task(task) {
+        Some(row) => row.end.is_none(),
+        None => false,
+    }
+}
+
+fn has_failed(work: Option<&Work>, n: u64, gone: bool) -> bool {
+    let Some(work) = work else {
+        return false;
+    };
+    match &work.failed {
+        Some(end) => work.open == 0 && number(end) == n && is_gone(end) == gone,
+        None => false,
+    }
+}
+
+fn is_gone(end: &TaskEnd) -> bool {
+    matches!(end, TaskEnd::Gone { .. })
+}

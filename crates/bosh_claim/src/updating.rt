@@ -1,0 +1,31 @@
+use crate::phase::{Phase, present};
+use bosh_base::{Inst, Update};
+use bosh_fold::{GroupPlace, GroupWork, Records, Work};
+
+/// Whether the update of an instance may begin: its group's turn is now, and canaries and limit allow it.
+pub(crate) fn begins_update(records: &Records, update: &Update) -> bool {
+    let Some(work) = records.work(update.task) else {
+        return false;
+    };
+    match of_present(records, work, &update.inst) {
+        Some((group, place)) => {
+            work.failed.is_none() && group.roll.is_waiting(place) && group.roll.is_allowed(place)
+        }
+        None => false,
+    }
+}
+
+/// The group of a changed instance, and its place there, where the stage of the group is the present phase.
+pub(crate) fn of_present<'a>(
+    records: &Records,
+    work: &'a Work,
+    inst: &Inst,
+) -> Option<(&'a GroupWork, usize)> {
+    let change: GroupPlace = records.instance(inst)?.part.change?;
+    let group = work.groups.get(change.group)?;
+    if present(work)? == Phase::Update(group.stage) {
+        Some((group, change.place))
+    } else {
+        None
+    }
+}

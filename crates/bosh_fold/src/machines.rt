@@ -1,0 +1,20 @@
+use bosh_base::CompileRow;
+
+/// The name of a compile machine: its task, and its slot from 0 on.
+#[derive(Clone, Copy, Debug, PartialEq, Eq, PartialOrd, Ord)]
+pub struct MachineName {
+    pub task: u64,
+    pub slot: u32,
+}
+
+/// What is recorded of a compile machine, and what it is for.
+#[derive(Drop)]
+pub struct Machine {
+    pub row: CompileRow,
+    /// What it is to compile: a place among the keys of its task's goal.
+    pub key: Option<usize>,
+    /// Its place among those that the open task of its deployment sweeps.
+    pub sweep: Option<usize>,
+    /// The number of its open call.
+    pub call: Option<u64>,
+}
