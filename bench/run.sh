@@ -9,8 +9,7 @@
 # 5,000 and 10,000 machines of a cloud, and a load of what they leave; and to enter a lock and leave it 1,000,000 times, in
 # one thread alone and in each of two, beside a mutex. And how long a deploy of 64, 256 and 512 instances takes from one
 # call to the next, each of which is done at once, and the fold of its entries. Each time is the least of five runs; only
-# the ratios within one run
-# say something.
+# the ratios within one run say something.
 set -u
 here=$(cd "$(dirname "$0")" && pwd)
 top=$(dirname "$here")
