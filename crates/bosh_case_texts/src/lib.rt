@@ -1,0 +1,9 @@
+//! What programs of cases tell in words: numbers, addresses, owners and links, and the refusals of addresses, links and
+//! templates.
+#![tactic(auto)]
+
+mod pieces;
+mod refusals;
+
+pub use pieces::{push_addr, push_band, push_count, push_inst, push_joint, push_owner};
+pub use refusals::{link_words, pool_words, share_words, template_words};
