@@ -1,9 +1,9 @@
 //! Goals.
 use crate::asked::{Asked, config, part, value};
 use crate::refusals::of_goal;
-use crate::shown::shown;
 use crate::told::state;
 use bosh_base::{Copyable, Goal, Inst, View};
+use bosh_case_texts::goal_text;
 use bosh_cases::{CaseFault, Outcome, both, characters, field};
 use bosh_cloudcfg::Config;
 use bosh_goal::{Change, anew};
@@ -15,7 +15,7 @@ type Answer = Result<Goal, GoalFault>;
 
 fn told(alloc: Global, answer: Answer) -> Result<Outcome, CaseFault> {
     match answer {
-        Ok(goal) => Ok(Outcome::bytes(shown(alloc, &goal)?)),
+        Ok(goal) => Ok(Outcome::bytes(goal_text(alloc, &goal)?)),
         Err(fault) => of_goal(alloc, &fault),
     }
 }

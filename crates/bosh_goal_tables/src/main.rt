@@ -5,10 +5,7 @@
 mod asked;
 mod calls;
 mod goals;
-mod links;
 mod refusals;
-mod rows;
-mod shown;
 mod told;
 mod uploads;
 mod views;

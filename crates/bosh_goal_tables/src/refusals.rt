@@ -17,9 +17,11 @@ fn kind_word(kind: Kind) -> &'static [u8] {
     }
 }
 
-fn unknown(alloc: Global, kind: Kind, name: &Name) -> Result<Vec<u8>, CaseFault> {
-    let parts = [b"goal Unknown ", kind_word(kind), b" ", name.as_bytes()];
-    Ok(joined(alloc, &parts)?)
+fn unknown(alloc: Global, kind: &[u8], name: &Name) -> Result<Vec<u8>, CaseFault> {
+    Ok(joined(
+        alloc,
+        &[b"goal Unknown ", kind, b" ", name.as_bytes()],
+    )?)
 }
 
 fn in_az(alloc: Global, inst: &Inst) -> Result<Vec<u8>, CaseFault> {
@@ -41,7 +43,7 @@ fn after(
 pub(crate) fn of_goal(alloc: Global, fault: &GoalFault) -> Result<Outcome, CaseFault> {
     let words = match fault {
         GoalFault::NoConfig => Ok(joined(alloc, &[b"goal NoConfig"])?),
-        GoalFault::Unknown { kind, name } => unknown(alloc, *kind, name),
+        GoalFault::Unknown { kind, name } => unknown(alloc, kind_word(*kind), name),
         GoalFault::Link(fault) => after(alloc, b"links ", link_words(alloc, fault)),
         GoalFault::Share(fault) => after(alloc, b"share ", share_words(alloc, fault)),
         GoalFault::Pool(fault) => after(alloc, b"pool ", pool_words(alloc, fault)),

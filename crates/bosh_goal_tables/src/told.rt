@@ -146,8 +146,11 @@ impl Told for Held {
 /// `link`, `type`, `as`, `addrs`, `listed` and `props`.
 impl Told for Offer {
     fn told(alloc: Global, node: &Node) -> Result<Self, CaseFault> {
-        let given: Result<(Text, Seq<Addr>, Seq<Text>, Seq<Prop>), CaseFault> =
-            four(alloc, node, ["as", "addrs", "listed", "props"]);
+        let given: Result<(Text, Seq<Addr>, Seq<Text>, Seq<Prop>), CaseFault> = four(
+            alloc,
+            node,
+            ["as", "addrs", "listed", "props"],
+        );
         let link: Result<(Joint, Text), CaseFault> = two(alloc, node, ["link", "type"]);
         let ((joint, kind), (public_name, addrs, listed, properties)) = both(link, given)?;
         Ok(Offer {

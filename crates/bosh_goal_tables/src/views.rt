@@ -54,7 +54,10 @@ pub(crate) fn view(
     let held = both(all(alloc, node, "taken"), all(alloc, node, "leftover"));
     let recorded = both(all(alloc, node, "rows"), current(alloc, dep, node));
     let shared = both(compiled(alloc, uploads, node), all(alloc, node, "known"));
-    let ((taken, leftover), ((rows, goal), (compiled, known))) = both(held, both(recorded, shared))?;
+    let ((taken, leftover), ((rows, goal), (compiled, known))) = both(
+        held,
+        both(recorded, shared),
+    )?;
     Ok(View {
         goal,
         rows,

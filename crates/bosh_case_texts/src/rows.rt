@@ -1,7 +1,7 @@
 //! The instances of goals in words.
-use crate::shown::push_print;
+use crate::goals::push_print;
+use crate::pieces::{push_addr, push_count, push_inst};
 use bosh_base::{DiskWant, GoalRow, Make, Mark, NetAddr, Placed, Seq, Spec, State};
-use bosh_case_texts::{push_addr, push_count, push_inst};
 use bosh_cases::push_parts;
 use std::alloc::AllocError;
 
@@ -14,7 +14,10 @@ fn push_nets(text: &mut Vec<u8>, nets: &Seq<NetAddr>) -> Result<(), AllocError> 
 }
 
 fn push_stemcell(text: &mut Vec<u8>, make: &Make) -> Result<(), AllocError> {
-    push_parts(text, &[b" ", make.os.as_slice(), b"/", make.version.as_slice()])
+    push_parts(
+        text,
+        &[b" ", make.os.as_slice(), b"/", make.version.as_slice()],
+    )
 }
 
 /// Adds a word, and what a machine is made from.
@@ -39,7 +42,13 @@ fn push_files(text: &mut Vec<u8>, files: &Seq<Placed>) -> Result<(), AllocError>
     for file in files {
         push_parts(
             text,
-            &[b"file ", file.path.as_slice(), b" |", file.text.as_slice(), b"|\n"],
+            &[
+                b"file ",
+                file.path.as_slice(),
+                b" |",
+                file.text.as_slice(),
+                b"|\n",
+            ],
         )?;
     }
     Ok(())

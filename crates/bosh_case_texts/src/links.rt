@@ -1,19 +1,20 @@
 //! The links of goals in words.
+use crate::pieces::{push_addr, push_joint};
 use bosh_base::{Addr, Offer, Prop, Seq, Setting, Text, Tie};
-use bosh_case_texts::{push_addr, push_joint};
 use bosh_cases::push_parts;
 use std::alloc::AllocError;
 
-fn push_tie(text: &mut Vec<u8>, tie: &Tie) -> Result<(), AllocError> {
-    push_joint(text, b"tie ", &tie.consumer)?;
+/// Adds a word, and a line for a tie: the consumer, the provider, and the type.
+pub fn push_tie(text: &mut Vec<u8>, word: &[u8], tie: &Tie) -> Result<(), AllocError> {
+    push_joint(text, word, &tie.consumer)?;
     push_joint(text, b" ", &tie.provider)?;
     push_parts(text, &[b" ", tie.kind.as_slice(), b"\n"])
 }
 
-/// Adds a line for each tie: the consumer, the provider, and the type.
+/// Adds a line for each tie.
 pub(crate) fn push_ties(text: &mut Vec<u8>, ties: &Seq<Tie>) -> Result<(), AllocError> {
     for tie in ties {
-        push_tie(text, tie)?;
+        push_tie(text, b"tie ", tie)?;
     }
     Ok(())
 }

@@ -1,8 +1,8 @@
 //! Goals in words.
 use crate::links::{push_offers, push_ties};
+use crate::pieces::push_count;
 use crate::rows::{push_make, push_rows};
 use bosh_base::{Digest, Goal, GroupPlan, Key, KeyWork, Make, Seq};
-use bosh_case_texts::push_count;
 use bosh_cases::push_parts;
 use std::alloc::{AllocError, Global};
 
@@ -34,7 +34,10 @@ fn push_plans(text: &mut Vec<u8>, plans: &Seq<GroupPlan>) -> Result<(), AllocErr
 
 fn push_key(text: &mut Vec<u8>, word: &[u8], key: &Key) -> Result<(), AllocError> {
     push_print(text, word, &key.fingerprint)?;
-    push_parts(text, &[b" ", key.os.as_slice(), b"/", key.version.as_slice()])
+    push_parts(
+        text,
+        &[b" ", key.os.as_slice(), b"/", key.version.as_slice()],
+    )
 }
 
 fn push_needs(text: &mut Vec<u8>, keys: &Seq<Key>) -> Result<(), AllocError> {
@@ -78,8 +81,9 @@ fn push_others(text: &mut Vec<u8>, goal: &Goal) -> Result<(), AllocError> {
     push_offers(text, &goal.offers)
 }
 
-/// The lines of a goal.
-pub(crate) fn shown(alloc: Global, goal: &Goal) -> Result<Vec<u8>, AllocError> {
+/// The lines of a goal: its instances with their specs, how its groups are updated, what is to be compiled and by which
+/// machines, its ties, and its offers.
+pub fn goal_text(alloc: Global, goal: &Goal) -> Result<Vec<u8>, AllocError> {
     let mut text = Vec::new(alloc);
     push_instances(&mut text, goal)?;
     push_others(&mut text, goal)?;
