@@ -3,9 +3,9 @@ use crate::uploads::{Uploads, uploaded};
 use crate::views::view;
 use bosh_base::{Goal, Name, Seq, Stemcell, Text, View};
 use bosh_cases::{CaseFault, Given, both};
-use bosh_cloudcfg::{CfgFault, Config};
+use bosh_cloudcfg::Config;
 use bosh_goal::goal;
-use bosh_manifest::{ManFault, Manifest};
+use bosh_manifest::Manifest;
 use bosh_uses::GoalFault;
 use bosh_yaml::{Node, read};
 use std::alloc::Global;
@@ -26,13 +26,16 @@ pub(crate) fn value<T: Given>(alloc: Global, part: Option<&Node>) -> Result<T, C
     }
 }
 
-fn checked_config(alloc: Global, text: &Text) -> Result<Config, CaseFault> {
-    let node = read(alloc, text.as_slice())?;
-    match bosh_cloudcfg::check(alloc, &node) {
+fn config_in(alloc: Global, node: &Node) -> Result<Config, CaseFault> {
+    match bosh_cloudcfg::check(alloc, node) {
         Ok(config) => Ok(config),
-        Err(CfgFault::Memory) => Err(CaseFault::Memory),
         Err(_) => Err(CaseFault::Form),
     }
+}
+
+fn checked_config(alloc: Global, text: &Text) -> Result<Config, CaseFault> {
+    let node = read(alloc, text.as_slice())?;
+    config_in(alloc, &node)
 }
 
 /// The cloud config of a text, or none.
@@ -44,13 +47,16 @@ pub(crate) fn config(alloc: Global, part: Option<&Node>) -> Result<Option<Config
     }
 }
 
-fn checked_manifest(alloc: Global, dep: &Name, text: &Text) -> Result<Manifest, CaseFault> {
-    let node = read(alloc, text.as_slice())?;
-    match bosh_manifest::check(alloc, &node, dep) {
+fn manifest_in(alloc: Global, dep: &Name, node: &Node) -> Result<Manifest, CaseFault> {
+    match bosh_manifest::check(alloc, node, dep) {
         Ok(manifest) => Ok(manifest),
-        Err(ManFault::Memory) => Err(CaseFault::Memory),
         Err(_) => Err(CaseFault::Form),
     }
+}
+
+fn checked_manifest(alloc: Global, dep: &Name, text: &Text) -> Result<Manifest, CaseFault> {
+    let node = read(alloc, text.as_slice())?;
+    manifest_in(alloc, dep, &node)
 }
 
 fn manifest(alloc: Global, setting: &Node, given: &Node) -> Result<Manifest, CaseFault> {

@@ -1,5 +1,5 @@
-//! Goals.
-use crate::asked::{Asked, config, part, value};
+//! Goals. What a case is answered under is made one thing after the other, each in a function of its own.
+use crate::asked::{Asked, config, part};
 use crate::refusals::of_goal;
 use crate::told::state;
 use bosh_base::{Copyable, Goal, Inst, View};
@@ -20,20 +20,31 @@ fn told(alloc: Global, answer: Answer) -> Result<Outcome, CaseFault> {
     }
 }
 
-fn answer(
-    alloc: Global,
-    asked: &Asked,
-    config: Option<&Config>,
-    recorded: Option<&Node>,
-    recreate: bool,
-) -> Result<Answer, CaseFault> {
-    let view = asked.view(alloc, recorded)?;
-    Ok(asked.goal(alloc, config, &view, recreate))
-}
-
 fn recreates(alloc: Global, given: &Node) -> Result<bool, CaseFault> {
     let recreate: Option<bool> = field(alloc, given, "recreate")?;
     Ok(recreate.unwrap_or(false))
+}
+
+fn goal_in(
+    alloc: Global,
+    asked: &Asked,
+    config: Option<&Config>,
+    setting: &Node,
+    given: &Node,
+) -> Result<Outcome, CaseFault> {
+    let recreate = recreates(alloc, given)?;
+    let view = asked.view(alloc, part(setting, given, "view"))?;
+    told(alloc, asked.goal(alloc, config, &view, recreate))
+}
+
+fn goal_of(
+    alloc: Global,
+    asked: &Asked,
+    setting: &Node,
+    given: &Node,
+) -> Result<Outcome, CaseFault> {
+    let config = config(alloc, part(setting, given, "config"))?;
+    goal_in(alloc, asked, config.as_ref(), setting, given)
 }
 
 /// The goal of a manifest.
@@ -42,27 +53,32 @@ pub(crate) fn of_manifest(
     setting: &Node,
     given: &Node,
 ) -> Result<Outcome, CaseFault> {
-    let recreate = recreates(alloc, given)?;
-    let config = config(alloc, part(setting, given, "config"));
-    let (asked, config) = both(Asked::of(alloc, setting, given), config)?;
-    let recorded = part(setting, given, "view");
-    let answer = answer(alloc, &asked, config.as_ref(), recorded, recreate)?;
-    told(alloc, answer)
+    let asked = Asked::of(alloc, setting, given)?;
+    goal_of(alloc, &asked, setting, given)
 }
 
-// The current goal: that of the manifest, over what was recorded before.
-fn current(
+fn sound(answer: Answer) -> Result<Goal, CaseFault> {
+    match answer {
+        Ok(goal) => Ok(goal),
+        Err(_) => Err(CaseFault::Form),
+    }
+}
+
+fn current_in(
     alloc: Global,
     asked: &Asked,
     config: Option<&Config>,
     given: &Node,
 ) -> Result<Goal, CaseFault> {
     let recreate = recreates(alloc, given)?;
-    match answer(alloc, asked, config, given.find(b"before"), recreate)? {
-        Ok(goal) => Ok(goal),
-        Err(GoalFault::Memory) => Err(CaseFault::Memory),
-        Err(_) => Err(CaseFault::Form),
-    }
+    let view = asked.view(alloc, given.find(b"before"))?;
+    sound(asked.goal(alloc, config, &view, recreate))
+}
+
+// The current goal: that of the manifest, over what was recorded before.
+fn current(alloc: Global, asked: &Asked, setting: &Node, given: &Node) -> Result<Goal, CaseFault> {
+    let config = config(alloc, setting.find(b"config"))?;
+    current_in(alloc, asked, config.as_ref(), given)
 }
 
 fn change_of(node: &Node) -> Result<Change, CaseFault> {
@@ -83,40 +99,65 @@ fn change(given: &Node) -> Result<Change, CaseFault> {
     }
 }
 
-// What is recorded, with the current goal.
-fn view_of(
-    alloc: Global,
-    asked: &Asked,
-    goal: &Goal,
-    recorded: Option<&Node>,
-) -> Result<View, CaseFault> {
-    let mut view = asked.view(alloc, recorded)?;
-    view.goal = Some(goal.copy(alloc)?);
-    Ok(view)
+fn copied(alloc: Global, goal: &Goal) -> Result<Goal, CaseFault> {
+    Ok(goal.copy(alloc)?)
 }
 
-fn changed(
+fn with_goal(view: View, goal: Goal) -> View {
+    View {
+        goal: Some(goal),
+        ..view
+    }
+}
+
+// What is recorded, with the current goal.
+fn view_of(alloc: Global, asked: &Asked, goal: &Goal, given: &Node) -> Result<View, CaseFault> {
+    let (view, goal) = both(asked.view(alloc, given.find(b"view")), copied(alloc, goal))?;
+    Ok(with_goal(view, goal))
+}
+
+fn changed_over(
+    alloc: Global,
+    config: Option<&Config>,
+    view: &View,
+    goal: &Goal,
+    given: &Node,
+) -> Result<Outcome, CaseFault> {
+    let change = change(given)?;
+    let inst: Inst = field(alloc, given, "inst")?;
+    told(alloc, anew(alloc, &inst, change, config, view, goal))
+}
+
+fn changed_in(
     alloc: Global,
     asked: &Asked,
     config: Option<&Config>,
     goal: &Goal,
     given: &Node,
-) -> Result<Answer, CaseFault> {
-    let change = change(given)?;
-    let view = view_of(alloc, asked, goal, given.find(b"view"));
-    let (inst, view): (Inst, View) = both(field(alloc, given, "inst"), view)?;
-    Ok(anew(alloc, &inst, change, config, &view, goal))
+) -> Result<Outcome, CaseFault> {
+    let view = view_of(alloc, asked, goal, given)?;
+    changed_over(alloc, config, &view, goal, given)
+}
+
+fn changed(
+    alloc: Global,
+    asked: &Asked,
+    goal: &Goal,
+    setting: &Node,
+    given: &Node,
+) -> Result<Outcome, CaseFault> {
+    let config = config(alloc, part(setting, given, "config"))?;
+    changed_in(alloc, asked, config.as_ref(), goal, given)
 }
 
 fn anew_of(
     alloc: Global,
     asked: &Asked,
-    configs: &(Option<Config>, Option<Config>),
+    setting: &Node,
     given: &Node,
-) -> Result<Answer, CaseFault> {
-    let (before, now) = configs;
-    let goal = current(alloc, asked, before.as_ref(), given)?;
-    changed(alloc, asked, now.as_ref(), &goal, given)
+) -> Result<Outcome, CaseFault> {
+    let goal = current(alloc, asked, setting, given)?;
+    changed(alloc, asked, &goal, setting, given)
 }
 
 /// The current goal with one instance changed. That goal is the one of the manifest under the setting.
@@ -125,9 +166,6 @@ pub(crate) fn of_current(
     setting: &Node,
     given: &Node,
 ) -> Result<Outcome, CaseFault> {
-    let before = config(alloc, setting.find(b"config"));
-    let configs = both(before, config(alloc, part(setting, given, "config")));
-    let (asked, configs) = both(Asked::of(alloc, setting, given), configs)?;
-    let answer = anew_of(alloc, &asked, &configs, given)?;
-    told(alloc, answer)
+    let asked = Asked::of(alloc, setting, given)?;
+    anew_of(alloc, &asked, setting, given)
 }

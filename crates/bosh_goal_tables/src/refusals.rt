@@ -18,10 +18,7 @@ fn kind_word(kind: Kind) -> &'static [u8] {
 }
 
 fn unknown(alloc: Global, kind: &[u8], name: &Name) -> Result<Vec<u8>, CaseFault> {
-    Ok(joined(
-        alloc,
-        &[b"goal Unknown ", kind, b" ", name.as_bytes()],
-    )?)
+    Ok(joined(alloc, &[b"goal Unknown ", kind, b" ", name.as_bytes()])?)
 }
 
 fn in_az(alloc: Global, inst: &Inst) -> Result<Vec<u8>, CaseFault> {

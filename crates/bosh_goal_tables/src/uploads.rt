@@ -6,7 +6,7 @@ ghost use Rattle.bosh_release.specs.Sound.{IsSound};
 use bosh_alike::stay_alike;
 use bosh_base::{Key, PackageSpec, Release, Text};
 use bosh_cases::{CaseFault, Given, both, characters, field};
-use bosh_release::{File, ReleaseFault, a_collected_release_is_sound, collect};
+use bosh_release::{File, a_collected_release_is_sound, collect};
 use bosh_yaml::{Node, Str};
 use std::alloc::Global;
 use std::marker::Model;
@@ -95,7 +95,6 @@ fn collected(alloc: Global, files: &[File], version: &Text) -> Result<Release, C
     a_collected_release_is_sound();
     match collect(alloc, files, version.as_slice()) {
         Ok(release) => Ok(release),
-        Err(ReleaseFault::Memory) => Err(CaseFault::Memory),
         Err(_) => Err(CaseFault::Form),
     }
 }
