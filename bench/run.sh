@@ -5,8 +5,7 @@
 # form, and to look up each key of a mapping; and to read a MiB of each form, beside other readers. Then how fast the
 # body of a large entry is written and read, beside a plain copy of its bytes; and how long it takes to collect releases
 # of 64, 128 and 256 packages, each of which needs all before it. And how long it takes to check cloud configs of 8 and 16
-# networks, and to assign 512 addresses of which none, 16,384 and 32,768 are held; and how long goals take of 64, 256 and 512
-# instances, each of one job, and of 64 jobs with 200 properties each. And how long ten calls take on each of
+# networks, and to assign 512 addresses of which none, 16,384 and 32,768 are held. And how long ten calls take on each of
 # 5,000 and 10,000 machines of a cloud, and a load of what they leave. Each time is the least of five runs; only the ratios within one run
 # say something.
 set -u
@@ -18,7 +17,6 @@ reader=$top/crates/bosh_yaml_bench/out/bosh_yaml_bench
 codec=$top/crates/bosh_entry_bench/out/bosh_entry_bench
 releases=$top/crates/bosh_release_bench/out/bosh_release_bench
 config=$top/crates/bosh_config_bench/out/bosh_config_bench
-goals=$top/crates/bosh_goal_bench/out/bosh_goal_bench
 cloud=$top/crates/bosh_cloud_bench/out/bosh_cloud_bench
 folder=$(mktemp -d)
 trap 'rm -rf "$folder"' EXIT
@@ -141,7 +139,5 @@ done
 table_of "$config" check "networks of 16 subnets, checked" "the first" 8 16
 table_of "$config" assign "held, 512 addresses assigned" "the first" 0
 table_of "$config" assign "held, 512 addresses assigned" "the first" 16384 32768
-table_of "$goals" plain "instances of one job, their goal" "the first" 64 256 512
-table_of "$goals" full "instances of 64 jobs, their goal" "the first" 64 256 512
 table_of "$cloud" calls "machines with ten calls each" "the first" 5000 10000
 table_of "$cloud" load "machines with ten calls, loaded" "the first" 5000 10000
