@@ -13,16 +13,31 @@ use std::alloc::Global;
 
 type Answer = Result<Goal, GoalFault>;
 
-fn told(alloc: Global, answer: Answer) -> Result<Outcome, CaseFault> {
+fn shown(alloc: Global, goal: &Goal) -> Result<Outcome, CaseFault> {
+    Ok(Outcome::bytes(goal_text(alloc, goal)?))
+}
+
+fn told(alloc: Global, answer: &Answer) -> Result<Outcome, CaseFault> {
     match answer {
-        Ok(goal) => Ok(Outcome::bytes(goal_text(alloc, &goal)?)),
-        Err(fault) => of_goal(alloc, &fault),
+        Ok(goal) => shown(alloc, goal),
+        Err(fault) => of_goal(alloc, fault),
     }
 }
 
 fn recreates(alloc: Global, given: &Node) -> Result<bool, CaseFault> {
     let recreate: Option<bool> = field(alloc, given, "recreate")?;
     Ok(recreate.unwrap_or(false))
+}
+
+fn goal_over(
+    alloc: Global,
+    asked: &Asked,
+    config: Option<&Config>,
+    view: &View,
+    recreate: bool,
+) -> Result<Outcome, CaseFault> {
+    let answer = asked.goal(alloc, config, view, recreate);
+    told(alloc, &answer)
 }
 
 fn goal_in(
@@ -34,7 +49,7 @@ fn goal_in(
 ) -> Result<Outcome, CaseFault> {
     let recreate = recreates(alloc, given)?;
     let view = asked.view(alloc, part(setting, given, "view"))?;
-    told(alloc, asked.goal(alloc, config, &view, recreate))
+    goal_over(alloc, asked, config, &view, recreate)
 }
 
 fn goal_of(
@@ -116,6 +131,18 @@ fn view_of(alloc: Global, asked: &Asked, goal: &Goal, given: &Node) -> Result<Vi
     Ok(with_goal(view, goal))
 }
 
+fn anew_told(
+    alloc: Global,
+    inst: &Inst,
+    change: Change,
+    config: Option<&Config>,
+    view: &View,
+    goal: &Goal,
+) -> Result<Outcome, CaseFault> {
+    let answer = anew(alloc, inst, change, config, view, goal);
+    told(alloc, &answer)
+}
+
 fn changed_over(
     alloc: Global,
     config: Option<&Config>,
@@ -125,7 +152,7 @@ fn changed_over(
 ) -> Result<Outcome, CaseFault> {
     let change = change(given)?;
     let inst: Inst = field(alloc, given, "inst")?;
-    told(alloc, anew(alloc, &inst, change, config, view, goal))
+    anew_told(alloc, &inst, change, config, view, goal)
 }
 
 fn changed_in(

@@ -17,6 +17,10 @@ fn kind_word(kind: Kind) -> &'static [u8] {
     }
 }
 
+fn word(alloc: Global, word: &[u8]) -> Result<Vec<u8>, CaseFault> {
+    Ok(joined(alloc, &[word])?)
+}
+
 fn unknown(alloc: Global, kind: &[u8], name: &Name) -> Result<Vec<u8>, CaseFault> {
     Ok(joined(alloc, &[b"goal Unknown ", kind, b" ", name.as_bytes()])?)
 }
@@ -39,14 +43,14 @@ fn after(
 /// Why there is no goal.
 pub(crate) fn of_goal(alloc: Global, fault: &GoalFault) -> Result<Outcome, CaseFault> {
     let words = match fault {
-        GoalFault::NoConfig => Ok(joined(alloc, &[b"goal NoConfig"])?),
+        GoalFault::NoConfig => word(alloc, b"goal NoConfig"),
         GoalFault::Unknown { kind, name } => unknown(alloc, kind_word(*kind), name),
         GoalFault::Link(fault) => after(alloc, b"links ", link_words(alloc, fault)),
         GoalFault::Share(fault) => after(alloc, b"share ", share_words(alloc, fault)),
         GoalFault::Pool(fault) => after(alloc, b"pool ", pool_words(alloc, fault)),
         GoalFault::DiskInAz { inst } => in_az(alloc, inst),
         GoalFault::Template(fault) => after(alloc, b"template ", template_words(alloc, fault)),
-        GoalFault::Limit => Ok(joined(alloc, &[b"goal Limit"])?),
+        GoalFault::Limit => word(alloc, b"goal Limit"),
         GoalFault::Memory => Err(CaseFault::Memory),
     };
     Ok(Outcome::refusal(words?))

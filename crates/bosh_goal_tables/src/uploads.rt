@@ -128,10 +128,16 @@ fn text_of(alloc: Global, word: &str) -> Result<Text, CaseFault> {
     Ok(Text::from(Vec::from_slice(alloc, word.as_bytes())?))
 }
 
+// The name of a package, and the operating system and version of a stemcell.
+fn key_words(text: &str) -> Option<(&str, &str, &str)> {
+    let (name, stemcell) = text.split_once(' ')?;
+    let (os, version) = stemcell.split_once('/')?;
+    Some((name, os, version))
+}
+
 // A package by its name, and the stemcell that it is compiled for.
 fn key_of(alloc: Global, uploads: &Uploads, text: &str) -> Result<Key, CaseFault> {
-    let (name, stemcell) = text.split_once(' ').ok_or(CaseFault::Form)?;
-    let (os, version) = stemcell.split_once('/').ok_or(CaseFault::Form)?;
+    let (name, os, version) = key_words(text).ok_or(CaseFault::Form)?;
     let package = uploads.package(name).ok_or(CaseFault::Form)?;
     let (os, version) = both(text_of(alloc, os), text_of(alloc, version))?;
     Ok(Key {
