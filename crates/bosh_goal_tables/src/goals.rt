@@ -11,14 +11,18 @@ use bosh_uses::GoalFault;
 use bosh_yaml::Node;
 use std::alloc::Global;
 
-type Answer = Result<Goal, GoalFault>;
+/// A goal, or why there is none. A struct is let go by one call, however many faults there are.
+#[derive(Drop)]
+struct Answer {
+    goal: Result<Goal, GoalFault>,
+}
 
 fn shown(alloc: Global, goal: &Goal) -> Result<Outcome, CaseFault> {
     Ok(Outcome::bytes(goal_text(alloc, goal)?))
 }
 
 fn told(alloc: Global, answer: &Answer) -> Result<Outcome, CaseFault> {
-    match answer {
+    match &answer.goal {
         Ok(goal) => shown(alloc, goal),
         Err(fault) => of_goal(alloc, fault),
     }
@@ -29,6 +33,7 @@ fn recreates(alloc: Global, given: &Node) -> Result<bool, CaseFault> {
     Ok(recreate.unwrap_or(false))
 }
 
+// Dear to prove, as the other two that make an answer: a goal or one of nine faults is put into it.
 fn goal_over(
     alloc: Global,
     asked: &Asked,
@@ -36,8 +41,8 @@ fn goal_over(
     view: &View,
     recreate: bool,
 ) -> Result<Outcome, CaseFault> {
-    let answer = asked.goal(alloc, config, view, recreate);
-    told(alloc, &answer)
+    let goal = asked.goal(alloc, config, view, recreate);
+    told(alloc, &Answer { goal })
 }
 
 fn goal_in(
@@ -72,11 +77,26 @@ pub(crate) fn of_manifest(
     goal_of(alloc, &asked, setting, given)
 }
 
-fn sound(answer: Answer) -> Result<Goal, CaseFault> {
-    match answer {
-        Ok(goal) => Ok(goal),
+fn copied(alloc: Global, goal: &Goal) -> Result<Goal, CaseFault> {
+    Ok(goal.copy(alloc)?)
+}
+
+fn sound(alloc: Global, answer: &Answer) -> Result<Goal, CaseFault> {
+    match &answer.goal {
+        Ok(goal) => copied(alloc, goal),
         Err(_) => Err(CaseFault::Form),
     }
+}
+
+fn current_over(
+    alloc: Global,
+    asked: &Asked,
+    config: Option<&Config>,
+    view: &View,
+    recreate: bool,
+) -> Result<Goal, CaseFault> {
+    let goal = asked.goal(alloc, config, view, recreate);
+    sound(alloc, &Answer { goal })
 }
 
 fn current_in(
@@ -87,7 +107,7 @@ fn current_in(
 ) -> Result<Goal, CaseFault> {
     let recreate = recreates(alloc, given)?;
     let view = asked.view(alloc, given.find(b"before"))?;
-    sound(asked.goal(alloc, config, &view, recreate))
+    current_over(alloc, asked, config, &view, recreate)
 }
 
 // The current goal: that of the manifest, over what was recorded before.
@@ -114,10 +134,6 @@ fn change(given: &Node) -> Result<Change, CaseFault> {
     }
 }
 
-fn copied(alloc: Global, goal: &Goal) -> Result<Goal, CaseFault> {
-    Ok(goal.copy(alloc)?)
-}
-
 fn with_goal(view: View, goal: Goal) -> View {
     View {
         goal: Some(goal),
@@ -139,8 +155,8 @@ fn anew_told(
     view: &View,
     goal: &Goal,
 ) -> Result<Outcome, CaseFault> {
-    let answer = anew(alloc, inst, change, config, view, goal);
-    told(alloc, &answer)
+    let goal = anew(alloc, inst, change, config, view, goal);
+    told(alloc, &Answer { goal })
 }
 
 fn changed_over(

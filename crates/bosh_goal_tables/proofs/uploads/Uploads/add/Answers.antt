@@ -1,7 +1,6 @@
 use Rattle.std.proofs.Common.{◌∷◌, [], ◌++◌, refl, subst, sym}
 use Rattle.std.proofs.lemmas.List.Elements.{All-push}
 use Rattle.bosh_alike.specs.Alike.{AreAlike}
-use Rattle.bosh_base.specs.declared.release.Release.{Release}
 use Rattle.bosh_release.specs.Sound.{IsSound}
 use Rattle.bosh_goal_tables.specs.Fit.{AreFit}
 use Rattle.bosh_goal_tables.proofs.uploads.Uploads.add.Goals as goal
