@@ -24,7 +24,7 @@ trials:
 	@bash trials/run.sh $(CRATE)
 
 tables:
-	@for tables in bosh_tables bosh_rule_tables bosh_config_tables bosh_manifest_tables bosh_release_tables bosh_entry_tables bosh_row_tables bosh_cloud_tables bosh_line_tables cpi_proc_tables bosh_cck_tables; do \
+	@for tables in bosh_tables bosh_rule_tables bosh_config_tables bosh_manifest_tables bosh_release_tables bosh_entry_tables bosh_row_tables bosh_cloud_tables bosh_line_tables cpi_proc_tables bosh_cck_tables bosh_goal_tables; do \
 		(cd crates/$$tables && rt run -- data/*.cases) || exit 1; \
 	done
 

@@ -1,0 +1,116 @@
+//! What a case asks for, and under what.
+use crate::uploads::{Uploads, uploaded};
+use crate::views::view;
+use bosh_base::{Goal, Name, Seq, Stemcell, Text, View};
+use bosh_cases::{CaseFault, Given, both};
+use bosh_cloudcfg::Config;
+use bosh_goal::goal;
+use bosh_manifest::Manifest;
+use bosh_uses::GoalFault;
+use bosh_yaml::{Node, read};
+use std::alloc::Global;
+
+/// What a case gives at a key, or else the setting.
+pub(crate) fn part<'a>(setting: &'a Node, given: &'a Node, key: &str) -> Option<&'a Node> {
+    match given.find(key.as_bytes()) {
+        Some(node) => Some(node),
+        None => setting.find(key.as_bytes()),
+    }
+}
+
+/// The value of a part. What is absent is null.
+pub(crate) fn value<T: Given>(alloc: Global, part: Option<&Node>) -> Result<T, CaseFault> {
+    match part {
+        Some(node) => T::of(alloc, node),
+        None => T::of(alloc, &Node::Null),
+    }
+}
+
+fn config_in(alloc: Global, node: &Node) -> Result<Config, CaseFault> {
+    match bosh_cloudcfg::check(alloc, node) {
+        Ok(config) => Ok(config),
+        Err(_) => Err(CaseFault::Form),
+    }
+}
+
+fn checked_config(alloc: Global, text: &Text) -> Result<Config, CaseFault> {
+    let node = read(alloc, text.as_slice())?;
+    config_in(alloc, &node)
+}
+
+/// The cloud config of a text, or none.
+pub(crate) fn config(alloc: Global, part: Option<&Node>) -> Result<Option<Config>, CaseFault> {
+    let text: Option<Text> = value(alloc, part)?;
+    match text {
+        Some(text) => Ok(Some(checked_config(alloc, &text)?)),
+        None => Ok(None),
+    }
+}
+
+fn manifest_in(alloc: Global, dep: &Name, node: &Node) -> Result<Manifest, CaseFault> {
+    match bosh_manifest::check(alloc, node, dep) {
+        Ok(manifest) => Ok(manifest),
+        Err(_) => Err(CaseFault::Form),
+    }
+}
+
+fn checked_manifest(alloc: Global, dep: &Name, text: &Text) -> Result<Manifest, CaseFault> {
+    let node = read(alloc, text.as_slice())?;
+    manifest_in(alloc, dep, &node)
+}
+
+fn manifest(alloc: Global, setting: &Node, given: &Node) -> Result<Manifest, CaseFault> {
+    let text = value(alloc, part(setting, given, "manifest"));
+    let (dep, text) = both(value(alloc, part(setting, given, "dep")), text)?;
+    checked_manifest(alloc, &dep, &text)
+}
+
+/// A manifest, and what is uploaded.
+#[derive(Drop)]
+pub(crate) struct Asked {
+    manifest: Manifest,
+    uploads: Uploads,
+    stemcells: Seq<Stemcell>,
+}
+
+impl Asked {
+    pub(crate) fn of(alloc: Global, setting: &Node, given: &Node) -> Result<Asked, CaseFault> {
+        let uploads = uploaded(alloc, part(setting, given, "releases"));
+        let stemcells = value(alloc, part(setting, given, "stemcells"));
+        let rest = both(uploads, stemcells);
+        let (manifest, (uploads, stemcells)) = both(manifest(alloc, setting, given), rest)?;
+        Ok(Asked {
+            manifest,
+            uploads,
+            stemcells,
+        })
+    }
+
+    /// What is recorded, as a part tells.
+    pub(crate) fn view(&self, alloc: Global, part: Option<&Node>) -> Result<View, CaseFault> {
+        let dep = &self.manifest.contents().name;
+        match part {
+            Some(node) => view(alloc, dep, &self.uploads, node),
+            None => view(alloc, dep, &self.uploads, &Node::Null),
+        }
+    }
+
+    /// The goal of the manifest.
+    pub(crate) fn goal(
+        &self,
+        alloc: Global,
+        config: Option<&Config>,
+        view: &View,
+        recreate: bool,
+    ) -> Result<Goal, GoalFault> {
+        goal(
+            alloc,
+            &self.manifest,
+            config,
+            self.uploads.as_slice(),
+            self.stemcells.as_slice(),
+            view,
+            recreate,
+        )
+    }
+}

@@ -1,0 +1,214 @@
+//! Goals. What a case is answered under is made one thing after the other, each in a function of its own.
+use crate::asked::{Asked, config, part};
+use crate::refusals::of_goal;
+use crate::told::state;
+use bosh_base::{Copyable, Goal, Inst, View};
+use bosh_case_texts::goal_text;
+use bosh_cases::{CaseFault, Outcome, both, characters, field};
+use bosh_cloudcfg::Config;
+use bosh_goal::{Change, anew};
+use bosh_uses::GoalFault;
+use bosh_yaml::Node;
+use std::alloc::Global;
+
+/// A goal, or why there is none. A struct is let go by one call, however many faults there are.
+#[derive(Drop)]
+struct Answer {
+    goal: Result<Goal, GoalFault>,
+}
+
+fn shown(alloc: Global, goal: &Goal) -> Result<Outcome, CaseFault> {
+    Ok(Outcome::bytes(goal_text(alloc, goal)?))
+}
+
+fn told(alloc: Global, answer: &Answer) -> Result<Outcome, CaseFault> {
+    match &answer.goal {
+        Ok(goal) => shown(alloc, goal),
+        Err(fault) => of_goal(alloc, fault),
+    }
+}
+
+fn recreates(alloc: Global, given: &Node) -> Result<bool, CaseFault> {
+    let recreate: Option<bool> = field(alloc, given, "recreate")?;
+    Ok(recreate.unwrap_or(false))
+}
+
+// Dear to prove, as the other two that make an answer: a goal or one of nine faults is put into it.
+fn goal_over(
+    alloc: Global,
+    asked: &Asked,
+    config: Option<&Config>,
+    view: &View,
+    recreate: bool,
+) -> Result<Outcome, CaseFault> {
+    let goal = asked.goal(alloc, config, view, recreate);
+    told(alloc, &Answer { goal })
+}
+
+fn goal_in(
+    alloc: Global,
+    asked: &Asked,
+    config: Option<&Config>,
+    setting: &Node,
+    given: &Node,
+) -> Result<Outcome, CaseFault> {
+    let recreate = recreates(alloc, given)?;
+    let view = asked.view(alloc, part(setting, given, "view"))?;
+    goal_over(alloc, asked, config, &view, recreate)
+}
+
+fn goal_of(
+    alloc: Global,
+    asked: &Asked,
+    setting: &Node,
+    given: &Node,
+) -> Result<Outcome, CaseFault> {
+    let config = config(alloc, part(setting, given, "config"))?;
+    goal_in(alloc, asked, config.as_ref(), setting, given)
+}
+
+/// The goal of a manifest.
+pub(crate) fn of_manifest(
+    alloc: Global,
+    setting: &Node,
+    given: &Node,
+) -> Result<Outcome, CaseFault> {
+    let asked = Asked::of(alloc, setting, given)?;
+    goal_of(alloc, &asked, setting, given)
+}
+
+fn copied(alloc: Global, goal: &Goal) -> Result<Goal, CaseFault> {
+    Ok(goal.copy(alloc)?)
+}
+
+fn sound(alloc: Global, answer: &Answer) -> Result<Goal, CaseFault> {
+    match &answer.goal {
+        Ok(goal) => copied(alloc, goal),
+        Err(_) => Err(CaseFault::Form),
+    }
+}
+
+fn current_over(
+    alloc: Global,
+    asked: &Asked,
+    config: Option<&Config>,
+    view: &View,
+    recreate: bool,
+) -> Result<Goal, CaseFault> {
+    let goal = asked.goal(alloc, config, view, recreate);
+    sound(alloc, &Answer { goal })
+}
+
+fn current_in(
+    alloc: Global,
+    asked: &Asked,
+    config: Option<&Config>,
+    given: &Node,
+) -> Result<Goal, CaseFault> {
+    let recreate = recreates(alloc, given)?;
+    let view = asked.view(alloc, given.find(b"before"))?;
+    current_over(alloc, asked, config, &view, recreate)
+}
+
+// The current goal: that of the manifest, over what was recorded before.
+fn current(alloc: Global, asked: &Asked, setting: &Node, given: &Node) -> Result<Goal, CaseFault> {
+    let config = config(alloc, setting.find(b"config"))?;
+    current_in(alloc, asked, config.as_ref(), given)
+}
+
+fn change_of(node: &Node) -> Result<Change, CaseFault> {
+    let Node::Text(text) = node else {
+        return Err(CaseFault::Form);
+    };
+    match characters(text)? {
+        "fresh" => Ok(Change::Fresh),
+        "same" => Ok(Change::Same),
+        _ => Ok(Change::To(state(node)?)),
+    }
+}
+
+fn change(given: &Node) -> Result<Change, CaseFault> {
+    match given.find(b"change") {
+        Some(node) => change_of(node),
+        None => Err(CaseFault::Form),
+    }
+}
+
+fn with_goal(view: View, goal: Goal) -> View {
+    View {
+        goal: Some(goal),
+        ..view
+    }
+}
+
+// What is recorded, with the current goal.
+fn view_of(alloc: Global, asked: &Asked, goal: &Goal, given: &Node) -> Result<View, CaseFault> {
+    let (view, goal) = both(asked.view(alloc, given.find(b"view")), copied(alloc, goal))?;
+    Ok(with_goal(view, goal))
+}
+
+fn anew_told(
+    alloc: Global,
+    inst: &Inst,
+    change: Change,
+    config: Option<&Config>,
+    view: &View,
+    goal: &Goal,
+) -> Result<Outcome, CaseFault> {
+    let goal = anew(alloc, inst, change, config, view, goal);
+    told(alloc, &Answer { goal })
+}
+
+fn changed_over(
+    alloc: Global,
+    config: Option<&Config>,
+    view: &View,
+    goal: &Goal,
+    given: &Node,
+) -> Result<Outcome, CaseFault> {
+    let change = change(given)?;
+    let inst: Inst = field(alloc, given, "inst")?;
+    anew_told(alloc, &inst, change, config, view, goal)
+}
+
+fn changed_in(
+    alloc: Global,
+    asked: &Asked,
+    config: Option<&Config>,
+    goal: &Goal,
+    given: &Node,
+) -> Result<Outcome, CaseFault> {
+    let view = view_of(alloc, asked, goal, given)?;
+    changed_over(alloc, config, &view, goal, given)
+}
+
+fn changed(
+    alloc: Global,
+    asked: &Asked,
+    goal: &Goal,
+    setting: &Node,
+    given: &Node,
+) -> Result<Outcome, CaseFault> {
+    let config = config(alloc, part(setting, given, "config"))?;
+    changed_in(alloc, asked, config.as_ref(), goal, given)
+}
+
+fn anew_of(
+    alloc: Global,
+    asked: &Asked,
+    setting: &Node,
+    given: &Node,
+) -> Result<Outcome, CaseFault> {
+    let goal = current(alloc, asked, setting, given)?;
+    changed(alloc, asked, &goal, setting, given)
+}
+
+/// The current goal with one instance changed. That goal is the one of the manifest under the setting.
+pub(crate) fn of_current(
+    alloc: Global,
+    setting: &Node,
+    given: &Node,
+) -> Result<Outcome, CaseFault> {
+    let asked = Asked::of(alloc, setting, given)?;
+    anew_of(alloc, &asked, setting, given)
+}
