@@ -1,7 +1,7 @@
 # run: the program on the first session.  build: proves and builds the program.  test: the gate.  trials: wrong bodies
 # that the gate does not try.  tables: the cases of all tables.  sessions: every session of sessions/ through the built
 # program.  bench: how times grow, of sessions, of the order of compilation, of texts read, of entries, of releases,
-# of cloud configs and addresses, of calls on a cloud, of entering a lock.  fmt: lays out all sources.
+# of cloud configs and addresses, of goals, of calls on a cloud, of entering a lock.  fmt: lays out all sources.
 .PHONY: run build test trials tables sessions bench kills fmt
 
 PROGRAM := crates/boshd/out/boshd
@@ -38,6 +38,7 @@ bench: build
 	@cd crates/bosh_release_bench && rt run < /dev/null > /dev/null
 	@cd crates/bosh_config_bench && rt run < /dev/null > /dev/null
 	@cd crates/bosh_cloud_bench && rt run < /dev/null > /dev/null
+	@cd crates/bosh_goal_bench && rt run < /dev/null > /dev/null
 	@cd crates/bosh_lock_bench && rt run < /dev/null > /dev/null
 	@cd crates/bosh_fold_bench && rt run < /dev/null > /dev/null
 	@cd crates/bosh_keep_bench && rt run < /dev/null > /dev/null

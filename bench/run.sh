@@ -5,7 +5,8 @@
 # form, and to look up each key of a mapping; and to read a MiB of each form, beside other readers. Then how fast the
 # body of a large entry is written and read, beside a plain copy of its bytes; and how long it takes to collect releases
 # of 64, 128 and 256 packages, each of which needs all before it. And how long it takes to check cloud configs of 8 and 16
-# networks, and to assign 512 addresses of which none, 16,384 and 32,768 are held. And how long ten calls take on each of
+# networks, and to assign 512 addresses of which none, 16,384 and 32,768 are held; and the goals of 64, 256 and 512 instances,
+# each of one job, and of 64 jobs with 200 properties each. And how long ten calls take on each of
 # 5,000 and 10,000 machines of a cloud, and a load of what they leave; and to enter a lock and leave it 1,000,000 times, in
 # one thread alone and in each of two, beside a mutex. And how long a deploy of 64, 256 and 512 instances takes from one
 # call to the next, each of which is done at once, and the fold of its entries. Each time is the least of five runs; only
@@ -21,6 +22,7 @@ releases=$top/crates/bosh_release_bench/out/bosh_release_bench
 config=$top/crates/bosh_config_bench/out/bosh_config_bench
 cloud=$top/crates/bosh_cloud_bench/out/bosh_cloud_bench
 lock=$top/crates/bosh_lock_bench/out/bosh_lock_bench
+goals=$top/crates/bosh_goal_bench/out/bosh_goal_bench
 fold=$top/crates/bosh_fold_bench/out/bosh_fold_bench
 folder=$(mktemp -d)
 trap 'rm -rf "$folder"' EXIT
@@ -157,3 +159,5 @@ table_of "$cloud" load "machines with ten calls, loaded" "the first" 5000 10000
 doors 1000
 table_of "$fold" drive "instances, from call to call" "the first" 64 256 512
 table_of "$fold" fold "instances, their entries folded" "the first" 64 256 512
+table_of "$goals" plain "instances of one job, their goal" "the first" 64 256 512
+table_of "$goals" full "instances of 64 jobs, their goal" "the first" 64 256 512
