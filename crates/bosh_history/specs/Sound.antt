@@ -1,6 +1,7 @@
 -- Which goals a task may open with, as facts on the goal and the records alone (this project's profile). The goal of
 -- a manifest, and a current goal with one row changed, are such.
-use Rattle.std.specs.Prelude.{◌≡◌, ℕ, Bool, true, false, eqb, nat_le, not, ◌&&◌, ◌||◌, ◌==◌, Option, Some, None, List, [], ◌∷◌, ◌++◌, map, filter, length}
+use Rattle.std.specs.Prelude.{◌≡◌, ℕ, Bool, true, false, eqb, nat_le, not, ◌&&◌, ◌||◌, ◌==◌, Option, Some, None}
+use Rattle.std.specs.Prelude.{List, [], ◌∷◌, ◌++◌, map, filter, length}
 use Rattle.std.specs.List.{list_any, list_all, flat_map}
 use Rattle.std.specs.Option.{option_eq}
 use Rattle.std.specs.Cmp.Lexicographic.{pointwise}

@@ -1,1 +1,1 @@
-mod MarkLemmas
+mod Marks

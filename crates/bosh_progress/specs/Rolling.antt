@@ -1,5 +1,6 @@
 -- When the update of an instance of a group may begin, and whose turn it is (bosh.io, "Deployment manifest", "update").
-use Rattle.std.specs.Prelude.{ℕ, Bool, true, ◌&&◌, ◌||◌, nat_lt, nat_le, min, List, Option, Some, None, if◌then◌else◌}
+use Rattle.std.specs.Prelude.{ℕ, Bool, true, ◌&&◌, ◌||◌, nat_lt, nat_le, min, List, Option, Some, None}
+use Rattle.std.specs.Prelude.{if◌then◌else◌}
 use Rattle.bosh_progress.specs.Tree.{first_marked, marked_in}
 use Rattle.bosh_progress.specs.declared.rolling.Rolling.{Rolling}
 

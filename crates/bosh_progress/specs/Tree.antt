@@ -1,5 +1,6 @@
 -- Marks that stand in a tree, in order.
-use Rattle.std.specs.Prelude.{◌≡◌, ℕ, ◌+◌, Bool, ◌&&◌, ◌==◌, List, [], ◌∷◌, ◌++◌, length, count_by, suc, true, false, Option, Some, None}
+use Rattle.std.specs.Prelude.{◌≡◌, ℕ, ◌+◌, Bool, ◌&&◌, ◌==◌, List, [], ◌∷◌, ◌++◌, length, count_by, suc, true}
+use Rattle.std.specs.Prelude.{false, Option, Some, None}
 use Rattle.std.specs.Option.{option_map}
 use Rattle.bosh_progress.specs.declared.tree.Tree.{Tree}
 use Rattle.bosh_progress.specs.declared.tree.Tree.TheVariants.{Empty, Leaf, Fork'}

@@ -76,7 +76,7 @@ impl PlaceSet {
         self.set(place, false);
     }
 
-    #[tactic(auto, using(crate::proofs::MarkLemmas::none_past))]
+    #[tactic(auto, using(crate::proofs::Marks::none_past))]
     fn set(&mut self, place: usize, mark: bool)
         ensures { self.new ≡ slice_set self.old place mark }
     {

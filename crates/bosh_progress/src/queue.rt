@@ -1,4 +1,5 @@
-ghost use Rattle.std.specs.Prelude.{◌≡◌, ◌==◌, [], replicate, slice_index_or, slice_set, false, true, if◌then◌else◌, IfOk};
+ghost use Rattle.std.specs.Prelude.{◌≡◌, ◌==◌, [], replicate, slice_index_or, slice_set, false, true};
+ghost use Rattle.std.specs.Prelude.{if◌then◌else◌, IfOk};
 ghost use Rattle.bosh_progress.specs.Tree.{first_marked, marked_in};
 
 use crate::PlaceSet;

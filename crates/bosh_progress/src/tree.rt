@@ -14,7 +14,7 @@ pub(crate) enum Tree {
 
 impl Tree {
     /// As many places, of which all are marked or none.
-    #[tactic(auto, using(crate::proofs::MarkLemmas::halves))]
+    #[tactic(auto, using(crate::proofs::Marks::halves))]
     pub(crate) fn filled(alloc: Global, len: usize, mark: bool) -> Result<Tree, AllocError>
         ensures { IfOk result (λ tree. IsWell tree × (marks tree ≡ replicate len mark)) }
     {
@@ -52,7 +52,7 @@ impl Tree {
         }
     }
 
-    #[tactic(auto, using(crate::proofs::MarkLemmas::set_first, crate::proofs::MarkLemmas::set_second, crate::proofs::MarkLemmas::as_long))]
+    #[tactic(auto, using(crate::proofs::Marks::set_first, crate::proofs::Marks::set_second, crate::proofs::Marks::as_long))]
     pub(crate) fn set(&mut self, place: usize, mark: bool)
         requires well { IsWell self.old }
         requires place { place < length (marks self.old) }
@@ -96,7 +96,7 @@ impl Tree {
         }
     }
 
-    #[tactic(auto, using(crate::proofs::MarkLemmas::found_first, crate::proofs::MarkLemmas::found_second, crate::proofs::MarkLemmas::found_below))]
+    #[tactic(auto, using(crate::proofs::Marks::found_first, crate::proofs::Marks::found_second, crate::proofs::Marks::found_in))]
     pub(crate) fn first(&self) -> Option<usize>
         requires { IsWell self.now }
         ensures { result ≡ first_marked (marks self.now) }
@@ -125,7 +125,7 @@ fn boxed(alloc: Global, tree: Tree) -> Result<Box<Tree>, AllocError>
 }
 
 // How many are marked in two trees that have room beside one another.
-#[tactic(auto, using(crate::proofs::MarkLemmas::counts_fit))]
+#[tactic(auto, using(crate::proofs::Marks::counts_fit))]
 fn marked_in_both(first: &Tree, second: &Tree) -> usize
     requires first { IsWell first.now }
     requires second { IsWell second.now }

@@ -33,11 +33,11 @@ found_later n place (Some p) below found = let small : p < n = below p refl in g
 found_later n place None below found = grind (arith, common_steps)
 
 -- a marked place is one of the list
-pub found_below : (xs : List Bool) (place : ℕ) → first_marked xs ≡ Some place → place < length xs
-found_below [] place found = grind (arith, common_steps)
-found_below (true ∷ xs) place found = grind (arith, common_steps)
-found_below (false ∷ xs) place found =
-    let below : place < suc (length xs) = found_later (length xs) place (first_marked xs) (found_below xs) found in
+pub found_in : (xs : List Bool) (place : ℕ) → first_marked xs ≡ Some place → place < length xs
+found_in [] place found = grind (arith, common_steps)
+found_in (true ∷ xs) place found = grind (arith, common_steps)
+found_in (false ∷ xs) place found =
+    let below : place < suc (length xs) = found_later (length xs) place (first_marked xs) (found_in xs) found in
     grind (arith, common_steps)
 
 pub counts_fit : (xs ys : List Bool) → length xs + length ys < 2 ^ 64 → marked_in xs + marked_in ys < 2 ^ 64
@@ -69,7 +69,7 @@ as_long xs zs i mark same = ap length same ∙ length-set xs i mark
 -- the sum of a length and of a place fits, where all of them do
 pub place_fits : (xs ys : List Bool) (place len : ℕ) → first_marked ys ≡ Some place → len ≡ length xs + length ys → len < 2 ^ 64 →
     length xs + place < 2 ^ 64
-place_fits xs ys place len found whole fits = let below : place < length ys = found_below ys place found in omega arith
+place_fits xs ys place len found whole fits = let below : place < length ys = found_in ys place found in omega arith
 
 -- there is no place past the last
 pub none_past : (xs : List Bool) (i : ℕ) (mark : Bool) → length xs ≤ i → xs ≡ slice_set xs i mark
