@@ -1,4 +1,4 @@
-//! Texts as JSON strings (RFC 8259, section 7), with the shortest escapes.
+//! Texts as JSON strings, with the shortest escapes (RFC 8259, "Strings").
 ghost use Rattle.std.specs.Prelude.{◌≡◌, ◌++◌, ◌<◌, OnOk, IfErr, true};
 ghost use Rattle.std.specs.Char.{digit_char, encode_utf8};
 ghost use Rattle.std.specs.List.{flat_map};
