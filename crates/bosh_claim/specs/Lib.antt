@@ -1,0 +1,14 @@
+pub mod Allowed
+pub mod Beginning
+pub mod Choice
+pub mod Ending
+pub mod Noted
+pub mod Number
+pub mod Opening
+pub mod Phase
+pub mod Slot
+pub mod Sound
+pub mod Step
+pub mod Sweep
+pub mod Updated
+pub mod Updating

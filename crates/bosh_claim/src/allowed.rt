@@ -1,3 +1,7 @@
+ghost use Rattle.std.specs.Prelude.{◌≡◌, IfOk};
+ghost use Rattle.std.specs.List.{list_any};
+ghost use Rattle.bosh_claim.specs.Allowed.{allowed, are_equal, ends_call, is_new_release, is_new_stemcell, same_release, same_stemcell};
+
 use crate::ClaimFault;
 use crate::beginning::begins;
 use crate::ending::{ends_task, ends_update, fails_task, leaves};
@@ -11,7 +15,9 @@ use std::cmp::Ordering;
 
 /// Whether an entry may stand after those that the records stand for. What a config says, and whether a release goes with
 /// the others, is not looked at; nor is whether a goal is the one that its manifest asks for.
-pub fn is_allowed(alloc: Global, records: &Records, entry: &Entry) -> Result<bool, ClaimFault> {
+pub fn is_allowed(alloc: Global, records: &Records, entry: &Entry) -> Result<bool, ClaimFault>
+    ensures { IfOk result (λ yes. yes ≡ allowed records.now entry.now) }
+{
     match entry {
         Entry::Release(release) => Ok(is_new_release(records, release)),
         Entry::Stemcell(stemcell) => Ok(is_new_stemcell(records, stemcell)),
@@ -30,24 +36,42 @@ pub fn is_allowed(alloc: Global, records: &Records, entry: &Entry) -> Result<boo
 }
 
 // Two versions that compare equal are one version.
-fn is_new_release(records: &Records, release: &Release) -> bool {
-    is_version(release.version.as_slice())
-        && !records.releases().iter().any(|it| it.name == release.name
-            && are_equal(it.version.as_slice(), release.version.as_slice()))
+fn is_new_release(records: &Records, release: &Release) -> bool
+    ensures { result ≡ is_new_release records.now release.now }
+{
+    is_version(release.version.as_slice()) && !has_release(records.releases(), release)
 }
 
-fn is_new_stemcell(records: &Records, stemcell: &Stemcell) -> bool {
-    is_version(stemcell.version.as_slice())
-        && !records.stemcells().iter().any(|it| it.os == stemcell.os
-            && are_equal(it.version.as_slice(), stemcell.version.as_slice()))
+fn has_release(releases: &[Release], release: &Release) -> bool
+    ensures { result ≡ list_any (same_release release.now) releases.now }
+{
+    releases.iter().any(|it| it.name == release.name
+        && are_equal(it.version.as_slice(), release.version.as_slice()))
 }
 
-fn are_equal(one: &[u8], other: &[u8]) -> bool {
+fn is_new_stemcell(records: &Records, stemcell: &Stemcell) -> bool
+    ensures { result ≡ is_new_stemcell records.now stemcell.now }
+{
+    is_version(stemcell.version.as_slice()) && !has_stemcell(records.stemcells(), stemcell)
+}
+
+fn has_stemcell(stemcells: &[Stemcell], stemcell: &Stemcell) -> bool
+    ensures { result ≡ list_any (same_stemcell stemcell.now) stemcells.now }
+{
+    stemcells.iter().any(|it| it.os == stemcell.os
+        && are_equal(it.version.as_slice(), stemcell.version.as_slice()))
+}
+
+fn are_equal(one: &[u8], other: &[u8]) -> bool
+    ensures { result ≡ are_equal one.now other.now }
+{
     matches!(version_order(one, other), Some(Ordering::Equal))
 }
 
 // The call is open, and the answer is of its kind.
-fn ends_call(records: &Records, end: &End) -> bool {
+fn ends_call(records: &Records, end: &End) -> bool
+    ensures { result ≡ ends_call records.now end.now }
+{
     match records.call(end.n) {
         Some(begin) => end.answer.is_kind(begin.call.method()),
         None => false,

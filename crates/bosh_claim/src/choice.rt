@@ -1,3 +1,7 @@
+ghost use Rattle.std.specs.Prelude.{◌≡◌, Err, IfErr, IfOk, OnOk};
+ghost use Rattle.bosh_claim.specs.Choice.{begun_by, choice_of, item_of, or_waits};
+ghost use Rattle.bosh_claim.specs.Noted.{beginning};
+
 use crate::ClaimFault;
 use crate::compile::slot_call;
 use crate::instance::{gone, ping};
@@ -21,12 +25,9 @@ pub enum Choice {
 
 /// What a worker of a task does next: the first of the rules that gives an answer decides. An ended task is over; one
 /// with a failed call is over once it has no open call; and else the items of the present phase are tried in order.
-pub fn choose(
-    alloc: Global,
-    records: &Records,
-    task: u64,
-    worker: u8,
-) -> Result<Choice, ClaimFault> {
+pub fn choose(alloc: Global, records: &Records, task: u64, worker: u8) -> Result<Choice, ClaimFault>
+    ensures { IfOk result (λ choice. choice ≡ choice_of records.now task worker) }
+{
     let Some(work) = records.work(task) else {
         return Ok(Choice::Over);
     };
@@ -43,7 +44,10 @@ pub fn choose(
     }
 }
 
-fn or_waits(entry: Result<Option<Entry>, ClaimFault>) -> Result<Choice, ClaimFault> {
+fn or_waits(entry: Result<Option<Entry>, ClaimFault>) -> Result<Choice, ClaimFault>
+    ensures ok { IfOk result (λ choice. IfOk entry (λ it. choice ≡ or_waits it)) }
+    ensures err { IfErr entry (λ fault. result ≡ Err fault) }
+{
     match entry {
         Ok(Some(entry)) => Ok(Choice::Noted(entry)),
         Ok(None) => Ok(Choice::Waits),
@@ -58,7 +62,9 @@ fn item(
     work: &Work,
     worker: u8,
     phase: Phase,
-) -> Result<Option<Entry>, ClaimFault> {
+) -> Result<Option<Entry>, ClaimFault>
+    ensures { IfOk result (λ entry. entry ≡ item_of records.now work.now worker phase) }
+{
     match phase {
         Phase::Ask => ping(alloc, records, work, worker),
         Phase::DeleteDisks => begin(records, work, worker, disk_call(records, work)),
@@ -78,15 +84,30 @@ pub(crate) fn begin(
     work: &Work,
     worker: u8,
     call: Option<(Owner, Call)>,
-) -> Result<Option<Entry>, ClaimFault> {
+) -> Result<Option<Entry>, ClaimFault>
+    ensures { IfOk result (λ entry. entry ≡ begun_by records.now work.now worker call) }
+{
     let Some((owner, call)) = call else {
         return Ok(None);
     };
-    Ok(Some(Entry::Begin(Begin {
+    Ok(Some(beginning(records, work, worker, owner, call)))
+}
+
+/// A call of an owner begins.
+pub(crate) fn beginning(
+    records: &Records,
+    work: &Work,
+    worker: u8,
+    owner: Owner,
+    call: Call,
+) -> Entry
+    ensures { result ≡ beginning records.now work.now worker owner call }
+{
+    Entry::Begin(Begin {
         n: records.last_call().saturating_add(1),
         task: work.task,
         worker,
         owner,
         call,
-    })))
+    })
 }

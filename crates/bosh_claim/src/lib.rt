@@ -8,6 +8,7 @@ mod compile;
 mod ending;
 mod fault;
 mod instance;
+mod number;
 mod opening;
 mod phase;
 mod place;

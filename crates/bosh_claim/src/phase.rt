@@ -1,3 +1,6 @@
+ghost use Rattle.std.specs.Prelude.{◌≡◌};
+ghost use Rattle.bosh_claim.specs.Phase.{least_stage, lesser, present};
+
 use bosh_fold::{GroupWork, Work};
 
 /// The phases of a task, in their order (bosh.io, "Deploying", for the order of compilation and updates).
@@ -18,7 +21,9 @@ pub enum Phase {
 }
 
 /// The first phase in which something is left to do.
-pub fn present(work: &Work) -> Option<Phase> {
+pub fn present(work: &Work) -> Option<Phase>
+    ensures { result ≡ present work.now }
+{
     if !work.pings.queue.is_over() {
         return Some(Phase::Ask);
     }
@@ -38,7 +43,9 @@ pub fn present(work: &Work) -> Option<Phase> {
 }
 
 // The least stage of the groups that are left.
-fn stage(groups: &[GroupWork]) -> Option<u32> {
+fn stage(groups: &[GroupWork]) -> Option<u32>
+    ensures { result ≡ least_stage groups.now }
+{
     let mut least: Option<u32> = None;
     for group in groups {
         if !group.roll.is_over() {
@@ -48,7 +55,9 @@ fn stage(groups: &[GroupWork]) -> Option<u32> {
     least
 }
 
-fn lesser(least: Option<u32>, stage: u32) -> u32 {
+fn lesser(least: Option<u32>, stage: u32) -> u32
+    ensures { result ≡ lesser least stage }
+{
     match least {
         Some(other) => other.min(stage),
         None => stage,

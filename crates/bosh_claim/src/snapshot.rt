@@ -1,55 +1,97 @@
-use bosh_base::{Call, CompileRow, DiskRow, Doubt, Role, Row, Snapshot, TaskRow};
+ghost use Rattle.std.specs.Prelude.{◌≡◌, ◌==◌, count_by};
+ghost use Rattle.std.specs.List.{list_all, list_any};
+ghost use Rattle.std.specs.Option.{option_copied};
+ghost use Rattle.bosh_rows.specs.CallOf.{is_doubt_on_machine};
+ghost use Rattle.bosh_rows.specs.Disks.{is_active};
+ghost use Rattle.bosh_claim.specs.Opening.{has_lock};
+ghost use Rattle.bosh_claim.specs.Sound.{are_distinct, are_numbered, have_locks_of_their_own, is_sound, is_sound_machine, is_sound_row};
+
+use crate::number::is_next;
+use crate::opening::has_lock;
+use bosh_base::{Call, CompileRow, DiskRow, Doubt, Role, Row, Seq, Snapshot, TaskRow};
 
 /// Whether a store may begin with a snapshot: its rows, compile machines and tasks are such as entries leave them.
-pub(crate) fn is_sound(snapshot: &Snapshot) -> bool {
-    snapshot.rows.iter().all(is_sound_row)
-        && snapshot.compile_rows.iter().all(is_sound_machine)
-        && are_numbered(snapshot.tasks.as_slice())
+pub(crate) fn is_sound(snapshot: &Snapshot) -> bool
+    ensures { result ≡ is_sound snapshot.now }
+{
+    are_sound_rows(snapshot.rows.as_slice())
+        && are_sound_machines(snapshot.compile_rows.as_slice())
+        && are_numbered(&snapshot.tasks)
         && have_locks_of_their_own(snapshot.tasks.as_slice())
+}
+
+fn are_sound_rows(rows: &[Row]) -> bool
+    ensures { result ≡ list_all is_sound_row rows.now }
+{
+    rows.iter().all(is_sound_row)
+}
+
+fn are_sound_machines(rows: &[CompileRow]) -> bool
+    ensures { result ≡ list_all is_sound_machine rows.now }
+{
+    rows.iter().all(is_sound_machine)
 }
 
 // A machine is recorded where one was lost, or a call in doubt names one; no disk stands twice, and one at most is
 // active.
-fn is_sound_row(row: &Row) -> bool {
+fn is_sound_row(row: &Row) -> bool
+    ensures { result ≡ is_sound_row row.now }
+{
     (row.vm.is_some() || (!row.lost && !needs_machine(row.doubt.as_ref())))
         && are_distinct(row.disks.as_slice())
-        && row
-            .disks
-            .iter()
-            .filter(|disk| disk.role == Role::Active)
-            .count()
-            <= 1
+        && actives(row.disks.as_slice()) <= 1
 }
 
-fn needs_machine(doubt: Option<&Doubt>) -> bool {
+fn actives(disks: &[DiskRow]) -> usize
+    ensures { result ≡ count_by is_active disks.now }
+{
+    disks
+        .iter()
+        .filter(|disk| disk.role == Role::Active)
+        .count()
+}
+
+fn needs_machine(doubt: Option<&Doubt>) -> bool
+    ensures { result ≡ is_doubt_on_machine (option_copied doubt.entry) }
+{
     match doubt {
         Some(doubt) => !matches!(doubt.call, Call::CreateVm { .. }),
         None => false,
     }
 }
 
-fn are_distinct(disks: &[DiskRow]) -> bool {
-    for (place, disk) in disks.iter().enumerate() {
-        if disks
-            .iter()
-            .take(place)
-            .any(|other| other.disk == disk.disk)
-        {
+fn are_distinct(disks: &[DiskRow]) -> bool
+    ensures { result ≡ are_distinct disks.now }
+{
+    let mut left = disks;
+    while let [disk, rest @ ..] = left {
+        if has_disk(rest, disk.disk) {
             return false;
         }
+        left = rest;
     }
     true
 }
 
-fn is_sound_machine(row: &CompileRow) -> bool {
+fn has_disk(disks: &[DiskRow], disk: u64) -> bool
+    ensures { result ≡ list_any (λ other. other.disk == disk) disks.now }
+{
+    disks.iter().any(|other| other.disk == disk)
+}
+
+fn is_sound_machine(row: &CompileRow) -> bool
+    ensures { result ≡ is_sound_machine row.now }
+{
     row.vm.is_some() || (row.doubt.is_some() && !needs_machine(row.doubt.as_ref()))
 }
 
 // They are numbered from 1 on, in order.
-fn are_numbered(tasks: &[TaskRow]) -> bool {
+fn are_numbered(tasks: &Seq<TaskRow>) -> bool
+    ensures { result ≡ are_numbered 0 tasks.now }
+{
     let mut last = 0u64;
-    for row in tasks {
-        if Some(row.task) != last.checked_add(1) {
+    for row in tasks.iter() {
+        if !is_next(row.task, last) {
             return false;
         }
         last = row.task;
@@ -58,18 +100,21 @@ fn are_numbered(tasks: &[TaskRow]) -> bool {
 }
 
 // No two open tasks are of one deployment, or of none.
-fn have_locks_of_their_own(tasks: &[TaskRow]) -> bool {
-    for (place, row) in tasks.iter().enumerate() {
-        if row.end.is_none() && shares_a_lock(tasks, place, row) {
+fn have_locks_of_their_own(tasks: &[TaskRow]) -> bool
+    ensures { result ≡ have_locks_of_their_own tasks.now }
+{
+    let mut left = tasks;
+    while let [row, rest @ ..] = left {
+        if row.end.is_none() && shares_a_lock(row, rest) {
             return false;
         }
+        left = rest;
     }
     true
 }
 
-fn shares_a_lock(tasks: &[TaskRow], place: usize, row: &TaskRow) -> bool {
-    tasks
-        .iter()
-        .take(place)
-        .any(|other| other.end.is_none() && other.dep == row.dep)
+fn shares_a_lock(row: &TaskRow, others: &[TaskRow]) -> bool
+    ensures { result ≡ list_any (has_lock row.now.dep) others.now }
+{
+    others.iter().any(|other| has_lock(row.dep.as_ref(), other))
 }

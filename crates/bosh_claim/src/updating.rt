@@ -1,9 +1,14 @@
+ghost use Rattle.std.specs.Prelude.{◌≡◌, option_map};
+ghost use Rattle.bosh_claim.specs.Updating.{begins_update, is_stage, of_present};
+
 use crate::phase::{Phase, present};
 use bosh_base::{Inst, Update};
 use bosh_fold::{GroupPlace, GroupWork, Records, Work};
 
 /// Whether the update of an instance may begin: its group's turn is now, and canaries and limit allow it.
-pub(crate) fn begins_update(records: &Records, update: &Update) -> bool {
+pub(crate) fn begins_update(records: &Records, update: &Update) -> bool
+    ensures { result ≡ begins_update records.now update.now }
+{
     let Some(work) = records.work(update.task) else {
         return false;
     };
@@ -20,12 +25,24 @@ pub(crate) fn of_present<'a>(
     records: &Records,
     work: &'a Work,
     inst: &Inst,
-) -> Option<(&'a GroupWork, usize)> {
+) -> Option<(&'a GroupWork, usize)>
+    ensures { option_map (λ it. (it.0.now, it.1)) result ≡ of_present records.now work.now inst.now }
+{
     let change: GroupPlace = records.instance(inst)?.part.change?;
     let group = work.groups.get(change.group)?;
-    if present(work)? == Phase::Update(group.stage) {
+    if is_stage(present(work), group.stage) {
         Some((group, change.place))
     } else {
         None
+    }
+}
+
+/// Whether a phase is that of the groups of a stage.
+fn is_stage(phase: Option<Phase>, stage: u32) -> bool
+    ensures { result ≡ is_stage phase stage }
+{
+    match phase {
+        Some(Phase::Update(it)) => it == stage,
+        _ => false,
     }
 }

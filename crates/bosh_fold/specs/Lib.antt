@@ -1,1 +1,13 @@
+pub mod Begun
+pub mod Came
+pub mod Ended
+pub mod Instances
+pub mod Keys
+pub mod Planned
+pub mod Readers
 pub mod Room
+pub mod Snapshot
+pub mod Table
+pub mod Updated
+pub mod View
+pub mod Work

@@ -1,5 +1,5 @@
 -- What was made ready for an entry.
-use Rattle.std.specs.Prelude.{ℕ, ◌<◌}
+use Rattle.std.specs.Prelude.{◌<◌}
 use Rattle.std.specs.Vec.{vec_len, vec_capacity}
 use Rattle.bosh_fold.specs.declared.change.Change.{Change}
 use Rattle.bosh_fold.specs.declared.change.Change.TheVariants.{Release, Stemcell}

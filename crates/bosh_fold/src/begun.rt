@@ -1,5 +1,11 @@
+ghost use Rattle.std.specs.Prelude.{◌≡◌, IfOk};
+ghost use Rattle.std.specs.Option.{option_copied};
+ghost use Rattle.bosh_fold.specs.Begun.{compile_row_of, dep_of_task, doubt_of, machine_begun, next_key, row_begun, row_or_bare, subject_of};
+ghost use Rattle.bosh_fold.specs.Came.{came};
+
 use crate::place::{beside, put_where};
-use crate::{FoldFault, Machine, MachineName, Records};
+use crate::table::Table;
+use crate::{FoldFault, LooseDisk, Machine, MachineName, Records};
 use bosh_base::{Begin, Call, CompileRow, Copyable, Doubt, Inst, Make, Name, Owner, Row};
 use bosh_rows::{bare, begin};
 
@@ -22,14 +28,21 @@ pub struct Begun {
 }
 
 impl Records {
-    pub(crate) fn plan_begin(&mut self, begin: &Begin) -> Result<Begun, FoldFault> {
+    pub(crate) fn plan_begin(&mut self, begin: &Begin) -> Result<Begun, FoldFault>
+        ensures begins { IfOk result (λ begun. begun.begin ≡ begin.now) }
+        ensures subject { IfOk result (λ begun. begun.subject ≡ subject_of self.old begin.now) }
+        ensures same { came self.new ≡ came self.old }
+    {
         self.calls.ensure(begin.n)?;
         let copy = begin.copy(self.alloc)?;
         let (begin, subject) = beside(copy, self.begun(begin))?;
         Ok(Begun { begin, subject })
     }
 
-    fn begun(&mut self, begin: &Begin) -> Result<Subject, FoldFault> {
+    fn begun(&mut self, begin: &Begin) -> Result<Subject, FoldFault>
+        ensures begun { IfOk result (λ subject. subject ≡ subject_of self.old begin.now) }
+        ensures same { came self.new ≡ came self.old }
+    {
         match (&begin.owner, &begin.call) {
             (Owner::Instance(inst), _) => Ok(Subject::Instance(self.row_begun(inst, begin)?)),
             (Owner::Compile(task, slot), Call::CreateVm { make, .. }) => {
@@ -47,7 +60,10 @@ impl Records {
         }
     }
 
-    fn row_begun(&mut self, inst: &Inst, begun: &Begin) -> Result<Row, FoldFault> {
+    fn row_begun(&mut self, inst: &Inst, begun: &Begin) -> Result<Row, FoldFault>
+        ensures begun { IfOk result (λ row. row ≡ row_begun self.old begun.now inst.now) }
+        ensures same { came self.new ≡ came self.old }
+    {
         self.instances.ensure(self.alloc, inst)?;
         let mut row = self.row_or_bare(inst)?;
         let begun = begin(self.alloc, &mut row, begun.n, &begun.call);
@@ -55,14 +71,18 @@ impl Records {
         Ok(row)
     }
 
-    fn row_or_bare(&self, inst: &Inst) -> Result<Row, FoldFault> {
+    fn row_or_bare(&self, inst: &Inst) -> Result<Row, FoldFault>
+        ensures { IfOk result (λ row. row ≡ row_or_bare self.now inst.now) }
+    {
         match self.instances.row(inst) {
             Some(row) => Ok(row.copy(self.alloc)?),
             None => Ok(bare(self.alloc, inst.copy(self.alloc)?)),
         }
     }
 
-    fn doubt(&self, begin: &Begin) -> Result<Doubt, FoldFault> {
+    fn doubt(&self, begin: &Begin) -> Result<Doubt, FoldFault>
+        ensures { IfOk result (λ doubt. doubt ≡ doubt_of begin.now) }
+    {
         let call = begin.call.copy(self.alloc)?;
         Ok(Doubt { n: begin.n, call })
     }
@@ -73,7 +93,10 @@ impl Records {
         name: MachineName,
         make: &Make,
         begin: &Begin,
-    ) -> Result<Subject, FoldFault> {
+    ) -> Result<Subject, FoldFault>
+        ensures begun { IfOk result (λ subject. subject ≡ machine_begun self.old begin.now name make.now) }
+        ensures same { came self.new ≡ came self.old }
+    {
         self.machines.ensure(name)?;
         let Some(dep) = self.dep_of_task(name.task) else {
             return Ok(Subject::Same);
@@ -93,7 +116,9 @@ impl Records {
         dep: &Name,
         make: &Make,
         begin: &Begin,
-    ) -> Result<CompileRow, FoldFault> {
+    ) -> Result<CompileRow, FoldFault>
+        ensures { IfOk result (λ row. row ≡ compile_row_of begin.now name make.now dep.now) }
+    {
         let doubt = self.doubt(begin)?;
         let make = make.copy(self.alloc)?;
         let dep = dep.copy(self.alloc)?;
@@ -107,15 +132,21 @@ impl Records {
         })
     }
 
-    fn dep_of_task(&self, task: u64) -> Option<&Name> {
+    fn dep_of_task(&self, task: u64) -> Option<&Name>
+        ensures { option_copied result ≡ dep_of_task self.now task }
+    {
         self.task(task)?.dep.as_ref()
     }
 
-    fn next_key(&self, task: u64) -> Option<usize> {
+    fn next_key(&self, task: u64) -> Option<usize>
+        ensures { result ≡ next_key self.now task }
+    {
         self.work(task)?.keys.next()
     }
 
-    pub(crate) fn learn_begin(&mut self, begun: Begun) {
+    pub(crate) fn learn_begin(&mut self, begun: Begun)
+        ensures { came self.new ≡ record (came self.old) { last_call = begun.begin.n } }
+    {
         let Begun { begin, subject } = begun;
         self.set_subject(&begin.owner, subject);
         self.open_call(&begin);
@@ -125,13 +156,17 @@ impl Records {
         self.calls.put(&n, begin);
     }
 
-    fn open_call(&mut self, begin: &Begin) {
+    fn open_call(&mut self, begin: &Begin)
+        ensures { came self.new ≡ came self.old }
+    {
         self.set_open_call(&begin.owner, Some(begin.n));
         self.set_compiling(&begin.call, Some(begin.n));
         self.take(begin.task, &begin.owner);
     }
 
-    fn count_call(&mut self, task: u64) {
+    fn count_call(&mut self, task: u64)
+        ensures { came self.new ≡ came self.old }
+    {
         if let Some(row) = self.tasks.get_mut(&task) {
             if let Some(calls) = row.calls {
                 row.calls = Some(calls.saturating_add(1));
@@ -139,7 +174,9 @@ impl Records {
         }
     }
 
-    fn set_subject(&mut self, owner: &Owner, subject: Subject) {
+    fn set_subject(&mut self, owner: &Owner, subject: Subject)
+        ensures { came self.new ≡ came self.old }
+    {
         match subject {
             Subject::Instance(row) => self.instances.record(row),
             Subject::Machine(machine) => self.add_machine(machine),
@@ -148,7 +185,9 @@ impl Records {
         }
     }
 
-    fn add_machine(&mut self, machine: Machine) {
+    fn add_machine(&mut self, machine: Machine)
+        ensures { came self.new ≡ came self.old }
+    {
         let name = MachineName {
             task: machine.row.task,
             slot: machine.row.slot,
@@ -162,32 +201,17 @@ impl Records {
         self.machines.put(&name, machine);
     }
 
-    fn set_doubt(&mut self, owner: &Owner, doubt: Doubt) {
-        let place = self.doubt_place(owner);
+    fn set_doubt(&mut self, owner: &Owner, doubt: Doubt)
+        ensures { came self.new ≡ came self.old }
+    {
+        let place = doubt_place(&mut self.machines, &mut self.orphans, owner);
         put_where(place, Some(doubt));
     }
 
-    // Where the doubt of a compile machine or of an orphaned disk stands.
-    fn doubt_place(&mut self, owner: &Owner) -> Option<&mut Option<Doubt>> {
-        match owner {
-            Owner::Instance(_) => None,
-            Owner::Compile(task, slot) => {
-                let name = MachineName {
-                    task: *task,
-                    slot: *slot,
-                };
-                let machine = self.machines.get_mut(&name)?;
-                Some(&mut machine.row.doubt)
-            }
-            Owner::Disk(disk) => {
-                let loose = self.orphans.get_mut(disk)?;
-                Some(&mut loose.orphan.doubt)
-            }
-        }
-    }
-
     /// Notes the open call of an owner, or that it has none.
-    pub(crate) fn set_open_call(&mut self, owner: &Owner, call: Option<u64>) {
+    pub(crate) fn set_open_call(&mut self, owner: &Owner, call: Option<u64>)
+        ensures { came self.new ≡ came self.old }
+    {
         match owner {
             Owner::Instance(inst) => self.instances.set_call(inst, call),
             Owner::Compile(task, slot) => {
@@ -208,17 +232,44 @@ impl Records {
     }
 
     /// Notes the open call that compiles a key, or that none does.
-    pub(crate) fn set_compiling(&mut self, call: &Call, open: Option<u64>) {
+    pub(crate) fn set_compiling(&mut self, call: &Call, open: Option<u64>)
+        ensures { came self.new ≡ came self.old }
+    {
         if let Call::CompilePackage { work, .. } = call {
             self.keys.set_call(&work.key, open);
         }
     }
 
     // Somebody works on an owner for a task.
-    fn take(&mut self, task: u64, owner: &Owner) {
+    fn take(&mut self, task: u64, owner: &Owner)
+        ensures { came self.new ≡ came self.old }
+    {
         let places = self.places_of(owner);
         if let Some(work) = self.works.get_mut(&task) {
             work.take(places);
+        }
+    }
+}
+
+// Where the doubt of a compile machine or of an orphaned disk stands.
+fn doubt_place<'a>(
+    machines: &'a mut Table<MachineName, Machine>,
+    orphans: &'a mut Table<u64, LooseDisk>,
+    owner: &Owner,
+) -> Option<&'a mut Option<Doubt>> {
+    match owner {
+        Owner::Instance(_) => None,
+        Owner::Compile(task, slot) => {
+            let name = MachineName {
+                task: *task,
+                slot: *slot,
+            };
+            let machine = machines.get_mut(&name)?;
+            Some(&mut machine.row.doubt)
+        }
+        Owner::Disk(disk) => {
+            let loose = orphans.get_mut(disk)?;
+            Some(&mut loose.orphan.doubt)
         }
     }
 }

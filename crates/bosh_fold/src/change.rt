@@ -1,4 +1,7 @@
-ghost use Rattle.std.specs.Prelude.{IfOk};
+ghost use Rattle.std.specs.Prelude.{◌≡◌, IfOk, OnErr, OnOk};
+ghost use Rattle.bosh_fold.specs.Came.{came, came_with};
+ghost use Rattle.bosh_fold.specs.Planned.{IsPlanned, came_after};
+ghost use Rattle.bosh_fold.specs.declared.change.Change.TheVariants as changes;
 ghost use Rattle.bosh_fold.specs.Room.{HasRoom};
 
 use crate::place::put;
@@ -24,7 +27,9 @@ pub enum Change {
 impl Records {
     /// What an entry changes. It takes all the memory that is needed, and what is recorded stays as it is.
     pub fn plan(&mut self, entry: &Entry) -> Result<Change, FoldFault>
-        ensures { IfOk result (λ change. HasRoom self.new change) }
+        ensures room { IfOk result (λ change. HasRoom self.new change) }
+        ensures planned { IfOk result (λ change. IsPlanned self.old entry.now change) }
+        ensures same { came self.new ≡ came self.old }
     {
         match entry {
             Entry::Release(release) => self.plan_release(release),
@@ -45,14 +50,18 @@ impl Records {
     }
 
     fn plan_release(&mut self, release: &Release) -> Result<Change, FoldFault>
-        ensures { IfOk result (λ change. HasRoom self.new change) }
+        ensures room { IfOk result (λ change. HasRoom self.new change) }
+        ensures planned { IfOk result (λ change. change ≡ changes.Release release.now) }
+        ensures same { came self.new ≡ came self.old }
     {
         self.releases.reserve(1)?;
         Ok(Change::Release(release.copy(self.alloc)?))
     }
 
     fn plan_stemcell(&mut self, stemcell: &Stemcell) -> Result<Change, FoldFault>
-        ensures { IfOk result (λ change. HasRoom self.new change) }
+        ensures room { IfOk result (λ change. HasRoom self.new change) }
+        ensures planned { IfOk result (λ change. change ≡ changes.Stemcell stemcell.now) }
+        ensures same { came self.new ≡ came self.old }
     {
         self.stemcells.reserve(1)?;
         Ok(Change::Stemcell(stemcell.copy(self.alloc)?))
@@ -61,6 +70,7 @@ impl Records {
     /// Takes what a planned entry changes into the records. It takes no memory.
     pub fn learn(&mut self, entry: &Entry, change: Change)
         requires { HasRoom self.old change }
+        ensures { came self.new ≡ came_after change (came self.old) }
     {
         match change {
             Change::Release(release) => self.releases.push_reserved(release),
@@ -78,7 +88,10 @@ impl Records {
     }
 
     /// Takes one more entry into the records. For want of memory nothing changes.
-    pub fn apply(&mut self, entry: &Entry) -> Result<(), FoldFault> {
+    pub fn apply(&mut self, entry: &Entry) -> Result<(), FoldFault>
+        ensures ok { OnOk result (came self.new ≡ came_with entry.now (came self.old)) }
+        ensures err { OnErr result (came self.new ≡ came self.old) }
+    {
         let change = self.plan(entry)?;
         self.learn(entry, change);
         Ok(())

@@ -1,5 +1,14 @@
+ghost use Rattle.std.specs.Prelude.{◌≡◌, IfOk};
+ghost use Rattle.std.specs.Option.{option_map};
+ghost use Rattle.bosh_rows.specs.After.{after};
+ghost use Rattle.bosh_fold.specs.Came.{came};
+ghost use Rattle.bosh_fold.specs.Ended.{after_of, built_by, disk_told, ended_of, failure, fails_gone, fault_of, found, gone_of, is_lost, is_told, machine_told};
+ghost use Rattle.bosh_fold.specs.Readers.{row_at};
+ghost use Rattle.bosh_fold.specs.declared.ended.After.TheVariants as afters;
+
 use crate::place::{beside, let_go, put};
-use crate::{FoldFault, MachineName, Records};
+use crate::table::Table;
+use crate::{FoldFault, MachineName, Records, Work};
 use bosh_base::{Answer, Begin, Call, Copyable, Digest, End, Inst, Key, Owner, Row, TaskEnd, Vm};
 use bosh_rows::after;
 use std::alloc::Global;
@@ -33,7 +42,9 @@ pub struct Ended {
 }
 
 impl Records {
-    pub(crate) fn plan_end(&self, end: &End) -> Result<Ended, FoldFault> {
+    pub(crate) fn plan_end(&self, end: &End) -> Result<Ended, FoldFault>
+        ensures { IfOk result (λ ended. ended ≡ ended_of self.now end.now) }
+    {
         let failed = self.failure(end)?;
         let after = self.after(end)?;
         Ok(Ended {
@@ -41,11 +52,13 @@ impl Records {
             after,
             failed,
             built: built_by(&end.answer),
-            is_asked: !matches!(end.answer, Answer::Failed),
+            is_asked: is_told(&end.answer),
         })
     }
 
-    fn after(&self, end: &End) -> Result<Option<After>, FoldFault> {
+    fn after(&self, end: &End) -> Result<Option<After>, FoldFault>
+        ensures { IfOk result (λ after. after ≡ after_of self.now end.now) }
+    {
         let Some(begin) = self.call(end.n) else {
             return Ok(None);
         };
@@ -65,7 +78,11 @@ impl Records {
         inst: &Inst,
         begin: &Begin,
         answer: &Answer,
-    ) -> Result<Option<After>, FoldFault> {
+    ) -> Result<Option<After>, FoldFault>
+        ensures { IfOk result (λ told. told
+            ≡ option_map (λ row. afters.Instance (after begin.now.n begin.now.call answer.now row))
+            (row_at self.now inst.now)) }
+    {
         let Some(row) = self.row(inst) else {
             return Ok(None);
         };
@@ -77,7 +94,9 @@ impl Records {
 
     // A call fails where it is answered so, and where what it names is gone: but for a ping, and for the deletion of a
     // machine that is known to be lost.
-    fn failure(&self, end: &End) -> Result<Option<TaskEnd>, FoldFault> {
+    fn failure(&self, end: &End) -> Result<Option<TaskEnd>, FoldFault>
+        ensures { IfOk result (λ failed. failed ≡ failure self.now end.now) }
+    {
         let Some(begin) = self.call(end.n) else {
             return Ok(None);
         };
@@ -88,7 +107,9 @@ impl Records {
         }
     }
 
-    fn fails_gone(&self, begin: &Begin) -> bool {
+    fn fails_gone(&self, begin: &Begin) -> bool
+        ensures { result ≡ fails_gone self.now begin.now }
+    {
         match &begin.call {
             Call::Ping { .. } => false,
             Call::DeleteVm { .. } => !self.is_lost(&begin.owner),
@@ -96,7 +117,9 @@ impl Records {
         }
     }
 
-    fn is_lost(&self, owner: &Owner) -> bool {
+    fn is_lost(&self, owner: &Owner) -> bool
+        ensures { result ≡ is_lost self.now owner.now }
+    {
         let Owner::Instance(inst) = owner else {
             return false;
         };
@@ -106,14 +129,18 @@ impl Records {
         }
     }
 
-    pub(crate) fn learn_end(&mut self, ended: Ended) {
+    pub(crate) fn learn_end(&mut self, ended: Ended)
+        ensures { came self.new ≡ came self.old }
+    {
         match self.calls.remove(&ended.n) {
             Some(begin) => self.answered(&begin, ended),
             None => let_go(ended),
         }
     }
 
-    fn answered(&mut self, begin: &Begin, ended: Ended) {
+    fn answered(&mut self, begin: &Begin, ended: Ended)
+        ensures { came self.new ≡ came self.old }
+    {
         let Ended {
             n: _,
             after,
@@ -127,7 +154,9 @@ impl Records {
         self.tell(&begin.owner, after);
     }
 
-    fn close_call(&mut self, begin: &Begin, is_asked: bool) {
+    fn close_call(&mut self, begin: &Begin, is_asked: bool)
+        ensures { came self.new ≡ came self.old }
+    {
         self.set_open_call(&begin.owner, None);
         self.set_compiling(&begin.call, None);
         self.give(begin.task, begin);
@@ -137,7 +166,9 @@ impl Records {
     }
 
     // An answered ping is noted for its instance.
-    fn asked(&mut self, begin: &Begin) {
+    fn asked(&mut self, begin: &Begin)
+        ensures { came self.new ≡ came self.old }
+    {
         let Some(place) = self.instances.ping_of(&begin.owner) else {
             return;
         };
@@ -146,14 +177,18 @@ impl Records {
         }
     }
 
-    fn fail(&mut self, task: u64, failed: Option<TaskEnd>) {
+    fn fail(&mut self, task: u64, failed: Option<TaskEnd>)
+        ensures { came self.new ≡ came self.old }
+    {
         if let Some(work) = self.works.get_mut(&task) {
             work.fail(failed);
         }
     }
 
     // Nobody works on the owner of a call any more.
-    fn give(&mut self, task: u64, begin: &Begin) {
+    fn give(&mut self, task: u64, begin: &Begin)
+        ensures { came self.new ≡ came self.old }
+    {
         let places = self.places_of(&begin.owner);
         if let Some(work) = self.works.get_mut(&task) {
             work.give(places);
@@ -161,18 +196,18 @@ impl Records {
     }
 
     // A compilation that is answered records its key, whatever becomes of the task.
-    fn built(&mut self, call: &Call, built: Option<Digest>) {
+    fn built(&mut self, call: &Call, built: Option<Digest>)
+        ensures { came self.new ≡ came self.old }
+    {
         if let (Call::CompilePackage { work, .. }, Some(digest)) = (call, built) {
             self.keys.set_digest(&work.key, digest);
-            for place in self.works.places_mut() {
-                if let Some(it) = place {
-                    it.keys.compiled(&work.key);
-                }
-            }
+            compiled(&mut self.works, &work.key);
         }
     }
 
-    fn tell(&mut self, owner: &Owner, after: Option<After>) {
+    fn tell(&mut self, owner: &Owner, after: Option<After>)
+        ensures { came self.new ≡ came self.old }
+    {
         match after {
             None => {}
             Some(After::Instance(row)) => self.instances.record(row),
@@ -180,7 +215,9 @@ impl Records {
         }
     }
 
-    fn tell_other(&mut self, owner: &Owner, told: Told) {
+    fn tell_other(&mut self, owner: &Owner, told: Told)
+        ensures { came self.new ≡ came self.old }
+    {
         match owner {
             Owner::Instance(_) => {}
             Owner::Compile(task, slot) => {
@@ -194,7 +231,9 @@ impl Records {
         }
     }
 
-    fn tell_machine(&mut self, name: MachineName, told: Told) {
+    fn tell_machine(&mut self, name: MachineName, told: Told)
+        ensures { came self.new ≡ came self.old }
+    {
         match told {
             Told::Nothing => {}
             Told::There(vm) => {
@@ -207,7 +246,9 @@ impl Records {
         }
     }
 
-    fn drop_machine(&mut self, name: MachineName) {
+    fn drop_machine(&mut self, name: MachineName)
+        ensures { came self.new ≡ came self.old }
+    {
         let Some((key, sweep)) = self.uses_of(name) else {
             return;
         };
@@ -216,7 +257,7 @@ impl Records {
             work.drop_machine(key);
         }
         if let Some(place) = sweep {
-            self.swept(name, place);
+            swept(&mut self.works, name, place);
         }
     }
 
@@ -226,7 +267,9 @@ impl Records {
         Some((machine.key, machine.sweep))
     }
 
-    fn tell_disk(&mut self, disk: u64, told: Told) {
+    fn tell_disk(&mut self, disk: u64, told: Told)
+        ensures { came self.new ≡ came self.old }
+    {
         match told {
             Told::Nothing => {}
             Told::There(_) => {
@@ -238,39 +281,59 @@ impl Records {
         }
     }
 
-    fn drop_disk(&mut self, disk: u64) {
+    fn drop_disk(&mut self, disk: u64)
+        ensures { came self.new ≡ came self.old }
+    {
         let place = self.places_of(&Owner::Disk(disk)).deleting;
         self.orphans.delete(&disk);
         if let Some(place) = place {
-            self.deleted(disk, place);
-        }
-    }
-
-    fn swept(&mut self, name: MachineName, at: usize) {
-        for place in self.works.places_mut() {
-            if let Some(work) = place {
-                work.swept(name, at);
-            }
-        }
-    }
-
-    fn deleted(&mut self, disk: u64, at: usize) {
-        for place in self.works.places_mut() {
-            if let Some(work) = place {
-                work.deleted(disk, at);
-            }
+            deleted(&mut self.works, disk, place);
         }
     }
 }
 
-fn built_by(answer: &Answer) -> Option<Digest> {
+fn compiled(works: &mut Table<u64, Work>, key: &Key) {
+    for place in works.places_mut() {
+        if let Some(work) = place {
+            work.keys.compiled(key);
+        }
+    }
+}
+
+fn swept(works: &mut Table<u64, Work>, name: MachineName, at: usize) {
+    for place in works.places_mut() {
+        if let Some(work) = place {
+            work.swept(name, at);
+        }
+    }
+}
+
+fn deleted(works: &mut Table<u64, Work>, disk: u64, at: usize) {
+    for place in works.places_mut() {
+        if let Some(work) = place {
+            work.deleted(disk, at);
+        }
+    }
+}
+
+fn is_told(answer: &Answer) -> bool
+    ensures { result ≡ is_told answer.now }
+{
+    !matches!(answer, Answer::Failed)
+}
+
+fn built_by(answer: &Answer) -> Option<Digest>
+    ensures { result ≡ built_by answer.now }
+{
     match answer {
         Answer::Built(digest) => Some(*digest),
         _ => None,
     }
 }
 
-fn fault_of(alloc: Global, begin: &Begin) -> Result<TaskEnd, FoldFault> {
+fn fault_of(alloc: Global, begin: &Begin) -> Result<TaskEnd, FoldFault>
+    ensures { IfOk result (λ end. end ≡ fault_of begin.now) }
+{
     let owner = begin.owner.copy(alloc)?;
     Ok(TaskEnd::Fault {
         n: begin.n,
@@ -279,7 +342,9 @@ fn fault_of(alloc: Global, begin: &Begin) -> Result<TaskEnd, FoldFault> {
     })
 }
 
-fn gone_of(alloc: Global, begin: &Begin) -> Result<TaskEnd, FoldFault> {
+fn gone_of(alloc: Global, begin: &Begin) -> Result<TaskEnd, FoldFault>
+    ensures { IfOk result (λ end. end ≡ gone_of begin.now) }
+{
     let owner = begin.owner.copy(alloc)?;
     Ok(TaskEnd::Gone {
         n: begin.n,
@@ -289,7 +354,9 @@ fn gone_of(alloc: Global, begin: &Begin) -> Result<TaskEnd, FoldFault> {
 }
 
 /// What an answer tells of a compile machine.
-fn machine_told(n: u64, call: &Call, answer: &Answer) -> Told {
+fn machine_told(n: u64, call: &Call, answer: &Answer) -> Told
+    ensures { result ≡ machine_told n call.now answer.now }
+{
     match (call, answer) {
         (Call::CreateVm { .. }, Answer::Cid(vm)) => Told::There(Some(Vm { vm: *vm, agent: n })),
         (Call::FindVm { agent }, Answer::Found(vm)) => found(*agent, *vm),
@@ -301,7 +368,9 @@ fn machine_told(n: u64, call: &Call, answer: &Answer) -> Told {
     }
 }
 
-fn found(agent: u64, vm: Option<u64>) -> Told {
+fn found(agent: u64, vm: Option<u64>) -> Told
+    ensures { result ≡ found agent vm }
+{
     match vm {
         Some(vm) => Told::There(Some(Vm { vm, agent })),
         None => Told::Absent,
@@ -309,7 +378,9 @@ fn found(agent: u64, vm: Option<u64>) -> Told {
 }
 
 /// What an answer tells of an orphaned disk.
-fn disk_told(call: &Call, answer: &Answer) -> Told {
+fn disk_told(call: &Call, answer: &Answer) -> Told
+    ensures { result ≡ disk_told call.now answer.now }
+{
     match (call, answer) {
         (Call::DeleteDisk { .. }, Answer::Done) | (Call::HasDisk { .. }, Answer::No) =>
             Told::Absent,

@@ -1,3 +1,10 @@
+ghost use Rattle.std.specs.Prelude.{◌≡◌, None};
+ghost use Rattle.std.specs.Map.Iter.{ShowsInOrder, deref_pair};
+ghost use Rattle.std.specs.Option.{option_copied, option_copied_mut};
+ghost use Rattle.bosh_base.specs.declared.inst.Inst.{Inst};
+ghost use Rattle.bosh_fold.specs.Instances.{known_in, no_part, part_in, row_in};
+ghost use Rattle.bosh_fold.specs.declared.instances.Instance.{Instance};
+
 use crate::FoldFault;
 use crate::place::put_where;
 use bosh_base::{Copyable, Inst, Owner, Row};
@@ -23,7 +30,9 @@ pub struct Part {
 
 impl Part {
     /// The task has nothing to do for it.
-    pub fn none() -> Part {
+    pub fn none() -> Part
+        ensures { result ≡ no_part }
+    {
         Part {
             ping: None,
             leaving: None,
@@ -45,7 +54,9 @@ pub struct Instance {
 }
 
 impl Instance {
-    fn unknown() -> Instance {
+    fn unknown() -> Instance
+        ensures { result.row ≡ None }
+    {
         Instance {
             row: None,
             want: None,
@@ -68,24 +79,35 @@ impl Instances {
         }
     }
 
-    pub(crate) fn get(&self, inst: &Inst) -> Option<&Instance> {
+    pub(crate) fn get(&self, inst: &Inst) -> Option<&Instance>
+        ensures { option_copied result ≡ known_in self.now inst.now }
+    {
         self.by_inst.get(inst)
     }
 
-    pub(crate) fn get_mut(&mut self, inst: &Inst) -> Option<&mut Instance> {
+    pub(crate) fn get_mut(&mut self, inst: &Inst) -> Option<&mut Instance>
+        ensures { option_copied_mut result ≡ known_in self.old inst.now }
+    {
         self.by_inst.get_mut(inst)
     }
 
-    pub(crate) fn row(&self, inst: &Inst) -> Option<&Row> {
+    pub(crate) fn row(&self, inst: &Inst) -> Option<&Row>
+        ensures { option_copied result ≡ row_in self.now inst.now }
+    {
         self.get(inst)?.row.as_ref()
     }
 
-    pub(crate) fn iter(&self) -> Iter<'_, Inst, Instance> {
+    pub(crate) fn iter(&self) -> Iter<'_, Inst, Instance>
+        ensures rest { result ≡ self.now.by_inst.entries }
+        ensures runs { ShowsInOrder (deref_pair {K = Inst} {X = Instance}) }
+    {
         self.by_inst.iter()
     }
 
     /// Makes room for an instance, of which nothing is known yet.
-    pub(crate) fn ensure(&mut self, alloc: Global, inst: &Inst) -> Result<(), FoldFault> {
+    pub(crate) fn ensure(&mut self, alloc: Global, inst: &Inst) -> Result<(), FoldFault>
+        ensures { row_in self.new inst.now ≡ row_in self.old inst.now }
+    {
         if self.by_inst.contains_key(inst) {
             return Ok(());
         }
@@ -159,7 +181,9 @@ impl Instances {
     }
 
     /// The part of an instance in the open task of its deployment.
-    pub(crate) fn part(&self, inst: &Inst) -> Part {
+    pub(crate) fn part(&self, inst: &Inst) -> Part
+        ensures { result ≡ part_in self.now inst.now }
+    {
         match self.get(inst) {
             Some(instance) => instance.part,
             None => Part::none(),

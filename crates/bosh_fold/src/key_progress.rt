@@ -1,3 +1,8 @@
+ghost use Rattle.std.specs.Prelude.{◌≡◌, ◌==◌};
+ghost use Rattle.std.specs.BTreeMap.{get};
+ghost use Rattle.bosh_base.specs.contracts.key.KeyOrd.TheImpl as key_order;
+ghost use Rattle.bosh_progress.specs.Tree.{first_marked, marked_in};
+
 use crate::FoldFault;
 use crate::keys::Keys;
 use bosh_base::{Copyable, Key, KeyWork};
@@ -124,17 +129,23 @@ impl KeyProgress {
     }
 
     /// The first key that a machine may be made for.
-    pub fn next(&self) -> Option<usize> {
+    pub fn next(&self) -> Option<usize>
+        ensures { result ≡ first_marked self.now.ready }
+    {
         self.ready.first()
     }
 
     /// Whether each key is compiled.
-    pub fn is_over(&self) -> bool {
+    pub fn is_over(&self) -> bool
+        ensures { result ≡ (marked_in self.now.left == 0) }
+    {
         self.left.count() == 0
     }
 
     /// The place of a key.
-    pub fn place(&self, key: &Key) -> Option<usize> {
+    pub fn place(&self, key: &Key) -> Option<usize>
+        ensures { result ≡ get key_order.ghosts.cmp self.now.places key.now }
+    {
         self.places.get(key).copied()
     }
 }

@@ -1,3 +1,6 @@
+ghost use Rattle.std.specs.Prelude.{◌≡◌, IfOk, IsPermutation, is_some};
+ghost use Rattle.bosh_fold.specs.Keys.{built_of, compiled_of, digest_in, is_compiling_in};
+
 use crate::FoldFault;
 use bosh_base::{BuiltKey, Copyable, Digest, Key, Name, Seq};
 use std::alloc::Global;
@@ -25,16 +28,22 @@ impl Keys {
     }
 
     /// The digest of a compiled key.
-    pub(crate) fn digest(&self, key: &Key) -> Option<Digest> {
+    pub(crate) fn digest(&self, key: &Key) -> Option<Digest>
+        ensures { result ≡ digest_in self.now key.now }
+    {
         self.by_key.get(key)?.digest
     }
 
-    pub(crate) fn is_compiled(&self, key: &Key) -> bool {
+    pub(crate) fn is_compiled(&self, key: &Key) -> bool
+        ensures { result ≡ is_some (digest_in self.now key.now) }
+    {
         self.digest(key).is_some()
     }
 
     /// Whether an open call compiles a key.
-    pub(crate) fn is_compiling(&self, key: &Key) -> bool {
+    pub(crate) fn is_compiling(&self, key: &Key) -> bool
+        ensures { result ≡ is_compiling_in self.now key.now }
+    {
         match self.by_key.get(key) {
             Some(state) => state.call.is_some(),
             None => false,
@@ -78,7 +87,9 @@ impl Keys {
     }
 
     /// The compiled keys, in their order.
-    pub(crate) fn compiled(&self, alloc: Global) -> Result<Seq<Key>, FoldFault> {
+    pub(crate) fn compiled(&self, alloc: Global) -> Result<Seq<Key>, FoldFault>
+        ensures { IfOk result (λ keys. keys ≡ compiled_of self.now.by_key.entries) }
+    {
         let mut keys = Vec::new(alloc);
         for (key, state) in self.by_key.iter() {
             if state.digest.is_some() {
@@ -89,7 +100,9 @@ impl Keys {
     }
 
     /// What was compiled, by name and key.
-    pub(crate) fn built(&self, alloc: Global) -> Result<Seq<BuiltKey>, FoldFault> {
+    pub(crate) fn built(&self, alloc: Global) -> Result<Seq<BuiltKey>, FoldFault>
+        ensures { IfOk result (IsPermutation (built_of self.now.by_key.entries)) }
+    {
         let mut built = Vec::new(alloc);
         for (key, state) in self.by_key.iter() {
             if let Some(digest) = state.digest {
@@ -101,7 +114,9 @@ impl Keys {
     }
 }
 
-fn built_key(alloc: Global, key: &Key, name: &Name, digest: Digest) -> Result<BuiltKey, FoldFault> {
+fn built_key(alloc: Global, key: &Key, name: &Name, digest: Digest) -> Result<BuiltKey, FoldFault>
+    ensures { IfOk result (λ built. built ≡ record { name = name.now; key = key.now; digest = digest }) }
+{
     let name = name.copy(alloc)?;
     let key = key.copy(alloc)?;
     Ok(BuiltKey { name, key, digest })

@@ -1,4 +1,9 @@
+ghost use Rattle.std.specs.Prelude.{◌≡◌, IfOk, Ok};
+ghost use Rattle.bosh_fold.specs.Came.{came};
+ghost use Rattle.bosh_fold.specs.Planned.{IsOpened, dep_row_of, task_row_of};
+
 use crate::grouping::grouped;
+use crate::instances::Instances;
 use crate::key_progress::KeyProgress;
 use crate::place::{beside, put};
 use crate::snapshot::copies;
@@ -18,7 +23,10 @@ pub struct Opened {
 }
 
 impl Records {
-    pub(crate) fn plan_opening(&mut self, opening: &TaskOpen) -> Result<Opened, FoldFault> {
+    pub(crate) fn plan_opening(&mut self, opening: &TaskOpen) -> Result<Opened, FoldFault>
+        ensures opened { IfOk result (λ opened. IsOpened opening.now opened) }
+        ensures same { came self.new ≡ came self.old }
+    {
         self.tasks.ensure(opening.task)?;
         self.works.ensure(opening.task)?;
         if let Some(goal) = &opening.goal {
@@ -29,7 +37,9 @@ impl Records {
     }
 
     // Room for what a goal wants.
-    fn make_room(&mut self, goal: &Goal) -> Result<(), FoldFault> {
+    fn make_room(&mut self, goal: &Goal) -> Result<(), FoldFault>
+        ensures { came self.new ≡ came self.old }
+    {
         for want in goal.rows.iter() {
             self.instances.ensure(self.alloc, &want.inst)?;
         }
@@ -39,7 +49,9 @@ impl Records {
         Ok(())
     }
 
-    fn opened(&self, opening: &TaskOpen) -> Result<Opened, FoldFault> {
+    fn opened(&self, opening: &TaskOpen) -> Result<Opened, FoldFault>
+        ensures { IfOk result (λ opened. IsOpened opening.now opened) }
+    {
         let (deployment, row) = beside(
             deployment_of(self.alloc, opening)?,
             task_row(self.alloc, opening),
@@ -47,14 +59,18 @@ impl Records {
         finished(deployment, row, self.work_of(opening))
     }
 
-    fn work_of(&self, opening: &TaskOpen) -> Result<Work, FoldFault> {
+    fn work_of(&self, opening: &TaskOpen) -> Result<Work, FoldFault>
+        ensures { IfOk result (λ work. work.task ≡ opening.now.task) }
+    {
         let mut work = Work::nothing(self.alloc, opening.task);
         let filled = self.fill(&mut work, opening);
         let (work, ()) = beside(work, filled)?;
         Ok(work)
     }
 
-    fn fill(&self, work: &mut Work, opening: &TaskOpen) -> Result<(), FoldFault> {
+    fn fill(&self, work: &mut Work, opening: &TaskOpen) -> Result<(), FoldFault>
+        ensures { work.new.task ≡ work.old.task }
+    {
         put(
             &mut work.pings,
             Line::full(self.alloc, self.to_ping(opening)?)?,
@@ -115,7 +131,9 @@ impl Records {
         Ok(found)
     }
 
-    pub(crate) fn learn_opening(&mut self, opened: Opened) {
+    pub(crate) fn learn_opening(&mut self, opened: Opened)
+        ensures { came self.new ≡ record (came self.old) { opened = opened.row.task } }
+    {
         let Opened {
             row,
             deployment,
@@ -130,7 +148,9 @@ impl Records {
     }
 
     // Puts the goal in the place of the current one, or records the deployment.
-    fn set_goal(&mut self, task: u64, deployment: Option<DepRow>) {
+    fn set_goal(&mut self, task: u64, deployment: Option<DepRow>)
+        ensures { came self.new ≡ came self.old }
+    {
         let Some(row) = deployment else {
             return;
         };
@@ -140,12 +160,16 @@ impl Records {
         }
     }
 
-    fn add_deployment(&mut self, task: u64, row: DepRow) {
+    fn add_deployment(&mut self, task: u64, row: DepRow)
+        ensures { came self.new ≡ came self.old }
+    {
         self.set_wants(&row.goal);
         self.deployments.put(&Since::Task(task), row);
     }
 
-    fn replace_goal(&mut self, since: Since, mut new: DepRow) {
+    fn replace_goal(&mut self, since: Since, mut new: DepRow)
+        ensures { came self.new ≡ came self.old }
+    {
         self.clear_wants(since);
         self.set_wants(&new.goal);
         if let Some(row) = self.deployments.get_mut(&since) {
@@ -153,22 +177,24 @@ impl Records {
         }
     }
 
-    pub(crate) fn set_wants(&mut self, goal: &Goal) {
-        for (place, want) in goal.rows.iter().enumerate() {
-            self.instances.set_want(&want.inst, Some(place));
-        }
+    pub(crate) fn set_wants(&mut self, goal: &Goal)
+        ensures { came self.new ≡ came self.old }
+    {
+        note_wants(&mut self.instances, goal);
     }
 
-    pub(crate) fn clear_wants(&mut self, since: Since) {
+    pub(crate) fn clear_wants(&mut self, since: Since)
+        ensures { came self.new ≡ came self.old }
+    {
         if let Some(row) = self.deployments.get(&since) {
-            for want in row.goal.rows.iter() {
-                self.instances.set_want(&want.inst, None);
-            }
+            forget_wants(&mut self.instances, &row.goal);
         }
     }
 
     // Notes where each instance, machine and disk stands in a task.
-    fn set_parts(&mut self, work: &Work) {
+    fn set_parts(&mut self, work: &Work)
+        ensures { came self.new ≡ came self.old }
+    {
         for (place, inst) in work.pings.items.iter().enumerate() {
             self.instances.set_ping(inst, Some(place));
         }
@@ -186,13 +212,17 @@ impl Records {
         }
     }
 
-    fn set_sweep(&mut self, name: MachineName, place: usize) {
+    fn set_sweep(&mut self, name: MachineName, place: usize)
+        ensures { came self.new ≡ came self.old }
+    {
         if let Some(machine) = self.machines.get_mut(&name) {
             machine.sweep = Some(place);
         }
     }
 
-    fn set_group(&mut self, changed: &[Inst], group: usize, places: &[usize]) {
+    fn set_group(&mut self, changed: &[Inst], group: usize, places: &[usize])
+        ensures { came self.new ≡ came self.old }
+    {
         for (place, at) in places.iter().enumerate() {
             if let Some(inst) = changed.get(*at) {
                 self.instances
@@ -201,10 +231,25 @@ impl Records {
         }
     }
 
-    fn set_deleting(&mut self, disk: u64, place: usize) {
+    fn set_deleting(&mut self, disk: u64, place: usize)
+        ensures { came self.new ≡ came self.old }
+    {
         if let Some(loose) = self.orphans.get_mut(&disk) {
             loose.deleting = Some(place);
         }
+    }
+}
+
+/// Notes how a goal wants its instances.
+pub(crate) fn note_wants(instances: &mut Instances, goal: &Goal) {
+    for (place, want) in goal.rows.iter().enumerate() {
+        instances.set_want(&want.inst, Some(place));
+    }
+}
+
+fn forget_wants(instances: &mut Instances, goal: &Goal) {
+    for want in goal.rows.iter() {
+        instances.set_want(&want.inst, None);
     }
 }
 
@@ -212,7 +257,11 @@ fn finished(
     deployment: Option<DepRow>,
     row: TaskRow,
     work: Result<Work, FoldFault>,
-) -> Result<Opened, FoldFault> {
+) -> Result<Opened, FoldFault>
+    ensures row { IfOk result (λ opened. opened.row ≡ row) }
+    ensures deployment { IfOk result (λ opened. opened.deployment ≡ deployment) }
+    ensures work { IfOk result (λ opened. work ≡ Ok opened.work) }
+{
     match work {
         Ok(work) => Ok(Opened {
             row,
@@ -238,7 +287,9 @@ fn is_of(dep: Option<&Name>, other: &Name) -> bool {
     }
 }
 
-fn deployment_of(alloc: Global, opening: &TaskOpen) -> Result<Option<DepRow>, FoldFault> {
+fn deployment_of(alloc: Global, opening: &TaskOpen) -> Result<Option<DepRow>, FoldFault>
+    ensures { IfOk result (λ deployment. deployment ≡ dep_row_of opening.now) }
+{
     let Some(goal) = &opening.goal else {
         return Ok(None);
     };
@@ -251,7 +302,9 @@ fn deployment_of(alloc: Global, opening: &TaskOpen) -> Result<Option<DepRow>, Fo
     }))
 }
 
-fn task_row(alloc: Global, opening: &TaskOpen) -> Result<TaskRow, FoldFault> {
+fn task_row(alloc: Global, opening: &TaskOpen) -> Result<TaskRow, FoldFault>
+    ensures { IfOk result (λ row. row ≡ task_row_of opening.now) }
+{
     let kind = opening.kind.copy(alloc)?;
     let dep = opening.dep.copy(alloc)?;
     Ok(TaskRow {

@@ -1,10 +1,28 @@
+ghost use Rattle.std.specs.Prelude.{◌≡◌, ◌==◌, ◌&&◌, ℕ, [], false, IfOk, IsPermutation, None, Option};
+ghost use Rattle.std.specs.List.{list_any};
+ghost use Rattle.std.specs.Map.Iter.{ShowsInOrder, deref_pair};
+ghost use Rattle.std.specs.Option.{option_copied, option_map_or};
+ghost use Rattle.std.specs.Str.{bytes_eq};
+ghost use Rattle.bosh_base.specs.declared.inst.Inst.{Inst};
+ghost use Rattle.bosh_base.specs.declared.snapshot.DepRow.{DepRow};
+ghost use Rattle.bosh_base.specs.declared.task.TaskRow.{TaskRow};
+ghost use Rattle.bosh_fold.specs.Came.{came};
+ghost use Rattle.bosh_fold.specs.Keys.{built_of};
+ghost use Rattle.bosh_fold.specs.Readers.{call_at, deployment_in, deployment_of, digest_of, disk_owner, goal_of, has_disk, instance_at, is_compiling, is_empty, machine_at, orphan_at, owner_in, row_at, shared_of, since_in, task_at, want_of, work_at};
+ghost use Rattle.bosh_fold.specs.declared.instances.Instance.{Instance};
+ghost use Rattle.bosh_fold.specs.declared.machines.Machine.{Machine};
+ghost use Rattle.bosh_fold.specs.declared.machines.MachineName.{MachineName};
+ghost use Rattle.bosh_fold.specs.declared.orphans.LooseDisk.{LooseDisk};
+ghost use Rattle.bosh_fold.specs.declared.records.Since.{Since};
+ghost use Rattle.bosh_fold.specs.declared.work.Work.{Work};
+
 use crate::instances::Instances;
 use crate::keys::Keys;
 use crate::table::Table;
 use crate::{FoldFault, Instance, LooseDisk, Machine, MachineName, Work};
 use bosh_base::{
-    Begin, BuiltKey, DepRow, Digest, Goal, GoalRow, Inst, Key, Name, Offer, Release, Row, Seq,
-    Stemcell, TaskRow, Text,
+    Begin, BuiltKey, DepRow, Digest, DiskRow, Goal, GoalRow, Inst, Key, Name, Offer, Release, Row,
+    Seq, Stemcell, TaskRow, Text,
 };
 use std::alloc::Global;
 use std::collections::btree_map::Iter;
@@ -37,7 +55,9 @@ pub struct Records {
 
 impl Records {
     /// Before the first entry.
-    pub fn empty(alloc: Global) -> Records {
+    pub fn empty(alloc: Global) -> Records
+        ensures { came result ≡ record { releases = []; stemcells = []; config = None; opened = 0; last_call = 0 } }
+    {
         Records {
             alloc,
             releases: Vec::new(alloc),
@@ -57,7 +77,9 @@ impl Records {
     }
 
     /// Whether nothing was recorded yet.
-    pub fn is_empty(&self) -> bool {
+    pub fn is_empty(&self) -> bool
+        ensures { result ≡ is_empty self.now }
+    {
         self.releases.is_empty()
             && self.stemcells.is_empty()
             && self.config.is_none()
@@ -65,17 +87,23 @@ impl Records {
     }
 
     /// The releases, in the order in which they came.
-    pub fn releases(&self) -> &[Release] {
+    pub fn releases(&self) -> &[Release]
+        ensures { result.now ≡ self.now.releases.items }
+    {
         self.releases.as_slice()
     }
 
     /// The stemcells, in the order in which they came.
-    pub fn stemcells(&self) -> &[Stemcell] {
+    pub fn stemcells(&self) -> &[Stemcell]
+        ensures { result.now ≡ self.now.stemcells.items }
+    {
         self.stemcells.as_slice()
     }
 
     /// The bytes of the last cloud config.
-    pub fn config(&self) -> Option<&[u8]> {
+    pub fn config(&self) -> Option<&[u8]>
+        ensures { option_copied result ≡ self.now.config }
+    {
         match &self.config {
             Some(file) => Some(file.as_slice()),
             None => None,
@@ -83,12 +111,17 @@ impl Records {
     }
 
     /// The recorded deployments, in the order of their first tasks; some are not recorded any more.
-    pub fn deployments(&self) -> Iter<'_, Since, Option<DepRow>> {
+    pub fn deployments(&self) -> Iter<'_, Since, Option<DepRow>>
+        ensures rest { result ≡ self.now.deployments.places.entries }
+        ensures runs { ShowsInOrder (deref_pair {K = Since} {X = Option DepRow}) }
+    {
         self.deployments.iter()
     }
 
     /// Since when a deployment is recorded.
-    pub(crate) fn since(&self, dep: &Name) -> Option<Since> {
+    pub(crate) fn since(&self, dep: &Name) -> Option<Since>
+        ensures { result ≡ since_in self.now.deployments.places.entries dep.now }
+    {
         for (since, row) in self.deployments.iter() {
             if is_row_of(row.as_ref(), dep) {
                 return Some(*since);
@@ -98,59 +131,88 @@ impl Records {
     }
 
     /// What is recorded of a deployment.
-    pub fn deployment(&self, dep: &Name) -> Option<&DepRow> {
-        let since = self.since(dep)?;
-        self.deployments.get(&since)
+    pub fn deployment(&self, dep: &Name) -> Option<&DepRow>
+        ensures { option_copied result ≡ deployment_of self.now dep.now }
+    {
+        for (_, row) in self.deployments.iter() {
+            if is_row_of(row.as_ref(), dep) {
+                return row.as_ref();
+            }
+        }
+        None
     }
 
     /// The current goal of a deployment.
-    pub fn goal_of(&self, dep: &Name) -> Option<&Goal> {
+    pub fn goal_of(&self, dep: &Name) -> Option<&Goal>
+        ensures { option_copied result ≡ goal_of self.now dep.now }
+    {
         Some(&self.deployment(dep)?.goal)
     }
 
     /// What is known of an instance.
-    pub fn instance(&self, inst: &Inst) -> Option<&Instance> {
+    pub fn instance(&self, inst: &Inst) -> Option<&Instance>
+        ensures { option_copied result ≡ instance_at self.now inst.now }
+    {
         self.instances.get(inst)
     }
 
     /// What is recorded of an instance.
-    pub fn row(&self, inst: &Inst) -> Option<&Row> {
+    pub fn row(&self, inst: &Inst) -> Option<&Row>
+        ensures { option_copied result ≡ row_at self.now inst.now }
+    {
         self.instances.row(inst)
     }
 
     /// How the current goal of its deployment wants an instance.
-    pub fn want_of(&self, inst: &Inst) -> Option<&GoalRow> {
+    pub fn want_of(&self, inst: &Inst) -> Option<&GoalRow>
+        ensures { option_copied result ≡ want_of self.now inst.now }
+    {
         let place = self.instances.get(inst)?.want?;
         self.goal_of(&inst.dep)?.rows.get(place)
     }
 
     /// What is known of instances, in their order; of some nothing is recorded.
-    pub fn instances(&self) -> Iter<'_, Inst, Instance> {
+    pub fn instances(&self) -> Iter<'_, Inst, Instance>
+        ensures rest { result ≡ self.now.instances.by_inst.entries }
+        ensures runs { ShowsInOrder (deref_pair {K = Inst} {X = Instance}) }
+    {
         self.instances.iter()
     }
 
     /// A compile machine that is recorded.
-    pub fn machine(&self, name: MachineName) -> Option<&Machine> {
+    pub fn machine(&self, name: MachineName) -> Option<&Machine>
+        ensures { option_copied result ≡ machine_at self.now name }
+    {
         self.machines.get(&name)
     }
 
     /// The compile machines by task and slot; some are not recorded any more.
-    pub fn machines(&self) -> Iter<'_, MachineName, Option<Machine>> {
+    pub fn machines(&self) -> Iter<'_, MachineName, Option<Machine>>
+        ensures rest { result ≡ self.now.machines.places.entries }
+        ensures runs { ShowsInOrder (deref_pair {K = MachineName} {X = Option Machine}) }
+    {
         self.machines.iter()
     }
 
     /// A disk that belongs to no instance any more.
-    pub fn orphan(&self, disk: u64) -> Option<&LooseDisk> {
+    pub fn orphan(&self, disk: u64) -> Option<&LooseDisk>
+        ensures { option_copied result ≡ orphan_at self.now disk }
+    {
         self.orphans.get(&disk)
     }
 
     /// The orphaned disks by number; some are not there any more.
-    pub fn orphans(&self) -> Iter<'_, u64, Option<LooseDisk>> {
+    pub fn orphans(&self) -> Iter<'_, u64, Option<LooseDisk>>
+        ensures rest { result ≡ self.now.orphans.places.entries }
+        ensures runs { ShowsInOrder (deref_pair {K = ℕ} {X = Option LooseDisk}) }
+    {
         self.orphans.iter()
     }
 
     /// The instance whose row has a disk.
-    pub fn disk_owner(&self, disk: u64) -> Option<&Inst> {
+    pub fn disk_owner(&self, disk: u64) -> Option<&Inst>
+        ensures { option_copied result ≡ disk_owner self.now disk }
+    {
         for (inst, instance) in self.instances.iter() {
             if has_disk(instance.row.as_ref(), disk) {
                 return Some(inst);
@@ -160,56 +222,80 @@ impl Records {
     }
 
     /// What was compiled, by name and key.
-    pub fn built_keys(&self) -> Result<Seq<BuiltKey>, FoldFault> {
+    pub fn built_keys(&self) -> Result<Seq<BuiltKey>, FoldFault>
+        ensures { IfOk result (IsPermutation (built_of self.now.keys.by_key.entries)) }
+    {
         self.keys.built(self.alloc)
     }
 
     /// The digest of a compiled key.
-    pub fn digest_of(&self, key: &Key) -> Option<Digest> {
+    pub fn digest_of(&self, key: &Key) -> Option<Digest>
+        ensures { result ≡ digest_of self.now key.now }
+    {
         self.keys.digest(key)
     }
 
     /// Whether an open call compiles a key.
-    pub fn is_compiling(&self, key: &Key) -> bool {
+    pub fn is_compiling(&self, key: &Key) -> bool
+        ensures { result ≡ is_compiling self.now key.now }
+    {
         self.keys.is_compiling(key)
     }
 
     /// The tasks by number, from 1 on.
-    pub fn tasks(&self) -> Iter<'_, u64, Option<TaskRow>> {
+    pub fn tasks(&self) -> Iter<'_, u64, Option<TaskRow>>
+        ensures rest { result ≡ self.now.tasks.places.entries }
+        ensures runs { ShowsInOrder (deref_pair {K = ℕ} {X = Option TaskRow}) }
+    {
         self.tasks.iter()
     }
 
-    pub fn task(&self, task: u64) -> Option<&TaskRow> {
+    pub fn task(&self, task: u64) -> Option<&TaskRow>
+        ensures { option_copied result ≡ task_at self.now task }
+    {
         self.tasks.get(&task)
     }
 
     /// How many tasks were opened.
-    pub fn tasks_opened(&self) -> u64 {
+    pub fn tasks_opened(&self) -> u64
+        ensures { result ≡ self.now.opened }
+    {
         self.opened
     }
 
     /// What is left to do of an open task. It is none of one that a snapshot had open: such a task can only end.
-    pub fn work(&self, task: u64) -> Option<&Work> {
+    pub fn work(&self, task: u64) -> Option<&Work>
+        ensures { option_copied result ≡ work_at self.now task }
+    {
         self.works.get(&task)
     }
 
     /// The tasks that are open, by number; some have ended.
-    pub fn works(&self) -> Iter<'_, u64, Option<Work>> {
+    pub fn works(&self) -> Iter<'_, u64, Option<Work>>
+        ensures rest { result ≡ self.now.works.places.entries }
+        ensures runs { ShowsInOrder (deref_pair {K = ℕ} {X = Option Work}) }
+    {
         self.works.iter()
     }
 
     /// How an open call began.
-    pub fn call(&self, n: u64) -> Option<&Begin> {
+    pub fn call(&self, n: u64) -> Option<&Begin>
+        ensures { option_copied result ≡ call_at self.now n }
+    {
         self.calls.get(&n)
     }
 
     /// The number of the last call, and 0 before the first.
-    pub fn last_call(&self) -> u64 {
+    pub fn last_call(&self) -> u64
+        ensures { result ≡ self.now.last_call }
+    {
         self.last_call
     }
 
     /// The offers of the last deploy of a deployment that was done.
-    pub fn shared(&self, dep: &Name) -> &[Offer] {
+    pub fn shared(&self, dep: &Name) -> &[Offer]
+        ensures { result.now ≡ shared_of self.now dep.now }
+    {
         match self.deployment(dep) {
             Some(row) => row.shared.as_slice(),
             None => &[],
@@ -217,14 +303,24 @@ impl Records {
     }
 }
 
-fn has_disk(row: Option<&Row>, disk: u64) -> bool {
+fn has_disk(row: Option<&Row>, disk: u64) -> bool
+    ensures { result ≡ has_disk (option_copied row.entry) disk }
+{
     match row {
-        Some(row) => row.disks.iter().any(|it| it.disk == disk),
+        Some(row) => is_among(row.disks.as_slice(), disk),
         None => false,
     }
 }
 
-fn is_row_of(row: Option<&DepRow>, dep: &Name) -> bool {
+fn is_among(disks: &[DiskRow], disk: u64) -> bool
+    ensures { result ≡ list_any (λ d. d.disk == disk) disks.now }
+{
+    disks.iter().any(|it| it.disk == disk)
+}
+
+fn is_row_of(row: Option<&DepRow>, dep: &Name) -> bool
+    ensures { result ≡ option_map_or (λ it. bytes_eq it.dep dep.now) (option_copied row.entry) false }
+{
     match row {
         Some(row) => row.dep == *dep,
         None => false,

@@ -1,3 +1,7 @@
+ghost use Rattle.std.specs.Prelude.{◌≡◌, ◌++◌, None, IfOk, OnOk};
+ghost use Rattle.bosh_fold.specs.Came.{came};
+ghost use Rattle.bosh_fold.specs.Updated.{left_gone, left_updated, orphan_of, orphans_of, row_updated};
+
 use crate::place::beside;
 use crate::{FoldFault, Records};
 use bosh_base::{Copyable, DiskRow, Entry, Inst, Orphan, Row, Seq, Update};
@@ -13,19 +17,29 @@ pub struct Updated {
 }
 
 impl Records {
-    pub(crate) fn plan_update_done(&mut self, update: &Update) -> Result<Updated, FoldFault> {
+    pub(crate) fn plan_update_done(&mut self, update: &Update) -> Result<Updated, FoldFault>
+        ensures row { IfOk result (λ it. it.row ≡ row_updated self.old update.now.inst) }
+        ensures left { IfOk result (λ it. it.left.items ≡ left_updated self.old update.now.inst) }
+        ensures same { came self.new ≡ came self.old }
+    {
         let updated = self.updated(update)?;
         self.ensure_disks(updated.left.as_slice())?;
         Ok(updated)
     }
 
-    fn updated(&self, update: &Update) -> Result<Updated, FoldFault> {
+    fn updated(&self, update: &Update) -> Result<Updated, FoldFault>
+        ensures row { IfOk result (λ it. it.row ≡ row_updated self.now update.now.inst) }
+        ensures left { IfOk result (λ it. it.left.items ≡ left_updated self.now update.now.inst) }
+    {
         let mut left = Vec::new(self.alloc);
         let row = self.row_updated(&update.inst, &mut left)?;
         Ok(Updated { row, left })
     }
 
-    fn row_updated(&self, inst: &Inst, left: &mut Vec<Orphan>) -> Result<Option<Row>, FoldFault> {
+    fn row_updated(&self, inst: &Inst, left: &mut Vec<Orphan>) -> Result<Option<Row>, FoldFault>
+        ensures row { IfOk result (λ row. row ≡ row_updated self.now inst.now) }
+        ensures left { OnOk result (left.new.items ≡ left.old.items ++ left_updated self.now inst.now) }
+    {
         let (Some(row), Some(want)) = (self.row(inst), self.want_of(inst)) else {
             return Ok(None);
         };
@@ -36,7 +50,11 @@ impl Records {
         Ok(Some(row))
     }
 
-    pub(crate) fn plan_gone(&mut self, update: &Update) -> Result<Updated, FoldFault> {
+    pub(crate) fn plan_gone(&mut self, update: &Update) -> Result<Updated, FoldFault>
+        ensures row { IfOk result (λ it. it.row ≡ None) }
+        ensures left { IfOk result (λ it. it.left.items ≡ left_gone self.old update.now.inst) }
+        ensures same { came self.new ≡ came self.old }
+    {
         let mut left = Vec::new(self.alloc);
         if let Some(row) = self.row(&update.inst) {
             orphan(self.alloc, &update.inst, &row.disks, &mut left)?;
@@ -45,7 +63,9 @@ impl Records {
         Ok(Updated { row: None, left })
     }
 
-    fn ensure_disks(&mut self, left: &[Orphan]) -> Result<(), FoldFault> {
+    fn ensure_disks(&mut self, left: &[Orphan]) -> Result<(), FoldFault>
+        ensures { came self.new ≡ came self.old }
+    {
         for orphan in left {
             self.orphans.ensure(orphan.disk)?;
         }
@@ -53,7 +73,9 @@ impl Records {
     }
 
     /// The update of an instance begins.
-    pub(crate) fn learn_update_begin(&mut self, entry: &Entry) {
+    pub(crate) fn learn_update_begin(&mut self, entry: &Entry)
+        ensures { came self.new ≡ came self.old }
+    {
         let Entry::UpdBegin(update) = entry else {
             return;
         };
@@ -64,7 +86,9 @@ impl Records {
     }
 
     /// The update of an instance is done, or an obsolete one has nothing left.
-    pub(crate) fn learn_updated(&mut self, entry: &Entry, updated: Updated) {
+    pub(crate) fn learn_updated(&mut self, entry: &Entry, updated: Updated)
+        ensures { came self.new ≡ came self.old }
+    {
         let Updated { row, left } = updated;
         match entry {
             Entry::UpdDone(update) => self.finish_update(update),
@@ -75,14 +99,18 @@ impl Records {
         self.add_orphans(left);
     }
 
-    fn finish_update(&mut self, update: &Update) {
+    fn finish_update(&mut self, update: &Update)
+        ensures { came self.new ≡ came self.old }
+    {
         let change = self.instances.part(&update.inst).change;
         if let Some(work) = self.works.get_mut(&update.task) {
             work.finish_update(change);
         }
     }
 
-    fn leave(&mut self, update: &Update) {
+    fn leave(&mut self, update: &Update)
+        ensures { came self.new ≡ came self.old }
+    {
         let leaving = self.instances.part(&update.inst).leaving;
         if let Some(work) = self.works.get_mut(&update.task) {
             work.leave(leaving);
@@ -90,7 +118,9 @@ impl Records {
         self.instances.forget(&update.inst);
     }
 
-    fn add_orphans(&mut self, left: Vec<Orphan>) {
+    fn add_orphans(&mut self, left: Vec<Orphan>)
+        ensures { came self.new ≡ came self.old }
+    {
         for orphan in left {
             self.add_orphan(orphan);
         }
@@ -103,14 +133,18 @@ fn orphan(
     inst: &Inst,
     disks: &Seq<DiskRow>,
     left: &mut Vec<Orphan>,
-) -> Result<(), FoldFault> {
+) -> Result<(), FoldFault>
+    ensures { OnOk result (left.new.items ≡ left.old.items ++ orphans_of inst.now disks.now) }
+{
     for disk in disks.iter() {
         left.push(orphan_of(alloc, inst, disk)?)?;
     }
     Ok(())
 }
 
-fn orphan_of(alloc: Global, inst: &Inst, disk: &DiskRow) -> Result<Orphan, FoldFault> {
+fn orphan_of(alloc: Global, inst: &Inst, disk: &DiskRow) -> Result<Orphan, FoldFault>
+    ensures { IfOk result (λ orphan. orphan ≡ orphan_of inst.now disk.now) }
+{
     let want = disk.want.copy(alloc)?;
     let inst = inst.copy(alloc)?;
     Ok(Orphan {

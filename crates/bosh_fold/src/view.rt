@@ -1,3 +1,7 @@
+ghost use Rattle.std.specs.Prelude.{◌≡◌, ◌++◌, None, IfOk, OnOk, true};
+ghost use Rattle.std.specs.Option.{option_copied, option_map};
+ghost use Rattle.bosh_fold.specs.View.{held_by_goal, held_by_machines, held_by_rows, held_by_slots, held_by_task, held_of, is_offered, known_of, known_offers, make_of, open_goal, other_of, rows_of, taken_of, view_of};
+
 use crate::place::put;
 use crate::{FoldFault, Records};
 use bosh_base::{
@@ -7,13 +11,18 @@ use std::alloc::Global;
 
 impl Records {
     /// What the goal of a deployment depends on beside its manifest.
-    pub fn view(&self, dep: &Name) -> Result<View, FoldFault> {
+    pub fn view(&self, dep: &Name) -> Result<View, FoldFault>
+        ensures { IfOk result (λ view. view ≡ view_of self.now dep.now) }
+    {
         let mut view = nothing(self.alloc);
         self.look(dep, &mut view)?;
         Ok(view)
     }
 
-    fn look(&self, dep: &Name, view: &mut View) -> Result<(), FoldFault> {
+    fn look(&self, dep: &Name, view: &mut View) -> Result<(), FoldFault>
+        requires { view.old.goal ≡ None }
+        ensures { OnOk result (view.new ≡ view_of self.now dep.now) }
+    {
         if let Some(goal) = self.goal_of(dep) {
             put(&mut view.goal, Some(goal.copy(self.alloc)?));
         }
@@ -26,7 +35,9 @@ impl Records {
         Ok(())
     }
 
-    fn rows_of(&self, dep: &Name) -> Result<Vec<Row>, FoldFault> {
+    fn rows_of(&self, dep: &Name) -> Result<Vec<Row>, FoldFault>
+        ensures { IfOk result (λ rows. rows.items ≡ rows_of dep.now self.now.instances.by_inst.entries) }
+    {
         let mut rows = Vec::new(self.alloc);
         for (inst, instance) in self.instances.iter() {
             if let (true, Some(row)) = (inst.dep == *dep, &instance.row) {
@@ -38,7 +49,9 @@ impl Records {
 
     // The addresses that other deployments hold: those of their rows, of the rows of their goals, of their compile
     // machines, and of the slots of their open tasks.
-    fn taken(&self, dep: &Name) -> Result<Vec<Held>, FoldFault> {
+    fn taken(&self, dep: &Name) -> Result<Vec<Held>, FoldFault>
+        ensures { IfOk result (λ held. held.items ≡ taken_of self.now dep.now) }
+    {
         let mut held = Vec::new(self.alloc);
         self.hold_rows(dep, &mut held)?;
         for (_, row) in self.deployments.iter() {
@@ -53,7 +66,10 @@ impl Records {
         Ok(held)
     }
 
-    fn hold_rows(&self, dep: &Name, held: &mut Vec<Held>) -> Result<(), FoldFault> {
+    fn hold_rows(&self, dep: &Name, held: &mut Vec<Held>) -> Result<(), FoldFault>
+        ensures { OnOk result (held.new.items
+            ≡ held.old.items ++ held_by_rows dep.now self.now.instances.by_inst.entries) }
+    {
         for (inst, instance) in self.instances.iter() {
             if let (false, Some(make)) = (inst.dep == *dep, make_of(instance.row.as_ref())) {
                 let owner = Owner::Instance(inst.copy(self.alloc)?);
@@ -64,7 +80,10 @@ impl Records {
     }
 
     // Those of the compile machines of a deployment, or of all others.
-    fn hold_machines(&self, dep: &Name, own: bool, held: &mut Vec<Held>) -> Result<(), FoldFault> {
+    fn hold_machines(&self, dep: &Name, own: bool, held: &mut Vec<Held>) -> Result<(), FoldFault>
+        ensures { OnOk result (held.new.items
+            ≡ held.old.items ++ held_by_machines dep.now own self.now.machines.places.entries) }
+    {
         for (name, machine) in self.machines.iter() {
             if let Some(machine) = machine {
                 if (machine.row.dep == *dep) == own {
@@ -81,20 +100,20 @@ impl Records {
         dep: &Name,
         row: Option<&TaskRow>,
         held: &mut Vec<Held>,
-    ) -> Result<(), FoldFault> {
-        let Some((task, goal)) = self.open_goal(dep, row) else {
-            return Ok(());
-        };
-        let mut slot = 0u32;
-        for make in goal.slots.iter() {
-            hold(self.alloc, &Owner::Compile(task, slot), make, held)?;
-            slot = slot.saturating_add(1);
+    ) -> Result<(), FoldFault>
+        ensures { OnOk result (held.new.items
+            ≡ held.old.items ++ held_by_task self.now dep.now (option_copied row.entry)) }
+    {
+        match self.open_goal(dep, row) {
+            Some((task, goal)) => hold_makes(self.alloc, task, goal, held),
+            None => Ok(()),
         }
-        Ok(())
     }
 
     // The goal of an open task of another deployment.
-    fn open_goal(&self, dep: &Name, row: Option<&TaskRow>) -> Option<(u64, &Goal)> {
+    fn open_goal(&self, dep: &Name, row: Option<&TaskRow>) -> Option<(u64, &Goal)>
+        ensures { option_map (λ it. (it.0, it.1.now)) result ≡ open_goal self.now dep.now (option_copied row.entry) }
+    {
         let row = row?;
         let other = row.dep.as_ref()?;
         if row.end.is_some() || other == dep {
@@ -103,13 +122,17 @@ impl Records {
         Some((row.task, self.goal_of(other)?))
     }
 
-    fn leftover(&self, dep: &Name) -> Result<Vec<Held>, FoldFault> {
+    fn leftover(&self, dep: &Name) -> Result<Vec<Held>, FoldFault>
+        ensures { IfOk result (λ held. held.items ≡ held_by_machines dep.now true self.now.machines.places.entries) }
+    {
         let mut held = Vec::new(self.alloc);
         self.hold_machines(dep, true, &mut held)?;
         Ok(held)
     }
 
-    fn known(&self) -> Result<Vec<DepOffers>, FoldFault> {
+    fn known(&self) -> Result<Vec<DepOffers>, FoldFault>
+        ensures { IfOk result (λ known. known.items ≡ known_of self.now.deployments.places.entries) }
+    {
         let mut known = Vec::new(self.alloc);
         for (_, row) in self.deployments.iter() {
             if let Some(row) = row {
@@ -120,7 +143,9 @@ impl Records {
     }
 }
 
-fn nothing(alloc: Global) -> View {
+fn nothing(alloc: Global) -> View
+    ensures { result.goal ≡ None }
+{
     View {
         goal: None,
         rows: Seq::new(alloc),
@@ -132,18 +157,24 @@ fn nothing(alloc: Global) -> View {
     }
 }
 
-fn make_of(row: Option<&Row>) -> Option<&Make> {
+fn make_of(row: Option<&Row>) -> Option<&Make>
+    ensures { option_copied result ≡ make_of (option_copied row.entry) }
+{
     row?.make.as_ref()
 }
 
-fn other<'a>(row: Option<&'a DepRow>, dep: &Name) -> Option<&'a DepRow> {
+fn other<'a>(row: Option<&'a DepRow>, dep: &Name) -> Option<&'a DepRow>
+    ensures { option_copied result ≡ other_of dep.now (option_copied row.entry) }
+{
     match row {
         Some(row) if row.dep != *dep => Some(row),
         _ => None,
     }
 }
 
-fn hold_goal(alloc: Global, goal: &Goal, held: &mut Vec<Held>) -> Result<(), FoldFault> {
+fn hold_goal(alloc: Global, goal: &Goal, held: &mut Vec<Held>) -> Result<(), FoldFault>
+    ensures { OnOk result (held.new.items ≡ held.old.items ++ held_by_goal goal.now) }
+{
     for want in goal.rows.iter() {
         let owner = Owner::Instance(want.inst.copy(alloc)?);
         hold(alloc, &owner, &want.make, held)?;
@@ -151,7 +182,21 @@ fn hold_goal(alloc: Global, goal: &Goal, held: &mut Vec<Held>) -> Result<(), Fol
     Ok(())
 }
 
-fn hold(alloc: Global, owner: &Owner, make: &Make, held: &mut Vec<Held>) -> Result<(), FoldFault> {
+// Those of the slots of a task.
+fn hold_makes(alloc: Global, task: u64, goal: &Goal, held: &mut Vec<Held>) -> Result<(), FoldFault>
+    ensures { OnOk result (held.new.items ≡ held.old.items ++ held_by_slots task 0 goal.now.slots) }
+{
+    let mut slot = 0u32;
+    for make in goal.slots.iter() {
+        hold(alloc, &Owner::Compile(task, slot), make, held)?;
+        slot = slot.saturating_add(1);
+    }
+    Ok(())
+}
+
+fn hold(alloc: Global, owner: &Owner, make: &Make, held: &mut Vec<Held>) -> Result<(), FoldFault>
+    ensures { OnOk result (held.new.items ≡ held.old.items ++ held_of owner.now make.now) }
+{
     for it in make.nets.iter() {
         let net = it.net.copy(alloc)?;
         let owner = owner.copy(alloc)?;
@@ -165,7 +210,9 @@ fn hold(alloc: Global, owner: &Owner, make: &Make, held: &mut Vec<Held>) -> Resu
 }
 
 // What others may take of a deployment: what its last done deploy offers, as far as its current goal still does.
-fn known_offers(alloc: Global, row: &DepRow) -> Result<DepOffers, FoldFault> {
+fn known_offers(alloc: Global, row: &DepRow) -> Result<DepOffers, FoldFault>
+    ensures { IfOk result (λ known. known ≡ known_offers row.now) }
+{
     let mut offers = Vec::new(alloc);
     for offer in row.shared.iter() {
         if is_offered(row.goal.offers.as_slice(), offer) {
@@ -179,7 +226,9 @@ fn known_offers(alloc: Global, row: &DepRow) -> Result<DepOffers, FoldFault> {
     })
 }
 
-fn is_offered(offers: &[Offer], offer: &Offer) -> bool {
+fn is_offered(offers: &[Offer], offer: &Offer) -> bool
+    ensures { result ≡ is_offered offers.now offer.now }
+{
     offers
         .iter()
         .any(|it| it.joint == offer.joint && it.kind == offer.kind)

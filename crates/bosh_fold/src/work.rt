@@ -1,3 +1,7 @@
+ghost use Rattle.std.specs.Prelude.{◌≡◌};
+ghost use Rattle.std.specs.Option.{option_copied};
+ghost use Rattle.bosh_fold.specs.Work.{number_of, roll_of};
+
 use crate::places::Places;
 use crate::{FoldFault, GroupPlace, KeyProgress, MachineName};
 use bosh_base::{Inst, Seq, TaskEnd};
@@ -63,7 +67,9 @@ pub struct Work {
 
 impl Work {
     /// Nothing is left to do.
-    pub(crate) fn nothing(alloc: Global, task: u64) -> Work {
+    pub(crate) fn nothing(alloc: Global, task: u64) -> Work
+        ensures { result.task ≡ task }
+    {
         Work {
             task,
             pings: Line::empty(alloc),
@@ -111,7 +117,9 @@ impl Work {
     }
 
     /// The same, to be read.
-    pub fn roll(&self, change: Option<GroupPlace>) -> Option<&Rolling> {
+    pub fn roll(&self, change: Option<GroupPlace>) -> Option<&Rolling>
+        ensures { option_copied result ≡ roll_of self.now change }
+    {
         let group = self.groups.get(change?.group)?;
         Some(&group.roll)
     }
@@ -194,7 +202,9 @@ pub(crate) fn place_of(change: Option<GroupPlace>) -> usize {
 }
 
 /// The number of the call that ended a task, and 0 where none did.
-pub fn number(end: &TaskEnd) -> u64 {
+pub fn number(end: &TaskEnd) -> u64
+    ensures { result ≡ number_of end.now }
+{
     match end {
         TaskEnd::Fault { n, .. } | TaskEnd::Gone { n, .. } => *n,
         TaskEnd::Finished | TaskEnd::Interrupted => 0,

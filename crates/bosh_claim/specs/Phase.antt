@@ -1,0 +1,46 @@
+-- The phases of a task, in their order (bosh.io, "Deploying", for the order of compilation and updates).
+use Rattle.std.specs.Prelude.{ℕ, Bool, ◌==◌, ◌&&◌, ◌||◌, List, Option, Some, None, fold, is_some, min, nat_lt, not}
+use Rattle.std.specs.Prelude.{if◌then◌else◌}
+use Rattle.std.specs.Option.{option_map}
+use Rattle.bosh_progress.specs.Tree.{first_marked, marked_in}
+use Rattle.bosh_progress.specs.declared.queue.Queue.{Queue}
+use Rattle.bosh_progress.specs.declared.rolling.Rolling.{Rolling}
+use Rattle.bosh_fold.specs.declared.work.GroupWork.{GroupWork}
+use Rattle.bosh_fold.specs.declared.work.Work.{Work}
+use Rattle.bosh_claim.specs.declared.phase.Phase.{Phase}
+use Rattle.bosh_claim.specs.declared.phase.Phase.TheVariants.{Ask, DeleteDisks, Sweep, Compile, Leave, Update}
+
+-- every item is finished
+abbrev pub is_finished : Queue → Bool
+is_finished queue = marked_in queue.left == 0
+
+-- every update of a group is done
+abbrev pub is_updated : Rolling → Bool
+is_updated roll = marked_in roll.waiting == 0 && marked_in roll.busy == 0
+
+abbrev pub lesser : Option ℕ → ℕ → ℕ
+lesser (Some other) stage = min other stage
+lesser None stage = stage
+
+-- the least stage, with one more group
+abbrev pub with_group : Option ℕ → GroupWork → Option ℕ
+with_group least group = if is_updated group.roll then least else Some (lesser least group.stage)
+
+-- the least stage of the groups that are left
+abbrev pub least_stage : List GroupWork → Option ℕ
+least_stage groups = fold with_group None groups
+
+-- a compile machine of the task is recorded, or it may make one for a key
+abbrev pub has_to_compile : Work → Bool
+has_to_compile work =
+    nat_lt 0 work.machines || (nat_lt 0 work.slots && is_some (first_marked work.keys.ready))
+
+-- the first phase in which something is left to do
+abbrev pub present : Work → Option Phase
+present work =
+    if not (is_finished work.pings.queue) then Some Ask
+    else (if not (is_finished work.disks.queue) then Some DeleteDisks
+    else (if not (is_finished work.sweep.queue) then Some Sweep
+    else (if has_to_compile work then Some Compile
+    else (if not (is_finished work.obsolete.queue) then Some Leave
+    else option_map Update (least_stage work.groups.items)))))
