@@ -1,0 +1,20 @@
+use Rattle.std.proofs.Common.{◌∙◌}
+use Rattle.std.specs.Option.{option_copied}
+use Rattle.bosh_asks.proofs.AnswerLemmas.{given, refused, renews}
+use Rattle.bosh_asks.specs.Goals.{Renews}
+use Rattle.bosh_asks.specs.Refused.{RefusesChange}
+use Rattle.bosh_asks.proofs.naming.goal_anew.Goals as goal
+
+pub returns-clause-ok : goal.returns-clause-ok
+returns-clause-ok c = λ file is.
+    given (Renews c.args.inst.now c.args.change) c.anew-goal.result c.after.result
+    (c.after.ensures ∙ c.answered.ensures)
+    (renews c.args.inst.now c.args.change c.args.goal.now c.in_ok-view.view (option_copied c.args.config) file
+    c.anew-goal.result c.requires is c.anew-goal.ensures)
+
+pub returns-clause-err : goal.returns-clause-err
+returns-clause-err c = λ file is.
+    refused (Renews c.args.inst.now c.args.change) (RefusesChange c.args.inst.now c.args.change) tt (λ fault why. why)
+    c.anew-goal.result c.after.result (c.after.ensures ∙ c.answered.ensures)
+    (renews c.args.inst.now c.args.change c.args.goal.now c.in_ok-view.view (option_copied c.args.config) file
+    c.anew-goal.result c.requires is c.anew-goal.ensures)

@@ -1,0 +1,20 @@
+-- Faults of other layers as faults of what is asked.
+use Rattle.std.specs.Prelude.{ℕ, List, ◌∷◌, ◌++◌, Result, Ok, Err}
+use Rattle.bosh_base.specs.declared.goal.Goal.{Goal}
+use Rattle.bosh_uses.specs.declared.fault.GoalFault.{GoalFault}
+use Rattle.bosh_uses.specs.declared.fault.GoalFault.TheVariants as goals
+use Rattle.bosh_asks.specs.declared.fault.BookFault.{BookFault}
+use Rattle.bosh_asks.specs.declared.fault.BookFault.TheVariants as faults
+
+-- want of memory for a goal is want of memory
+abbrev pub of_goal : GoalFault → BookFault
+of_goal goals.Memory = faults.Memory
+of_goal fault = faults.Goal fault
+
+abbrev pub answered : Result Goal GoalFault → Result Goal BookFault
+answered (Ok goal) = Ok goal
+answered (Err fault) = Err (of_goal fault)
+
+-- a name and a version, as `web/2.1`
+abbrev pub name_and_version : List ℕ → List ℕ → List ℕ
+name_and_version name version = name ++ 47 ∷ version

@@ -1,0 +1,4 @@
+pub mod AlikeLemmas
+pub mod EachLemmas
+pub mod NeedLemmas
+pub mod OrderLemmas
