@@ -1,0 +1,5 @@
+pub mod AddsLemmas
+pub mod ConfigLemmas
+pub mod FaultLemmas
+pub mod JournalLemmas
+pub mod StartLemmas

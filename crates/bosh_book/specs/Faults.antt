@@ -1,0 +1,84 @@
+-- Why a book refuses what it is asked.
+use Rattle.std.specs.Prelude.{◌≡◌, ◌<◌, ℕ, List, is_some, true, false, Result, Ok, Err}
+use Rattle.bosh_asks.specs.Goals.{config_in}
+use Rattle.bosh_asks.specs.Refused.{MayRefuse}
+use Rattle.bosh_asks.specs.declared.ask.Ask.{Ask}
+use Rattle.bosh_asks.specs.declared.fault.BookFault.{BookFault}
+use Rattle.bosh_asks.specs.declared.fault.BookFault.TheVariants as book
+use Rattle.bosh_book.specs.BookView.{BookView, is_stopped}
+use Rattle.bosh_journal.specs.JournalView.{JournalView}
+use Rattle.bosh_journal.specs.declared.fault.JournalFault.{JournalFault}
+use Rattle.bosh_journal.specs.declared.fault.JournalFault.TheVariants as journal
+use Rattle.bosh_ports.specs.Faults.{Rose}
+use Rattle.bosh_uses.specs.declared.fault.GoalFault.TheVariants as goal
+
+-- how the refusal of a journal is told as one of the book's
+abbrev pub of_journal : JournalFault → BookFault
+of_journal journal.StoreFault = book.StoreFault
+of_journal (journal.Damaged place) = book.Damaged place
+of_journal journal.Broken = book.Stopped
+of_journal journal.Memory = book.Memory
+
+-- A store that failed has its count risen, and the book is to start anew; else it is as whole as it was.
+abbrev pub FailsAs : {K T : Type 0} → (K → ℕ) → Result T BookFault → JournalView K → JournalView K → Type 0
+FailsAs faults (Err book.StoreFault) was now = Rose (faults was.store) (faults now.store) × (now.is_broken ≡ true)
+FailsAs faults answer was now = now.is_broken ≡ was.is_broken
+
+-- it is no fault of the store
+abbrev pub IsQuiet : BookFault → Type 0
+IsQuiet book.StoreFault = ⊥
+IsQuiet fault = Unit {0}
+
+-- to note an entry is refused only where the store fails, or for want of memory
+abbrev pub IsNoteFault : BookFault → Type 0
+IsNoteFault book.StoreFault = Unit {0}
+IsNoteFault book.Memory = Unit {0}
+IsNoteFault fault = ⊥
+
+-- the same of a book that may be stopped
+abbrev pub IsCallFault : {K : Type 0} → BookView K → BookFault → Type 0
+IsCallFault was book.Stopped = is_stopped was ≡ true
+IsCallFault was fault = IsNoteFault fault
+
+-- the same of a book that may have no room either
+abbrev pub IsClaimFault : {K : Type 0} → BookView K → BookFault → Type 0
+IsClaimFault was book.Full = is_stopped was ≡ false
+IsClaimFault was fault = IsCallFault was fault
+
+-- to start is refused where an entry may not stand at its place, where the store fails, or for want of memory
+abbrev pub IsStartFault : ℕ → BookFault → Type 0
+IsStartFault count (book.Damaged place) = place < count
+IsStartFault count fault = IsNoteFault fault
+
+-- to end a call is refused where the permit is not current, or the answer is not of the call's kind
+abbrev pub IsSettleFault : {K : Type 0} → BookView K → ℕ → BookFault → Type 0
+IsSettleFault was task (book.Locked holder) = (is_stopped was ≡ false) × (holder ≡ task)
+IsSettleFault was task fault = IsCallFault was fault
+
+-- another one of its name and version is there, or it does not go with those that are there
+abbrev pub IsDiffering : BookFault → Type 0
+IsDiffering (book.Differs name) = Unit {0}
+IsDiffering book.Memory = Unit {0}
+IsDiffering fault = ⊥
+
+abbrev pub IsUploadFault : {K : Type 0} → BookView K → BookFault → Type 0
+IsUploadFault was (book.Differs name) = is_stopped was ≡ false
+IsUploadFault was fault = IsCallFault was fault
+
+-- a file is refused that spells no config
+abbrev pub IsNoConfig : List ℕ → BookFault → Type 0
+IsNoConfig file (book.Goal fault) = (fault ≡ goal.NoConfig) × (is_some (config_in file) ≡ false)
+IsNoConfig file book.Memory = Unit {0}
+IsNoConfig file fault = ⊥
+
+abbrev pub IsConfigFault : {K : Type 0} → BookView K → List ℕ → BookFault → Type 0
+IsConfigFault was file (book.Goal fault) =
+    (is_stopped was ≡ false) × (fault ≡ goal.NoConfig) × (is_some (config_in file) ≡ false)
+IsConfigFault was file fault = IsCallFault was fault
+
+-- a task opens unless what is asked is refused, or there is no room for it
+abbrev pub IsOpenFault : {K : Type 0} → BookView K → Ask → BookFault → Type 0
+IsOpenFault was ask book.Stopped = is_stopped was ≡ true
+IsOpenFault was ask book.Full = is_stopped was ≡ false
+IsOpenFault was ask book.StoreFault = is_stopped was ≡ false
+IsOpenFault was ask fault = MayRefuse ask fault

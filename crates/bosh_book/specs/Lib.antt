@@ -1,0 +1,9 @@
+pub mod Adds
+pub mod Appends
+pub mod BookView
+pub mod Ends
+pub mod Faults
+pub mod Made
+pub mod Starts
+pub mod Turns
+pub mod Uploads

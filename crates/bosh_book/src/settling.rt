@@ -1,0 +1,96 @@
+ghost use Rattle.std.specs.Prelude.{◌≡◌, ◌⊎◌, [], ◌∷◌, IfErr, IfOk, IfSome, OnErr, OnOk, false, true, Err};
+ghost use Rattle.bosh_asks.specs.declared.fault.BookFault.TheVariants as faults;
+ghost use Rattle.bosh_base.specs.Answer.{is_kind};
+ghost use Rattle.bosh_base.specs.Call.{method_of};
+ghost use Rattle.bosh_base.specs.declared.entry.Entry.TheVariants as entries;
+ghost use Rattle.bosh_book.specs.Adds.{Adds};
+ghost use Rattle.bosh_book.specs.BookView.{is_stopped};
+ghost use Rattle.bosh_book.specs.Faults.{FailsAs, IsSettleFault};
+ghost use Rattle.bosh_book.specs.declared.standing.Standing.TheVariants.{Abandoned};
+
+use crate::granted::dep_of;
+use crate::standing::Standing;
+use crate::{Book, Permit};
+use bosh_asks::BookFault;
+use bosh_base::{Answer, Copyable, End, Entry};
+use bosh_ports::Keeper;
+use std::alloc::Global;
+
+impl<K: Keeper> Book<K> {
+    /// Whether the call of a permit is open in this book. After a reload that was refused none is.
+    pub fn is_current(&self, permit: &Permit) -> bool {
+        self.standing != Standing::Unread && self.is_open_call(permit)
+    }
+
+    fn is_open_call(&self, permit: &Permit) -> bool {
+        match self.records.call(permit.n()) {
+            Some(begin) => {
+                permit.is_begun(begin) && dep_of(&self.records, &begin.owner) == Some(permit.dep())
+            }
+            None => false,
+        }
+    }
+
+    /// Notes the answer of a call. A permit that is not current, and an answer that is not of the call's kind, are handed
+    /// back: no task waits for them.
+    pub fn settle(
+        &mut self,
+        permit: Permit,
+        answer: Answer,
+    ) -> Result<(), (Permit, Answer, BookFault)>
+        ensures ok { OnOk result (Adds K.bodies K.faults self.old
+            (entries.End (record { n = permit.n; answer = answer }) ∷ []) self.new) }
+        ensures kind { OnOk result (is_kind (method_of permit.call) answer ≡ true) }
+        ensures refused { OnErr result (Adds K.bodies K.faults self.old [] self.new) }
+        ensures back { IfErr result (λ back. (back.0 ≡ permit) × (back.1 ≡ answer)) }
+        ensures fault { IfErr result (λ back. IsSettleFault self.old permit.task back.2) }
+        ensures stopped { is_stopped self.old ≡ true → IfErr result (λ back. back.2 ≡ faults.Stopped) }
+    {
+        match self.end_call(&permit, &answer) {
+            Ok(()) => {
+                permit.spend();
+                Ok(())
+            }
+            Err(fault) => Err((permit, answer, fault)),
+        }
+    }
+
+    fn end_call(&mut self, permit: &Permit, answer: &Answer) -> Result<(), BookFault>
+        ensures ok { OnOk result (Adds K.bodies K.faults self.old
+            (entries.End (record { n = permit.now.n; answer = answer.now }) ∷ []) self.new) }
+        ensures kind { OnOk result (is_kind (method_of permit.now.call) answer.now ≡ true) }
+        ensures refused { OnErr result (Adds K.bodies K.faults self.old [] self.new) }
+        ensures fault { IfErr result (IsSettleFault self.old permit.now.task) }
+        ensures stopped { is_stopped self.old ≡ true → IfErr result (λ fault. fault ≡ faults.Stopped) }
+        ensures failed { FailsAs K.faults result self.old.journal self.new.journal }
+    {
+        self.check_running()?;
+        if !self.is_current(permit) || !answer.is_kind(permit.call().method()) {
+            return Err(BookFault::Locked {
+                task: permit.task(),
+            });
+        }
+        self.note_made(ended(self.alloc, permit.n(), answer))
+    }
+
+    /// Gives a call up: it stays open, and where the permit is current the book is stopped.
+    pub fn abandon(&mut self, permit: Permit)
+        ensures { (self.new ≡ self.old) ⊎ (self.new ≡ record self.old { standing = Abandoned }) }
+    {
+        if self.is_current(&permit) {
+            self.standing = Standing::Abandoned;
+        }
+        permit.spend();
+    }
+}
+
+// The entry by which a call ends with an answer.
+fn ended(alloc: Global, n: u64, answer: &Answer) -> Result<(Entry, ()), BookFault>
+    ensures entry { IfOk result (λ it. it.0 ≡ entries.End (record { n = n; answer = answer.now })) }
+    ensures memory { IfErr result (λ fault. fault ≡ faults.Memory) }
+{
+    match answer.copy(alloc) {
+        Ok(answer) => Ok((Entry::End(End { n, answer }), ())),
+        Err(_) => Err(BookFault::Memory),
+    }
+}

@@ -1,0 +1,201 @@
+ghost use Rattle.std.specs.Prelude.{◌≡◌, ◌⊎◌, [], IfErr, IfOk, IfSome, IsTrue, None, Ok, OnOk, false, length, true};
+ghost use Rattle.bosh_base.specs.declared.entry.Entry.TheVariants as entries;
+ghost use Rattle.bosh_base.specs.declared.failure.Failure.TheVariants.{Interrupted};
+ghost use Rattle.bosh_book.specs.Faults.{FailsAs, IsNoteFault, IsStartFault};
+ghost use Rattle.bosh_book.specs.Starts.{ComesOut, Finishes, Interrupts, IsNotLoaded, IsNotReloaded, Starts, StartsFrom, Takes, standing_after};
+ghost use Rattle.bosh_book.specs.declared.standing.Standing.TheVariants.{Unread};
+ghost use Rattle.bosh_journal.specs.Director.{is_snapshot};
+ghost use Rattle.bosh_journal.specs.Kept.{IsKept};
+
+use crate::Book;
+use crate::faults::of_journal;
+use crate::folding::folded;
+use crate::made::Made;
+use crate::place::put;
+use crate::standing::Standing;
+use bosh_asks::BookFault;
+use bosh_base::{Entry, Failure, TaskError};
+use bosh_fold::Records;
+use bosh_journal::Journal;
+use bosh_ports::Keeper;
+use std::alloc::Global;
+
+/// With more entries than these, a load puts a snapshot in their place.
+const MOST_LOADED: usize = 4_096;
+
+impl<K: Keeper> Book<K> {
+    /// The book of a store, which is reloaded first. Tasks that were open end as interrupted. A refusal gives the store
+    /// back.
+    pub fn load(alloc: Global, store: K) -> Result<Book<K>, (K, BookFault)>
+        ensures loaded { IfOk result (λ book.
+            StartsFrom {T = Unit {0}} K.bodies K.faults K.is_broken true store (Ok tt) book) }
+        ensures kept { IfOk result (λ book. IfSome (K.bodies store) (λ _. IsKept K.bodies book.journal)) }
+        ensures refused { IfErr result (λ back. IsNotLoaded K.bodies K.faults K.is_broken store back.0 back.1) }
+    {
+        let journal = match Journal::load(alloc, store) {
+            Ok(journal) => journal,
+            Err((store, fault)) => return Err((store, of_journal(fault))),
+        };
+        let mut book = unread(alloc, journal);
+        match book.start(true) {
+            Ok(()) => Ok(book),
+            Err(fault) => Err((book.into_store(), fault)),
+        }
+    }
+
+    /// Reads the entries of the store again, once it is mended, and ends open tasks as interrupted. Where that is
+    /// refused, the book is stopped.
+    pub fn reload(&mut self) -> Result<(), BookFault>
+        ensures starts { IsNotReloaded K.bodies K.faults K.is_broken self.old result self.new
+            ⊎ StartsFrom K.bodies K.faults K.is_broken false self.old.journal.store result self.new }
+        ensures kept { IsKept K.bodies self.old.journal → IsKept K.bodies self.new.journal }
+    {
+        self.standing = Standing::Unread;
+        self.mended = None;
+        match self.journal.reload() {
+            Ok(()) => self.start(false),
+            Err(fault) => Err(of_journal(fault)),
+        }
+    }
+
+    // Takes in the entries that were read, in shorter form where there are many and that is asked for, and ends the
+    // tasks that are open.
+    #[tactic(auto, using(crate::proofs::AddsLemmas::started, crate::proofs::FaultLemmas::fails_later))]
+    fn start(&mut self, compacts: bool) -> Result<(), BookFault>
+        requires whole { self.old.journal.is_broken ≡ false }
+        requires unread { self.old.standing ≡ Unread }
+        ensures starts { Starts K.bodies K.faults compacts self.old self.new }
+        ensures failed { FailsAs K.faults result self.old.journal self.new.journal }
+        ensures fault { IfErr result (IsStartFault (length self.old.journal.entries)) }
+        ensures standing { self.new.standing ≡ standing_after result }
+    {
+        let taken = self.take_in(compacts);
+        let started = self.finish(taken);
+        if started.is_ok() {
+            self.standing = Standing::Running;
+        }
+        started
+    }
+
+    // Ends the tasks that are open, where the entries were taken in, and keeps what is told of the start.
+    #[tactic(auto, using(crate::proofs::AddsLemmas::told_start))]
+    fn finish(&mut self, taken: Result<(), BookFault>) -> Result<(), BookFault>
+        requires { OnOk taken (self.old.journal.is_broken ≡ false) }
+        ensures finishes { Finishes K.bodies K.faults self.old self.new }
+        ensures comes_out { ComesOut K.faults taken self.old result self.new }
+    {
+        let before = self.entries().len();
+        let ended = self.interrupt_after(taken);
+        self.read = self.entries().len();
+        self.mended = Some(self.read.saturating_sub(before));
+        ended
+    }
+
+    #[tactic(auto, using(crate::proofs::AddsLemmas::none_ended))]
+    fn interrupt_after(&mut self, taken: Result<(), BookFault>) -> Result<(), BookFault>
+        requires { OnOk taken (self.old.journal.is_broken ≡ false) }
+        ensures interrupts { Interrupts K.bodies K.faults self.old self.new }
+        ensures comes_out { ComesOut K.faults taken self.old result self.new }
+    {
+        match taken {
+            Ok(()) => self.interrupt(),
+            Err(fault) => Err(fault),
+        }
+    }
+
+    // Folds the entries that were read, and puts a snapshot in their place where there are many and that is asked for.
+    #[tactic(auto, using(crate::proofs::FaultLemmas::fails_quietly))]
+    fn take_in(&mut self, compacts: bool) -> Result<(), BookFault>
+        requires { self.old.journal.is_broken ≡ false }
+        ensures takes { Takes K.bodies K.faults compacts self.old self.new }
+        ensures failed { FailsAs K.faults result self.old.journal self.new.journal }
+        ensures fault { IfErr result (IsStartFault (length self.old.journal.entries)) }
+    {
+        let records = folded(self.alloc, self.entries())?;
+        put(&mut self.records, records);
+        if compacts && self.entries().len() > MOST_LOADED {
+            self.compact()?;
+        }
+        Ok(())
+    }
+
+    // Puts a snapshot in the place of all entries.
+    fn compact(&mut self) -> Result<(), BookFault>
+        requires { self.old.journal.is_broken ≡ false }
+        ensures takes { Takes K.bodies K.faults true self.old self.new }
+        ensures failed { FailsAs K.faults result self.old.journal self.new.journal }
+        ensures fault { IfErr result IsNoteFault }
+    {
+        let snapshot = self.records.snapshot()?;
+        self.compact_to(Entry::Snapshot(snapshot))
+    }
+
+    // It is generic, since an entry that is let go is dear to prove.
+    fn compact_to<T: Made + Drop>(&mut self, snapshot: T) -> Result<(), BookFault>
+        requires snapshot { IsTrue (is_snapshot (T.entry_of snapshot)) }
+        requires whole { self.old.journal.is_broken ≡ false }
+        ensures takes { Takes K.bodies K.faults true self.old self.new }
+        ensures failed { FailsAs K.faults result self.old.journal self.new.journal }
+        ensures fault { IfErr result IsNoteFault }
+    {
+        match self.journal.compact(snapshot.entry()) {
+            Ok(()) => Ok(()),
+            Err(fault) => Err(of_journal(fault)),
+        }
+    }
+
+    // Ends each task that is open.
+    #[tactic(auto, using(crate::proofs::AddsLemmas::none_ended, crate::proofs::AddsLemmas::more_ended))]
+    fn interrupt(&mut self) -> Result<(), BookFault>
+        requires { self.old.journal.is_broken ≡ false }
+        ensures interrupts { Interrupts K.bodies K.faults self.old self.new }
+        ensures failed { FailsAs K.faults result self.old.journal self.new.journal }
+        ensures fault { IfErr result IsNoteFault }
+    {
+        for before in 0..self.records.tasks_opened() {
+            match self.interrupt_one(before.saturating_add(1)) {
+                Ok(()) => {}
+                Err(fault) => return Err(fault),
+            }
+        }
+        Ok(())
+    }
+
+    // Ends a task, where it is open.
+    #[tactic(auto, using(crate::proofs::AddsLemmas::none_ended, crate::proofs::AddsLemmas::one_ended, crate::proofs::AddsLemmas::refused_ended))]
+    fn interrupt_one(&mut self, task: u64) -> Result<(), BookFault>
+        requires { self.old.journal.is_broken ≡ false }
+        ensures interrupts { Interrupts K.bodies K.faults self.old self.new }
+        ensures failed { FailsAs K.faults result self.old.journal self.new.journal }
+        ensures fault { IfErr result IsNoteFault }
+    {
+        if !self.is_open(task) {
+            return Ok(());
+        }
+        self.note_made(Ok((interrupted(task), ())))
+    }
+}
+
+fn unread<K: Keeper>(alloc: Global, journal: Journal<K>) -> Book<K>
+    ensures journal { result.journal ≡ journal }
+    ensures standing { result.standing ≡ Unread }
+{
+    Book {
+        alloc,
+        journal,
+        records: Records::empty(alloc),
+        standing: Standing::Unread,
+        read: 0,
+        mended: None,
+    }
+}
+
+// The entry by which a task ends because the director stopped.
+fn interrupted(task: u64) -> Entry
+    ensures { result ≡ entries.TaskError (record { task = task; cause = Interrupted }) }
+{
+    Entry::TaskError(TaskError {
+        task,
+        cause: Failure::Interrupted,
+    })
+}

@@ -1,0 +1,79 @@
+//! A deploy of instances in eight groups.
+use bosh_base::{Digest, Name};
+use bosh_book::{Ask, Book, Deploy};
+use bosh_manifest::Manifest;
+use bosh_ports::MemKeeper;
+use bosh_yaml::read;
+use std::alloc::{AllocError, Global};
+
+/// How many groups the instances stand in.
+const GROUPS: u32 = 8;
+
+/// The text of the cloud config.
+const CONFIG: &str = "azs: [{name: z1}]
+networks:
+- name: net
+  subnets: [{range: 10.64.0.0/16, gateway: 10.64.0.1, az: z1}]
+vm_types: [{name: small}]
+compilation: {workers: 4, az: z1, vm_type: small, network: net}
+";
+
+// What stands before the groups of the manifest.
+const HEAD: &str = "name: gen
+releases: []
+stemcells: [{alias: default, os: jammy, version: latest}]
+update: {canaries: 1, max_in_flight: 4, canary_watch_time: 1000-30000, update_watch_time: 1000-30000}
+instance_groups:
+";
+
+fn push_group(
+    alloc: Global,
+    text: &mut String,
+    group: u32,
+    instances: u32,
+) -> Result<(), AllocError> {
+    let more = format!(in alloc;
+        "- {{name: g{group}, instances: {instances}, azs: [z1], vm_type: small, stemcell: default, networks: [{{name: net}}], jobs: []}}\n"
+    )?;
+    text.push_str(more.as_str())
+}
+
+// The manifest of so many instances, as nearly as many in each group.
+fn text_of(alloc: Global, instances: u32) -> Result<String, AllocError> {
+    let mut text = String::from_str(alloc, HEAD)?;
+    for group in 0..GROUPS {
+        push_group(alloc, &mut text, group, instances / GROUPS)?;
+    }
+    Ok(text)
+}
+
+fn checked(alloc: Global, dep: &Name, text: &str) -> Option<Manifest> {
+    let node = read(alloc, text.as_bytes()).ok()?;
+    bosh_manifest::check(alloc, &node, dep).ok()
+}
+
+fn manifest_of(alloc: Global, instances: u32) -> Option<Manifest> {
+    let dep = Name::of(alloc, b"gen").ok()?;
+    let text = text_of(alloc, instances).ok()?;
+    checked(alloc, &dep, text.as_str())
+}
+
+/// The task that deploys so many instances.
+pub(crate) fn ask_of(alloc: Global, instances: u32) -> Option<Ask> {
+    Some(Ask::Deploy(Deploy {
+        manifest: manifest_of(alloc, instances)?,
+        recreate: false,
+        fix: false,
+        source: Digest([0; 32]),
+    }))
+}
+
+/// A new book that knows the cloud config and the stemcell.
+pub(crate) fn book_of(alloc: Global) -> Option<Book<MemKeeper>> {
+    let mut book = Book::load(alloc, MemKeeper::new(alloc)).ok()?;
+    let os = Name::of(alloc, b"jammy").ok()?;
+    if book.set_config(CONFIG.as_bytes()).is_err() || book.add_stemcell(&os, b"1").is_err() {
+        return None;
+    }
+    Some(book)
+}

@@ -1,0 +1,52 @@
+//! A task that is carried out to its end.
+use bosh_base::{Answer, Call, TaskEnd};
+use bosh_book::{Ask, Book, Claim, Permit};
+use bosh_ports::MemKeeper;
+
+/// How many calls a task may make.
+const MOST_CALLS: usize = 10_000;
+
+// Each call is done.
+fn answer_to(permit: &Permit) -> Answer {
+    match permit.call() {
+        Call::CreateVm { .. } => Answer::Cid(permit.n()),
+        _ => Answer::Done,
+    }
+}
+
+// Ends the call of a permit; where that is refused it is given up.
+fn settle(book: &mut Book<MemKeeper>, permit: Permit) -> bool {
+    let answer = answer_to(&permit);
+    match book.settle(permit, answer) {
+        Ok(()) => true,
+        Err((permit, _answer, _fault)) => {
+            book.abandon(permit);
+            false
+        }
+    }
+}
+
+// Claims work and ends its call.
+fn work(book: &mut Book<MemKeeper>, task: u64) -> bool {
+    match book.claim(task, 0) {
+        Ok(Claim::Work(permit)) => settle(book, permit),
+        _ => false,
+    }
+}
+
+fn is_done(book: &mut Book<MemKeeper>, task: u64) -> bool {
+    matches!(book.end_task(task), Ok(TaskEnd::Finished))
+}
+
+/// Whether a task is done that is carried out from its opening to its end, by claims and ends of calls alone.
+pub(crate) fn is_driven(book: &mut Book<MemKeeper>, ask: &Ask) -> bool {
+    let Ok(task) = book.begin_task(ask) else {
+        return false;
+    };
+    for _ in 0..MOST_CALLS {
+        if !work(book, task) {
+            break;
+        }
+    }
+    is_done(book, task)
+}

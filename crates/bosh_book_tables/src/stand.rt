@@ -1,0 +1,304 @@
+//! The book that a case works on.
+use crate::claims::push_permit;
+use crate::entries::push_entries;
+use crate::faults::push_fault;
+use crate::foldings::folds_again;
+use crate::running::{Claimed, Running};
+use crate::store::{Store, spoiled};
+use bosh_base::{Answer, TaskEnd};
+use bosh_book::{Added, Book, BookFault, Permit};
+use bosh_cases::{CaseFault, Outcome, push_parts};
+use bosh_cloud::SimCloud;
+use bosh_ports::MemKeeper;
+use itoa::Buffer;
+use std::alloc::Global;
+
+/// How many calls a task may make that is run to its end.
+const MOST_CALLS: usize = 10_000;
+
+/// A book, a cloud that answers calls, and what was answered so far. There is no book after a load that was refused.
+pub(crate) struct Stand {
+    alloc: Global,
+    running: Option<Running>,
+    cloud: Option<SimCloud<MemKeeper>>,
+    told: Vec<u8>,
+}
+
+impl Stand {
+    pub(crate) fn new(alloc: Global) -> Stand {
+        Stand {
+            alloc,
+            running: Running::new(alloc),
+            cloud: SimCloud::load(alloc, MemKeeper::new(alloc)).ok(),
+            told: Vec::new(alloc),
+        }
+    }
+
+    pub(crate) fn alloc(&self) -> Global {
+        self.alloc
+    }
+
+    fn running(&mut self) -> Result<&mut Running, CaseFault> {
+        match &mut self.running {
+            Some(running) => Ok(running),
+            None => Err(CaseFault::Form),
+        }
+    }
+
+    pub(crate) fn book(&mut self) -> Result<&mut Book<Store>, CaseFault> {
+        Ok(&mut self.running()?.book)
+    }
+
+    // The text, for one more answer.
+    fn part(&mut self) -> Result<&mut Vec<u8>, CaseFault> {
+        if !self.told.is_empty() {
+            self.told.extend_from_slice(b"; ")?;
+        }
+        Ok(&mut self.told)
+    }
+
+    /// Tells a word.
+    pub(crate) fn tell(&mut self, word: &str) -> Result<(), CaseFault> {
+        Ok(push_parts(self.part()?, &[word.as_bytes()])?)
+    }
+
+    /// Tells a word and a number.
+    pub(crate) fn tell_number(&mut self, word: &str, number: u64) -> Result<(), CaseFault> {
+        let mut buffer = Buffer::new();
+        let number = buffer.format(number);
+        Ok(push_parts(self.part()?, &[word.as_bytes(), b" ", number.as_bytes()])?)
+    }
+
+    fn tell_fault(&mut self, fault: BookFault) -> Result<(), CaseFault> {
+        match fault {
+            BookFault::Memory => Err(CaseFault::Memory),
+            fault => push_fault(self.part()?, &fault),
+        }
+    }
+
+    /// Tells how a call came out that has no answer of its own.
+    pub(crate) fn tell_done(&mut self, done: Result<(), BookFault>) -> Result<(), CaseFault> {
+        match done {
+            Ok(()) => self.tell("ok"),
+            Err(fault) => self.tell_fault(fault),
+        }
+    }
+
+    pub(crate) fn tell_added(&mut self, added: Result<Added, BookFault>) -> Result<(), CaseFault> {
+        match added {
+            Ok(Added::New) => self.tell("new"),
+            Ok(Added::Same) => self.tell("same"),
+            Err(fault) => self.tell_fault(fault),
+        }
+    }
+
+    pub(crate) fn tell_task(&mut self, task: Result<u64, BookFault>) -> Result<(), CaseFault> {
+        match task {
+            Ok(task) => self.tell_number("task", task),
+            Err(fault) => self.tell_fault(fault),
+        }
+    }
+
+    fn tell_end(&mut self, end: Result<TaskEnd, BookFault>) -> Result<(), CaseFault> {
+        match end {
+            Ok(TaskEnd::Finished) => self.tell("done"),
+            Ok(TaskEnd::Fault { n, .. }) => self.tell_number("failed", n),
+            Ok(TaskEnd::Gone { n, .. }) => self.tell_number("gone", n),
+            Ok(TaskEnd::Interrupted) => self.tell("interrupted"),
+            Err(fault) => self.tell_fault(fault),
+        }
+    }
+
+    // How many tasks the last start ended.
+    fn tell_mended(&mut self) -> Result<(), CaseFault> {
+        match self.book()?.mended() {
+            Some(count) => self.tell_number("mended", count),
+            None => self.tell("none mended"),
+        }
+    }
+
+    /// Claims work, and tells what was given.
+    pub(crate) fn claim(&mut self, task: u64, worker: u8) -> Result<(), CaseFault> {
+        match self.running()?.claim(task, worker) {
+            Ok(Claimed::Work(n)) => self.tell_permit(n),
+            Ok(Claimed::Wait) => self.tell("wait"),
+            Ok(Claimed::Over) => self.tell("over"),
+            Err(fault) => self.tell_fault(fault),
+        }
+    }
+
+    fn tell_permit(&mut self, n: u64) -> Result<(), CaseFault> {
+        let mut text = Vec::new(self.alloc);
+        match self.running()?.permit(n) {
+            Some(permit) => push_permit(&mut text, permit)?,
+            None => return Err(CaseFault::Form),
+        }
+        Ok(push_parts(self.part()?, &[text.as_slice()])?)
+    }
+
+    /// Ends a call with an answer.
+    pub(crate) fn settle(&mut self, n: u64, answer: Answer) -> Result<(), CaseFault> {
+        let done = self.running()?.settle(n, answer)?;
+        self.tell_done(done)
+    }
+
+    /// Gives a call up.
+    pub(crate) fn abandon(&mut self, n: u64) -> Result<(), CaseFault> {
+        self.running()?.abandon(n)?;
+        self.tell("ok")
+    }
+
+    // What the cloud answers to the call of a permit.
+    fn performed(&mut self, n: u64) -> Result<Answer, CaseFault> {
+        let (Some(running), Some(cloud)) = (&self.running, &mut self.cloud) else {
+            return Err(CaseFault::Form);
+        };
+        match running.permit(n) {
+            Some(permit) => answered(cloud, permit),
+            None => Err(CaseFault::Form),
+        }
+    }
+
+    /// Has the cloud answer a call, and ends it so.
+    pub(crate) fn carry_out(&mut self, n: u64) -> Result<(), CaseFault> {
+        let answer = self.performed(n)?;
+        match self.running()?.settle(n, answer)? {
+            Ok(()) => Ok(()),
+            Err(fault) => self.tell_fault(fault),
+        }
+    }
+
+    /// Ends a task, and tells how it ended.
+    pub(crate) fn end(&mut self, task: u64) -> Result<(), CaseFault> {
+        let end = self.book()?.end_task(task);
+        self.tell_end(end)
+    }
+
+    // Claims work and has it carried out. Where there is none, that is so.
+    fn work(&mut self, task: u64) -> Result<bool, CaseFault> {
+        match self.running()?.claim(task, 0) {
+            Ok(Claimed::Work(n)) => {
+                self.carry_out(n)?;
+                Ok(true)
+            }
+            Ok(_) => Ok(false),
+            Err(fault) => {
+                self.tell_fault(fault)?;
+                Ok(false)
+            }
+        }
+    }
+
+    /// Carries a task out to its end, or until nothing can be done, and ends it.
+    pub(crate) fn run(&mut self, task: u64) -> Result<(), CaseFault> {
+        for _ in 0..MOST_CALLS {
+            if !self.work(task)? {
+                break;
+            }
+        }
+        self.end(task)
+    }
+
+    /// Reloads the book.
+    pub(crate) fn reload(&mut self) -> Result<(), CaseFault> {
+        let done = self.book()?.reload();
+        self.tell_done(done)?;
+        self.tell_mended()
+    }
+
+    // The state of the machine of a call's instance, which has the spec that is wanted of it.
+    pub(crate) fn facts(
+        &mut self,
+        n: u64,
+        running: bool,
+        drained: bool,
+    ) -> Result<Answer, CaseFault> {
+        let alloc = self.alloc;
+        let spec = self.running()?.wanted(alloc, n)?;
+        Ok(Answer::Facts {
+            spec: Some(spec),
+            running,
+            drained,
+        })
+    }
+
+    fn take_store(&mut self) -> Result<Store, CaseFault> {
+        match self.running.take() {
+            Some(running) => Ok(running.into_book().into_store()),
+            None => Err(CaseFault::Form),
+        }
+    }
+
+    /// Loads the book anew from its store. Permits are given up.
+    pub(crate) fn load(&mut self) -> Result<(), CaseFault> {
+        let store = self.take_store()?;
+        self.load_from(store)
+    }
+
+    /// Loads the book from its store, in which a body is damaged.
+    pub(crate) fn spoil(&mut self, place: u64) -> Result<(), CaseFault> {
+        let store = self.take_store()?;
+        let store = spoiled(self.alloc, store, place)?;
+        self.load_from(store)
+    }
+
+    // Goes on with a book.
+    fn set(&mut self, book: Book<Store>) {
+        match self.running.replace(Running::of(book)) {
+            Some(old) => drop(old.into_book()),
+            None => {}
+        }
+    }
+
+    fn load_from(&mut self, store: Store) -> Result<(), CaseFault> {
+        match Book::load(self.alloc, store) {
+            Ok(book) => {
+                self.set(book);
+                self.tell_mended()
+            }
+            Err((_store, fault)) => self.tell_fault(fault),
+        }
+    }
+
+    /// Whether the records of the book come out of a snapshot of themselves as they are.
+    pub(crate) fn fold_again(&mut self) -> Result<(), CaseFault> {
+        let alloc = self.alloc;
+        if folds_again(alloc, self.book()?.records())? {
+            self.tell("same records")
+        } else {
+            self.tell("other records")
+        }
+    }
+
+    /// What was told, and the entries that there are, one a line.
+    pub(crate) fn into_outcome(self, taken: Result<(), CaseFault>) -> Result<Outcome, CaseFault> {
+        let Stand {
+            alloc: _,
+            running,
+            cloud: _,
+            told,
+        } = self;
+        let book = match running {
+            Some(running) => Some(running.into_book()),
+            None => None,
+        };
+        taken?;
+        outcome(told, book.as_ref())
+    }
+}
+
+fn answered(cloud: &mut SimCloud<MemKeeper>, permit: &Permit) -> Result<Answer, CaseFault> {
+    match cloud.perform(permit.n(), permit.owner(), permit.dep(), permit.call()) {
+        Ok(answer) => Ok(answer),
+        Err(_) => Err(CaseFault::Memory),
+    }
+}
+
+fn outcome(told: Vec<u8>, book: Option<&Book<Store>>) -> Result<Outcome, CaseFault> {
+    let mut text = told;
+    text.push(b'\n')?;
+    if let Some(book) = book {
+        push_entries(&mut text, book.entries())?;
+    }
+    Ok(Outcome::bytes(text))
+}

@@ -1,0 +1,176 @@
+//! The steps of a case.
+use crate::asks::{asked, deploy};
+use crate::stand::Stand;
+use crate::uploads::release;
+use bosh_base::{Answer, Name, Text};
+use bosh_book::Ask;
+use bosh_case_words::{Worded, number, word};
+use bosh_cases::{CaseFault, Given, characters};
+use bosh_ports::Rig;
+use bosh_yaml::Node;
+use std::str::SplitWhitespace;
+
+// Generic, since what is asked for is let go after it, which is dear to prove where it has many kinds.
+fn with<T: Drop, F: FnOnce(&mut Stand, T) -> Result<(), CaseFault> + Drop>(
+    stand: &mut Stand,
+    given: Result<T, CaseFault>,
+    ask: F,
+) -> Result<(), CaseFault>
+    requires { F.IsAlwaysCallable ask }
+{
+    match given {
+        Ok(given) => ask(stand, given),
+        Err(fault) => Err(fault),
+    }
+}
+
+fn begin(stand: &mut Stand, ask: Ask) -> Result<(), CaseFault> {
+    let task = stand.book()?.begin_task(&ask);
+    stand.tell_task(task)
+}
+
+// As `stemcell jammy 1.1`.
+fn stemcell_step(stand: &mut Stand, words: &mut SplitWhitespace<'_>) -> Result<(), CaseFault> {
+    let os = Name::of(stand.alloc(), word(words)?.as_bytes())?;
+    let version = word(words)?.as_bytes();
+    let added = stand.book()?.add_stemcell(&os, version);
+    stand.tell_added(added)
+}
+
+// As `claim 1` or `claim 1 by 2`.
+fn claim_step(stand: &mut Stand, words: &mut SplitWhitespace<'_>) -> Result<(), CaseFault> {
+    let task = number(words)?;
+    match words.next() {
+        None => stand.claim(task, 0),
+        Some(_) => match u8::try_from(number(words)?) {
+            Ok(worker) => stand.claim(task, worker),
+            Err(_) => Err(CaseFault::Form),
+        },
+    }
+}
+
+// As `settle 3 cid 1`.
+fn settle_step(stand: &mut Stand, words: &mut SplitWhitespace<'_>) -> Result<(), CaseFault> {
+    let n = number(words)?;
+    let answer = Answer::of(stand.alloc(), words);
+    with(stand, answer, |stand, answer| stand.settle(n, answer))
+}
+
+// As `state 3 running drained`: the machine has the spec that is wanted of its instance.
+fn state_step(stand: &mut Stand, words: &mut SplitWhitespace<'_>) -> Result<(), CaseFault> {
+    let n = number(words)?;
+    let (running, drained) = (words.next(), words.next());
+    let answer = stand.facts(n, running.is_some(), drained.is_some());
+    with(stand, answer, |stand, answer| stand.settle(n, answer))
+}
+
+// As `spoil 3`: the store has a body of no entry at a place, and is loaded.
+fn spoil_step(stand: &mut Stand, words: &mut SplitWhitespace<'_>) -> Result<(), CaseFault> {
+    let place = number(words)?;
+    stand.spoil(place)
+}
+
+fn rig_of(word: &str) -> Result<Rig, CaseFault> {
+    match word {
+        "lost" => Ok(Rig::FailLost),
+        "kept" => Ok(Rig::FailKept),
+        _ => Err(CaseFault::Form),
+    }
+}
+
+// As `rig 1 lost` or `rig 1 kept`.
+fn rig_step(stand: &mut Stand, words: &mut SplitWhitespace<'_>) -> Result<(), CaseFault> {
+    let k = number(words)?;
+    let how = rig_of(word(words)?)?;
+    if k == 0 {
+        return Err(CaseFault::Form);
+    }
+    let done = stand.book()?.rig(k, how);
+    stand.tell_done(done)
+}
+
+// A task is asked for.
+fn ask_step(
+    stand: &mut Stand,
+    verb: &str,
+    words: &mut SplitWhitespace<'_>,
+) -> Result<(), CaseFault> {
+    let ask = asked(stand.alloc(), verb, words);
+    with(stand, ask, |stand, ask| match ask {
+        Some(ask) => begin(stand, ask),
+        None => Err(CaseFault::Form),
+    })
+}
+
+fn take_words(stand: &mut Stand, text: &str) -> Result<(), CaseFault> {
+    let mut words = text.split_whitespace();
+    match word(&mut words)? {
+        "stemcell" => stemcell_step(stand, &mut words),
+        "claim" => claim_step(stand, &mut words),
+        "settle" => settle_step(stand, &mut words),
+        "state" => state_step(stand, &mut words),
+        "spoil" => spoil_step(stand, &mut words),
+        "do" => stand.carry_out(number(&mut words)?),
+        "run" => stand.run(number(&mut words)?),
+        "end" => stand.end(number(&mut words)?),
+        "abandon" => stand.abandon(number(&mut words)?),
+        "reload" => stand.reload(),
+        "load" => stand.load(),
+        "rig" => rig_step(stand, &mut words),
+        "fold" => stand.fold_again(),
+        verb => ask_step(stand, verb, &mut words),
+    }
+}
+
+fn config_step(stand: &mut Stand, file: Result<Text, CaseFault>) -> Result<(), CaseFault> {
+    let file = file?;
+    let done = stand.book()?.set_config(file.as_slice());
+    stand.tell_done(done)
+}
+
+// `{"config": TEXT}`, `{"release": ..}` or `{"deploy": ..}`.
+fn take_map(stand: &mut Stand, node: &Node) -> Result<(), CaseFault> {
+    let alloc = stand.alloc();
+    if let Some(file) = node.find(b"config") {
+        return config_step(stand, Text::of(alloc, file));
+    }
+    if let Some(folder) = node.find(b"release") {
+        return with(stand, release(alloc, folder), |stand, release| {
+            let added = stand.book()?.upload(release);
+            stand.tell_added(added)
+        });
+    }
+    match node.find(b"deploy") {
+        Some(_) => with(stand, deploy(alloc, node), begin),
+        None => Err(CaseFault::Form),
+    }
+}
+
+// A step is words, a map, or a word after an `@` under which the setting has one.
+fn take_step(stand: &mut Stand, setting: &Node, node: &Node) -> Result<(), CaseFault> {
+    match node {
+        Node::Text(text) => take_named(stand, setting, characters(text)?),
+        _ => take_map(stand, node),
+    }
+}
+
+fn take_named(stand: &mut Stand, setting: &Node, text: &str) -> Result<(), CaseFault> {
+    match text.strip_prefix('@') {
+        None => take_words(stand, text),
+        Some(key) => match setting.find(key.as_bytes()) {
+            Some(node) => take_map(stand, node),
+            None => Err(CaseFault::Form),
+        },
+    }
+}
+
+/// Takes the steps of a list, one after the other.
+pub(crate) fn take_steps(stand: &mut Stand, setting: &Node, given: &Node) -> Result<(), CaseFault> {
+    let Node::List(steps) = given else {
+        return Err(CaseFault::Form);
+    };
+    for step in steps.as_slice() {
+        take_step(stand, setting, step)?;
+    }
+    Ok(())
+}
