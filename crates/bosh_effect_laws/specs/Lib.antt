@@ -1,0 +1,5 @@
+pub mod DiskStates
+pub mod Following
+pub mod Holders
+pub mod Orderly
+pub mod VmStates

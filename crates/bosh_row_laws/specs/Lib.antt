@@ -1,0 +1,5 @@
+pub mod Answered
+pub mod Left
+pub mod Rightful
+pub mod RowExample
+pub mod SoundDisks
