@@ -60,20 +60,28 @@ fn manifest_of(alloc: Global, instances: u32) -> Option<Manifest> {
 
 /// The task that deploys so many instances.
 pub(crate) fn ask_of(alloc: Global, instances: u32) -> Option<Ask> {
+    let manifest = manifest_of(alloc, instances)?;
     Some(Ask::Deploy(Deploy {
-        manifest: manifest_of(alloc, instances)?,
+        manifest,
         recreate: false,
         fix: false,
         source: Digest([0; 32]),
     }))
 }
 
-/// A new book that knows the cloud config and the stemcell.
-pub(crate) fn book_of(alloc: Global) -> Option<Book<MemKeeper>> {
-    let mut book = Book::load(alloc, MemKeeper::new(alloc)).ok()?;
-    let os = Name::of(alloc, b"jammy").ok()?;
-    if book.set_config(CONFIG.as_bytes()).is_err() || book.add_stemcell(&os, b"1").is_err() {
-        return None;
+/// A new book.
+pub(crate) fn new_book(alloc: Global) -> Option<Book<MemKeeper>> {
+    Book::load(alloc, MemKeeper::new(alloc)).ok()
+}
+
+fn is_told_of(book: &mut Book<MemKeeper>, os: &Name) -> bool {
+    book.set_config(CONFIG.as_bytes()).ok().is_some() && book.add_stemcell(os, b"1").ok().is_some()
+}
+
+/// Whether the book knows the cloud config and the stemcell now.
+pub(crate) fn is_told(book: &mut Book<MemKeeper>, alloc: Global) -> bool {
+    match Name::of(alloc, b"jammy").ok() {
+        Some(os) => is_told_of(book, &os),
+        None => false,
     }
-    Some(book)
 }

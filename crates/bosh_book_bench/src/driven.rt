@@ -19,28 +19,42 @@ fn settle(book: &mut Book<MemKeeper>, permit: Permit) -> bool {
     let answer = answer_to(&permit);
     match book.settle(permit, answer) {
         Ok(()) => true,
-        Err((permit, _answer, _fault)) => {
-            book.abandon(permit);
-            false
-        }
+        Err((permit, answer, fault)) => give_up(book, permit, answer, fault),
     }
+}
+
+// Generic, since an answer and a refusal that are let go are dear to prove.
+fn give_up<A: Drop, E: Drop>(
+    book: &mut Book<MemKeeper>,
+    permit: Permit,
+    _answer: A,
+    _fault: E,
+) -> bool {
+    book.abandon(permit);
+    false
 }
 
 // Claims work and ends its call.
 fn work(book: &mut Book<MemKeeper>, task: u64) -> bool {
-    match book.claim(task, 0) {
-        Ok(Claim::Work(permit)) => settle(book, permit),
-        _ => false,
+    match book.claim(task, 0).ok() {
+        Some(Claim::Work(permit)) => settle(book, permit),
+        Some(Claim::Wait) => false,
+        Some(Claim::Over) => false,
+        None => false,
     }
 }
 
 fn is_done(book: &mut Book<MemKeeper>, task: u64) -> bool {
-    matches!(book.end_task(task), Ok(TaskEnd::Finished))
+    is_finished(book.end_task(task).ok())
+}
+
+fn is_finished(end: Option<TaskEnd>) -> bool {
+    matches!(end, Some(TaskEnd::Finished))
 }
 
 /// Whether a task is done that is carried out from its opening to its end, by claims and ends of calls alone.
 pub(crate) fn is_driven(book: &mut Book<MemKeeper>, ask: &Ask) -> bool {
-    let Ok(task) = book.begin_task(ask) else {
+    let Some(task) = book.begin_task(ask).ok() else {
         return false;
     };
     for _ in 0..MOST_CALLS {

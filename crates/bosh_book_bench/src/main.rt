@@ -1,15 +1,15 @@
-//! Times a deploy of instances in eight groups to its end by claims and ends of calls, the fold of its entries, or a load
-//! of the store that it leaves. The words are the form, `drive`, `fold` or `load`, and the number of instances, at most
-//! 512; the time is printed in microseconds. Without words it does nothing.
+//! Times a deploy of instances in eight groups to its end by claims and ends of calls, or the fold of its entries. The
+//! words are the form, `drive` or `fold`, and the number of instances, at most 512; the time is printed in microseconds.
+//! Without words it does nothing.
 #![tactic(auto)]
 
 mod deploy;
 mod driven;
 
-use crate::deploy::{ask_of, book_of};
+use crate::deploy::{ask_of, is_told, new_book};
 use crate::driven::is_driven;
 use bosh_base::Entry;
-use bosh_book::Book;
+use bosh_book::{Ask, Book};
 use bosh_fold::Records;
 use bosh_ports::MemKeeper;
 use std::alloc::Global;
@@ -26,14 +26,12 @@ const MOST: u32 = 512;
 enum Form {
     Drive,
     Fold,
-    Load,
 }
 
 fn form_of(word: &str) -> Option<Form> {
     match word {
         "drive" => Some(Form::Drive),
         "fold" => Some(Form::Fold),
-        "load" => Some(Form::Load),
         _ => None,
     }
 }
@@ -42,28 +40,58 @@ fn time_for(clock: &impl Clock, alloc: Global, form: Form, count: u32) -> Option
     if count > MOST {
         return None;
     }
-    let (book, took) = driven(clock, alloc, count)?;
     match form {
-        Form::Drive => Some(took),
-        Form::Fold => time_of_fold(clock, alloc, &book),
-        Form::Load => time_of_load(clock, alloc, book),
+        Form::Drive => took(drive(clock, alloc, count)),
+        Form::Fold => took(fold(clock, alloc, count)),
     }
 }
 
-fn driven(clock: &impl Clock, alloc: Global, count: u32) -> Option<(Book<MemKeeper>, Duration)> {
-    let ask = ask_of(alloc, count)?;
-    let mut book = book_of(alloc)?;
-    let start = Instant::now(clock).ok()?;
-    let is_done = is_driven(&mut book, &ask);
-    let took = start.elapsed(clock).ok()?;
-    if is_done { Some((book, took)) } else { None }
+/// A book, and what it is asked.
+type Asked = (Book<MemKeeper>, Ask);
+
+// These are generic, since a book and what it is asked are dear to prove where they are let go.
+fn both<A: Drop, B: Drop>(one: Option<A>, other: Option<B>) -> Option<(A, B)> {
+    let one = one?;
+    Some((one, other?))
 }
 
-fn time_of_fold(clock: &impl Clock, alloc: Global, book: &Book<MemKeeper>) -> Option<Duration> {
+fn took<T: Drop>(timed: Option<(T, Duration)>) -> Option<Duration> {
+    let (_value, took) = timed?;
+    Some(took)
+}
+
+// What is done to a value, and how long that took, where it was done.
+fn timed<T: Drop, F: FnOnce(&mut T) -> bool + Drop>(
+    clock: &impl Clock,
+    value: Option<T>,
+    run: F,
+) -> Option<(T, Duration)>
+    requires { F.IsAlwaysCallable run }
+{
+    let mut value = value?;
     let start = Instant::now(clock).ok()?;
-    let is_folded = folds(alloc, book.entries());
+    let is_done = run(&mut value);
     let took = start.elapsed(clock).ok()?;
-    if is_folded { Some(took) } else { None }
+    if is_done { Some((value, took)) } else { None }
+}
+
+fn untimed<T: Drop>(timed: Option<(T, Duration)>) -> Option<T> {
+    let (value, _took) = timed?;
+    Some(value)
+}
+
+fn drive(clock: &impl Clock, alloc: Global, count: u32) -> Option<(Asked, Duration)> {
+    let asked = both(new_book(alloc), ask_of(alloc, count));
+    timed(clock, asked, |it: &mut Asked| is_done(it, alloc))
+}
+
+fn is_done(asked: &mut Asked, alloc: Global) -> bool {
+    is_told(&mut asked.0, alloc) && is_driven(&mut asked.0, &asked.1)
+}
+
+fn fold(clock: &impl Clock, alloc: Global, count: u32) -> Option<(Asked, Duration)> {
+    let driven = untimed(drive(clock, alloc, count));
+    timed(clock, driven, |it: &mut Asked| folds(alloc, it.0.entries()))
 }
 
 fn folds(alloc: Global, entries: &[Entry]) -> bool {
@@ -74,14 +102,6 @@ fn folds(alloc: Global, entries: &[Entry]) -> bool {
         }
     }
     true
-}
-
-fn time_of_load(clock: &impl Clock, alloc: Global, book: Book<MemKeeper>) -> Option<Duration> {
-    let store = book.into_store();
-    let start = Instant::now(clock).ok()?;
-    let loaded = Book::load(alloc, store);
-    let took = start.elapsed(clock).ok()?;
-    if loaded.is_ok() { Some(took) } else { None }
 }
 
 fn main(rt: HostRuntime) -> io::Result<ExitCode> {

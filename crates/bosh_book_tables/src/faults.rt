@@ -28,8 +28,23 @@ fn word(fault: &BookFault) -> &'static [u8] {
     }
 }
 
-/// Adds a refusal, with what it names.
-pub(crate) fn push_fault(text: &mut Vec<u8>, fault: &BookFault) -> Result<(), CaseFault> {
+/// What is told of a refusal.
+pub(crate) trait Told {
+    /// Adds its name, with what it names. Want of memory is none of the book's answers.
+    fn push_to(&self, text: &mut Vec<u8>) -> Result<(), CaseFault>;
+}
+
+impl Told for BookFault {
+    fn push_to(&self, text: &mut Vec<u8>) -> Result<(), CaseFault> {
+        match self {
+            BookFault::Memory => Err(CaseFault::Memory),
+            fault => push_fault(text, fault),
+        }
+    }
+}
+
+// Adds a refusal, with what it names.
+fn push_fault(text: &mut Vec<u8>, fault: &BookFault) -> Result<(), CaseFault> {
     match fault {
         BookFault::Damaged { position } => push_count(text, b"Damaged ", *position)?,
         BookFault::Locked { task } => push_count(text, b"Locked ", *task)?,

@@ -23,9 +23,9 @@ pub(crate) enum Claimed {
 impl Running {
     /// The book of a new store.
     pub(crate) fn new(alloc: Global) -> Option<Running> {
-        match Book::load(alloc, new_store(alloc)) {
-            Ok(book) => Some(Running::of(book)),
-            Err(_) => None,
+        match Book::load(alloc, new_store(alloc)).ok() {
+            Some(book) => Some(Running::of(book)),
+            None => None,
         }
     }
 
@@ -85,15 +85,17 @@ impl Running {
         };
         match self.book.settle(permit, answer) {
             Ok(()) => Ok(Ok(())),
-            Err((permit, _answer, fault)) => Ok(self.keep_after(permit, fault)),
+            Err((permit, answer, fault)) => Ok(self.keep_after(permit, answer, fault)),
         }
     }
 
-    fn keep_after(&mut self, permit: Permit, fault: BookFault) -> Result<(), BookFault> {
-        match self.keep(permit) {
-            Ok(_) => Err(fault),
-            Err(memory) => Err(memory),
+    // Generic, since an answer and a refusal that are let go are dear to prove.
+    fn keep_after<A: Drop, E>(&mut self, permit: Permit, _answer: A, fault: E) -> Result<(), E> {
+        match self.permits.keep(permit) {
+            Ok(()) => {}
+            Err(permit) => self.book.abandon(permit),
         }
+        Err(fault)
     }
 
     /// Gives the call of a permit up.

@@ -1,12 +1,12 @@
 //! The book that a case works on.
 use crate::claims::push_permit;
 use crate::entries::push_entries;
-use crate::faults::push_fault;
+use crate::faults::Told;
 use crate::foldings::folds_again;
 use crate::running::{Claimed, Running};
 use crate::store::{Store, spoiled};
 use bosh_base::{Answer, TaskEnd};
-use bosh_book::{Added, Book, BookFault, Permit};
+use bosh_book::{Added, Book, Permit};
 use bosh_cases::{CaseFault, Outcome, push_parts};
 use bosh_cloud::SimCloud;
 use bosh_ports::MemKeeper;
@@ -69,22 +69,32 @@ impl Stand {
         Ok(push_parts(self.part()?, &[word.as_bytes(), b" ", number.as_bytes()])?)
     }
 
-    fn tell_fault(&mut self, fault: BookFault) -> Result<(), CaseFault> {
-        match fault {
-            BookFault::Memory => Err(CaseFault::Memory),
-            fault => push_fault(self.part()?, &fault),
-        }
+    // Generic, as all that tell refusals are: to let one go, which has many kinds, is dear to prove.
+    fn tell_fault<E: Told + Drop>(&mut self, fault: E) -> Result<(), CaseFault> {
+        fault.push_to(self.part()?)
+    }
+
+    // .. which ends the work.
+    fn stop_at<E: Told + Drop>(&mut self, fault: E) -> Result<bool, CaseFault> {
+        fault.push_to(self.part()?)?;
+        Ok(false)
     }
 
     /// Tells how a call came out that has no answer of its own.
-    pub(crate) fn tell_done(&mut self, done: Result<(), BookFault>) -> Result<(), CaseFault> {
+    pub(crate) fn tell_done<E: Told + Drop>(
+        &mut self,
+        done: Result<(), E>,
+    ) -> Result<(), CaseFault> {
         match done {
             Ok(()) => self.tell("ok"),
             Err(fault) => self.tell_fault(fault),
         }
     }
 
-    pub(crate) fn tell_added(&mut self, added: Result<Added, BookFault>) -> Result<(), CaseFault> {
+    pub(crate) fn tell_added<E: Told + Drop>(
+        &mut self,
+        added: Result<Added, E>,
+    ) -> Result<(), CaseFault> {
         match added {
             Ok(Added::New) => self.tell("new"),
             Ok(Added::Same) => self.tell("same"),
@@ -92,14 +102,17 @@ impl Stand {
         }
     }
 
-    pub(crate) fn tell_task(&mut self, task: Result<u64, BookFault>) -> Result<(), CaseFault> {
+    pub(crate) fn tell_task<E: Told + Drop>(
+        &mut self,
+        task: Result<u64, E>,
+    ) -> Result<(), CaseFault> {
         match task {
             Ok(task) => self.tell_number("task", task),
             Err(fault) => self.tell_fault(fault),
         }
     }
 
-    fn tell_end(&mut self, end: Result<TaskEnd, BookFault>) -> Result<(), CaseFault> {
+    fn tell_end<E: Told + Drop>(&mut self, end: Result<TaskEnd, E>) -> Result<(), CaseFault> {
         match end {
             Ok(TaskEnd::Finished) => self.tell("done"),
             Ok(TaskEnd::Fault { n, .. }) => self.tell_number("failed", n),
@@ -182,10 +195,7 @@ impl Stand {
                 Ok(true)
             }
             Ok(_) => Ok(false),
-            Err(fault) => {
-                self.tell_fault(fault)?;
-                Ok(false)
-            }
+            Err(fault) => self.stop_at(fault),
         }
     }
 
@@ -251,12 +261,12 @@ impl Stand {
     }
 
     fn load_from(&mut self, store: Store) -> Result<(), CaseFault> {
-        match Book::load(self.alloc, store) {
+        match loaded(Book::load(self.alloc, store)) {
             Ok(book) => {
                 self.set(book);
                 self.tell_mended()
             }
-            Err((_store, fault)) => self.tell_fault(fault),
+            Err(fault) => self.tell_fault(fault),
         }
     }
 
@@ -284,6 +294,14 @@ impl Stand {
         };
         taken?;
         outcome(told, book.as_ref())
+    }
+}
+
+// Without the store, which is given back. Generic, as it is let go.
+fn loaded<B, K: Drop, E>(book: Result<B, (K, E)>) -> Result<B, E> {
+    match book {
+        Ok(book) => Ok(book),
+        Err((_store, fault)) => Err(fault),
     }
 }
 
