@@ -4,11 +4,11 @@ pub mod DiskTieLemmas
 pub mod EndLemmas
 pub mod ExampleLemmas
 pub mod FallLemmas
-pub mod KnownTieLemmas
-pub mod ListLemmas
 pub mod FilterLemmas
 pub mod FitLemmas
 pub mod FoundLemmas
+pub mod KnownTieLemmas
+pub mod ListLemmas
 pub mod LooseTieLemmas
 pub mod LostLemmas
 pub mod MakeTieLemmas
@@ -16,6 +16,7 @@ pub mod MigrationLemmas
 pub mod NewDiskLemmas
 pub mod NumberLemmas
 pub mod OneCallLemmas
+pub mod PingLemmas
 pub mod PlainRightLemmas
 pub mod ProbeTieLemmas
 pub mod RightCaseLemmas

@@ -1,11 +1,13 @@
 //! The steps of a row end.
 ghost use Rattle.std.specs.Prelude.{◌≡◌, ℕ, ◌+◌, ◌≤◌, ◌<◌, false, length, List, None, Option, Some, true};
+ghost use Rattle.bosh_base.specs.declared.answer.Answer.{Answer};
+ghost use Rattle.bosh_base.specs.declared.call.Call.TheVariants.{Ping};
 ghost use Rattle.bosh_base.specs.declared.digest.Digest.{Digest};
 ghost use Rattle.bosh_base.specs.declared.entry.Entry.{Entry};
 ghost use Rattle.bosh_base.specs.declared.goal.GoalRow.{GoalRow};
 ghost use Rattle.bosh_base.specs.declared.key.KeyWork.{KeyWork};
 ghost use Rattle.bosh_base.specs.declared.row.Row.{Row};
-ghost use Rattle.bosh_rows.specs.After.{updated};
+ghost use Rattle.bosh_rows.specs.After.{after, updated};
 ghost use Rattle.bosh_rows.specs.NextStep.{next_step};
 ghost use Rattle.bosh_rows.specs.Standing.{IsStanding};
 ghost use Rattle.bosh_row_laws.specs.Answered.{Answered, AreAnswered, IsAnswered, has_room_for_disks, row_after};
@@ -29,9 +31,12 @@ pub fn a_call_leaves_less()
 /// it.
 #[tactic(auto, using(crate::proofs::RoomLemmas::few_calls))]
 pub fn the_steps_end()
-    ensures { (built : KeyWork → List Digest → Digest) (want : Option GoalRow) (row : Row) (calls : List Answered) →
-        are_sound row.disks ≡ true → has_room_for_disks row ≡ true → AreAnswered built want row calls →
-        length calls ≤ 32 }
+    ensures asked { (built : KeyWork → List Digest → Digest) (want : Option GoalRow) (row : Row)
+        (calls : List Answered) → are_sound row.disks ≡ true → has_room_for_disks row ≡ true →
+        AreAnswered built want row calls → length calls ≤ 32 }
+    ensures pinged { (built : KeyWork → List Digest → Digest) (want : Option GoalRow) (row : Row) (n vm : ℕ)
+        (answer : Answer) (calls : List Answered) → are_sound row.disks ≡ true → has_room_for_disks row ≡ true →
+        AreAnswered built want (after n (Ping vm) answer row) calls → 1 + length calls ≤ 36 }
 {}
 
 /// Where nothing is to be done for a row it stands as it is wanted, once its update is done. Without a want it has no
