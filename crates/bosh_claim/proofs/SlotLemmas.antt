@@ -5,8 +5,8 @@ use Rattle.std.proofs.lemmas.Bool.Decides.{eqb_tells}
 use Rattle.bosh_base.specs.declared.call.Call.{Call}
 use Rattle.bosh_base.specs.declared.owner.Owner.{Owner}
 use Rattle.bosh_base.specs.declared.owner.Owner.TheVariants.{Compile}
-use Rattle.bosh_fold.specs.declared.records.Records.{Records}
-use Rattle.bosh_fold.specs.declared.work.Work.{Work}
+use Rattle.bosh_records.specs.declared.records.Records.{Records}
+use Rattle.bosh_work.specs.declared.work.Work.{Work}
 use Rattle.bosh_claim.specs.Slot.{call_below, call_of_slot, for_slot}
 
 -- one more slot is passed over

@@ -13,8 +13,8 @@ use Rattle.bosh_base.specs.declared.entry.Entry.{Entry}
 use Rattle.bosh_base.specs.declared.entry.Entry.TheVariants as entries
 use Rattle.bosh_base.specs.declared.release.Release.{Release}
 use Rattle.bosh_base.specs.declared.stemcell.Stemcell.{Stemcell}
-use Rattle.bosh_fold.specs.Readers.{call_at, is_empty}
-use Rattle.bosh_fold.specs.declared.records.Records.{Records}
+use Rattle.bosh_records.specs.Readers.{call_at, is_empty}
+use Rattle.bosh_records.specs.declared.records.Records.{Records}
 use Rattle.bosh_claim.specs.Beginning.{begins}
 use Rattle.bosh_claim.specs.Ending.{ends_task, fails_task}
 use Rattle.bosh_claim.specs.Opening.{opens}

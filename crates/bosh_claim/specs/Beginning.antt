@@ -9,15 +9,15 @@ use Rattle.bosh_base.specs.declared.entry.Begin.{Begin}
 use Rattle.bosh_base.specs.declared.inst.Inst.{Inst}
 use Rattle.bosh_base.specs.declared.owner.Owner.{Owner}
 use Rattle.bosh_base.specs.declared.owner.Owner.TheVariants as owners
-use Rattle.bosh_fold.specs.Readers.{instance_at, machine_at, orphan_at, want_of, work_at}
-use Rattle.bosh_fold.specs.declared.instances.GroupPlace.{GroupPlace}
-use Rattle.bosh_fold.specs.declared.instances.Instance.{Instance}
-use Rattle.bosh_fold.specs.declared.machines.Machine.{Machine}
-use Rattle.bosh_fold.specs.declared.orphans.LooseDisk.{LooseDisk}
-use Rattle.bosh_fold.specs.declared.records.Records.{Records}
-use Rattle.bosh_fold.specs.declared.work.GroupWork.{GroupWork}
-use Rattle.bosh_fold.specs.declared.work.Line.{Line}
-use Rattle.bosh_fold.specs.declared.work.Work.{Work}
+use Rattle.bosh_records.specs.Readers.{instance_at, machine_at, orphan_at, want_of, work_at}
+use Rattle.bosh_work.specs.declared.part.GroupPlace.{GroupPlace}
+use Rattle.bosh_records.specs.declared.instances.Instance.{Instance}
+use Rattle.bosh_records.specs.declared.machines.Machine.{Machine}
+use Rattle.bosh_records.specs.declared.orphans.LooseDisk.{LooseDisk}
+use Rattle.bosh_records.specs.declared.records.Records.{Records}
+use Rattle.bosh_work.specs.declared.work.GroupWork.{GroupWork}
+use Rattle.bosh_work.specs.declared.line.Line.{Line}
+use Rattle.bosh_work.specs.declared.work.Work.{Work}
 use Rattle.bosh_claim.specs.Number.{is_next}
 use Rattle.bosh_claim.specs.Phase.{present}
 use Rattle.bosh_claim.specs.Slot.{call_of_slot}

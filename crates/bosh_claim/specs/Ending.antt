@@ -10,12 +10,12 @@ use Rattle.bosh_base.specs.declared.task.TaskEnd.TheVariants as ends
 use Rattle.bosh_base.specs.declared.entry.TaskError.{TaskError}
 use Rattle.bosh_progress.specs.Tree.{marked_in}
 use Rattle.bosh_rows.specs.Standing.{same_truth}
-use Rattle.bosh_fold.specs.Readers.{task_at, work_at}
-use Rattle.bosh_fold.specs.Table.{things}
-use Rattle.bosh_fold.specs.Work.{number_of}
-use Rattle.bosh_fold.specs.declared.machines.Machine.{Machine}
-use Rattle.bosh_fold.specs.declared.records.Records.{Records}
-use Rattle.bosh_fold.specs.declared.work.Work.{Work}
+use Rattle.bosh_records.specs.Readers.{task_at, work_at}
+use Rattle.bosh_records.specs.Table.{things}
+use Rattle.bosh_work.specs.Work.{number_of}
+use Rattle.bosh_records.specs.declared.machines.Machine.{Machine}
+use Rattle.bosh_records.specs.declared.records.Records.{Records}
+use Rattle.bosh_work.specs.declared.work.Work.{Work}
 use Rattle.bosh_claim.specs.Phase.{present}
 
 abbrev pub is_of : List ℕ → Machine → Bool

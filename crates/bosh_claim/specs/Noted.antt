@@ -10,10 +10,10 @@ use Rattle.bosh_base.specs.declared.inst.Inst.{Inst}
 use Rattle.bosh_base.specs.declared.owner.Owner.{Owner}
 use Rattle.bosh_base.specs.declared.owner.Owner.TheVariants as owners
 use Rattle.bosh_progress.specs.Tree.{first_marked}
-use Rattle.bosh_fold.specs.Readers.{row_at}
-use Rattle.bosh_fold.specs.declared.records.Records.{Records}
-use Rattle.bosh_fold.specs.declared.work.Line.{Line}
-use Rattle.bosh_fold.specs.declared.work.Work.{Work}
+use Rattle.bosh_records.specs.Readers.{row_at}
+use Rattle.bosh_records.specs.declared.records.Records.{Records}
+use Rattle.bosh_work.specs.declared.line.Line.{Line}
+use Rattle.bosh_work.specs.declared.work.Work.{Work}
 use Rattle.bosh_claim.specs.Step.{step_of}
 
 -- the first item on which nobody works

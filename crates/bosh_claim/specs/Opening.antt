@@ -1,5 +1,6 @@
 -- Whether a task may open.
-use Rattle.std.specs.Prelude.{ℕ, Bool, true, false, ◌&&◌, ◌||◌, List, [], ◌∷◌, Option, Some, None, filter, is_none, is_some, map, nat_eq, not}
+use Rattle.std.specs.Prelude.{ℕ, Bool, true, false, ◌&&◌, ◌||◌, List, [], ◌∷◌, Option, Some, None, filter, is_none}
+use Rattle.std.specs.Prelude.{is_some, map, nat_eq, not}
 use Rattle.std.specs.Cmp.Lexicographic.{pointwise}
 use Rattle.std.specs.List.{list_all, list_any}
 use Rattle.std.specs.Option.{option_eq, option_map_or}
@@ -18,11 +19,11 @@ use Rattle.bosh_base.specs.declared.task.TaskRow.{TaskRow}
 use Rattle.bosh_rows.specs.Disks.{is_detached}
 use Rattle.bosh_rows.specs.Same.{same_inst}
 use Rattle.bosh_rows.specs.Standing.{is_empty, stands}
-use Rattle.bosh_fold.specs.Planned.{deploys}
-use Rattle.bosh_fold.specs.Readers.{goal_of, orphan_at, row_at}
-use Rattle.bosh_fold.specs.Table.{things}
-use Rattle.bosh_fold.specs.declared.instances.Instance.{Instance}
-use Rattle.bosh_fold.specs.declared.records.Records.{Records}
+use Rattle.bosh_records.specs.Kinds.{deploys}
+use Rattle.bosh_records.specs.Readers.{goal_of, orphan_at, row_at}
+use Rattle.bosh_records.specs.Table.{things}
+use Rattle.bosh_records.specs.declared.instances.Instance.{Instance}
+use Rattle.bosh_records.specs.declared.records.Records.{Records}
 use Rattle.bosh_claim.specs.Number.{is_next}
 
 -- a deployment, or none, is the same as another

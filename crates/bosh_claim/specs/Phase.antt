@@ -5,8 +5,8 @@ use Rattle.std.specs.Option.{option_map}
 use Rattle.bosh_progress.specs.Tree.{first_marked, marked_in}
 use Rattle.bosh_progress.specs.declared.queue.Queue.{Queue}
 use Rattle.bosh_progress.specs.declared.rolling.Rolling.{Rolling}
-use Rattle.bosh_fold.specs.declared.work.GroupWork.{GroupWork}
-use Rattle.bosh_fold.specs.declared.work.Work.{Work}
+use Rattle.bosh_work.specs.declared.work.GroupWork.{GroupWork}
+use Rattle.bosh_work.specs.declared.work.Work.{Work}
 use Rattle.bosh_claim.specs.declared.phase.Phase.{Phase}
 use Rattle.bosh_claim.specs.declared.phase.Phase.TheVariants.{Ask, DeleteDisks, Sweep, Compile, Leave, Update}
 

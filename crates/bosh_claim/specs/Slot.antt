@@ -13,10 +13,10 @@ use Rattle.bosh_base.specs.declared.owner.Owner.{Owner}
 use Rattle.bosh_base.specs.declared.owner.Owner.TheVariants.{Compile}
 use Rattle.bosh_base.specs.declared.row.Doubt.{Doubt}
 use Rattle.bosh_progress.specs.Tree.{first_marked}
-use Rattle.bosh_fold.specs.Readers.{digest_of, goal_of, is_compiling, machine_at, task_at}
-use Rattle.bosh_fold.specs.declared.machines.Machine.{Machine}
-use Rattle.bosh_fold.specs.declared.records.Records.{Records}
-use Rattle.bosh_fold.specs.declared.work.Work.{Work}
+use Rattle.bosh_records.specs.Readers.{digest_of, goal_of, is_compiling, machine_at, task_at}
+use Rattle.bosh_records.specs.declared.machines.Machine.{Machine}
+use Rattle.bosh_records.specs.declared.records.Records.{Records}
+use Rattle.bosh_work.specs.declared.work.Work.{Work}
 
 -- the current goal of the deployment of a task
 abbrev pub goal_for : Records → ℕ → Option Goal

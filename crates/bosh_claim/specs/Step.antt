@@ -6,8 +6,8 @@ use Rattle.bosh_base.specs.declared.inst.Inst.{Inst}
 use Rattle.bosh_base.specs.declared.row.Row.{Row}
 use Rattle.bosh_rows.specs.After.{bare}
 use Rattle.bosh_rows.specs.CallOf.{has_its_machine, next_call}
-use Rattle.bosh_fold.specs.Readers.{row_at}
-use Rattle.bosh_fold.specs.declared.records.Records.{Records}
+use Rattle.bosh_records.specs.Readers.{row_at}
+use Rattle.bosh_records.specs.declared.records.Records.{Records}
 
 -- the call of the next step; a row whose machine is not recorded, though its doubt names one or it is lost, has none
 abbrev pub step_on : Option GoalRow → Row → Option Call

@@ -7,12 +7,12 @@ use Rattle.bosh_base.specs.declared.owner.Owner.{Owner}
 use Rattle.bosh_base.specs.declared.owner.Owner.TheVariants as owners
 use Rattle.bosh_base.specs.declared.row.Doubt.{Doubt}
 use Rattle.bosh_base.specs.declared.row.Vm.{Vm}
-use Rattle.bosh_fold.specs.Readers.{machine_at, orphan_at}
-use Rattle.bosh_fold.specs.declared.machines.Machine.{Machine}
-use Rattle.bosh_fold.specs.declared.machines.MachineName.{MachineName}
-use Rattle.bosh_fold.specs.declared.orphans.LooseDisk.{LooseDisk}
-use Rattle.bosh_fold.specs.declared.records.Records.{Records}
-use Rattle.bosh_fold.specs.declared.work.Work.{Work}
+use Rattle.bosh_records.specs.Readers.{machine_at, orphan_at}
+use Rattle.bosh_records.specs.declared.machines.Machine.{Machine}
+use Rattle.bosh_work.specs.declared.part.MachineName.{MachineName}
+use Rattle.bosh_records.specs.declared.orphans.LooseDisk.{LooseDisk}
+use Rattle.bosh_records.specs.declared.records.Records.{Records}
+use Rattle.bosh_work.specs.declared.work.Work.{Work}
 use Rattle.bosh_claim.specs.Noted.{first_of}
 
 -- a machine is deleted, once it is known which there is

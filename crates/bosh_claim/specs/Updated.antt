@@ -9,12 +9,12 @@ use Rattle.bosh_base.specs.declared.entry.Entry.TheVariants as entries
 use Rattle.bosh_base.specs.declared.inst.Inst.{Inst}
 use Rattle.bosh_base.specs.declared.owner.Owner.TheVariants as owners
 use Rattle.bosh_progress.specs.Rolling.{first_claimable}
-use Rattle.bosh_fold.specs.Readers.{want_of}
-use Rattle.bosh_fold.specs.Work.{roll_of}
-use Rattle.bosh_fold.specs.declared.instances.GroupPlace.{GroupPlace}
-use Rattle.bosh_fold.specs.declared.records.Records.{Records}
-use Rattle.bosh_fold.specs.declared.work.GroupWork.{GroupWork}
-use Rattle.bosh_fold.specs.declared.work.Work.{Work}
+use Rattle.bosh_records.specs.Readers.{want_of}
+use Rattle.bosh_work.specs.Work.{roll_of}
+use Rattle.bosh_work.specs.declared.part.GroupPlace.{GroupPlace}
+use Rattle.bosh_records.specs.declared.records.Records.{Records}
+use Rattle.bosh_work.specs.declared.work.GroupWork.{GroupWork}
+use Rattle.bosh_work.specs.declared.work.Work.{Work}
 use Rattle.bosh_claim.specs.Noted.{beginning, update_of}
 use Rattle.bosh_claim.specs.Step.{step_of}
 

@@ -1,16 +1,17 @@
 -- Whether an update may begin or end, and whether an obsolete instance may leave.
-use Rattle.std.specs.Prelude.{ℕ, Bool, true, false, ◌==◌, ◌&&◌, ◌||◌, Option, Some, None, is_none, nat_lt, slice_get, slice_index_or}
+use Rattle.std.specs.Prelude.{ℕ, Bool, true, false, ◌==◌, ◌&&◌, ◌||◌, Option, Some, None, is_none, nat_lt, slice_get}
+use Rattle.std.specs.Prelude.{slice_index_or}
 use Rattle.std.specs.Prelude.{if◌then◌else◌}
 use Rattle.std.specs.Option.{option_and_then, option_map_or}
 use Rattle.bosh_base.specs.declared.entry.Update.{Update}
 use Rattle.bosh_base.specs.declared.inst.Inst.{Inst}
 use Rattle.bosh_progress.specs.Rolling.{are_past, is_allowed}
 use Rattle.bosh_progress.specs.declared.rolling.Rolling.{Rolling}
-use Rattle.bosh_fold.specs.Readers.{want_of, work_at}
-use Rattle.bosh_fold.specs.declared.instances.GroupPlace.{GroupPlace}
-use Rattle.bosh_fold.specs.declared.records.Records.{Records}
-use Rattle.bosh_fold.specs.declared.work.GroupWork.{GroupWork}
-use Rattle.bosh_fold.specs.declared.work.Work.{Work}
+use Rattle.bosh_records.specs.Readers.{want_of, work_at}
+use Rattle.bosh_work.specs.declared.part.GroupPlace.{GroupPlace}
+use Rattle.bosh_records.specs.declared.records.Records.{Records}
+use Rattle.bosh_work.specs.declared.work.GroupWork.{GroupWork}
+use Rattle.bosh_work.specs.declared.work.Work.{Work}
 use Rattle.bosh_claim.specs.Beginning.{change_of, is_leaving}
 use Rattle.bosh_claim.specs.Phase.{present}
 use Rattle.bosh_claim.specs.Step.{step_of}

@@ -1,6 +1,7 @@
 ghost use Rattle.std.specs.Prelude.{◌≡◌, IfOk};
 ghost use Rattle.std.specs.List.{list_any};
-ghost use Rattle.bosh_claim.specs.Allowed.{allowed, are_equal, ends_call, is_new_release, is_new_stemcell, same_release, same_stemcell};
+ghost use Rattle.bosh_claim.specs.Allowed.{allowed, are_equal, ends_call, is_new_release, is_new_stemcell};
+ghost use Rattle.bosh_claim.specs.Allowed.{same_release, same_stemcell};
 
 use crate::ClaimFault;
 use crate::beginning::begins;
@@ -9,7 +10,7 @@ use crate::opening::opens;
 use crate::snapshot::is_sound;
 use crate::updating::begins_update;
 use bosh_base::{End, Entry, Release, Stemcell, is_version, version_order};
-use bosh_fold::Records;
+use bosh_records::Records;
 use std::alloc::Global;
 use std::cmp::Ordering;
 

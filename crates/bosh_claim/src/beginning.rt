@@ -1,6 +1,7 @@
 ghost use Rattle.std.specs.Prelude.{◌≡◌, IfOk};
 ghost use Rattle.std.specs.Option.{option_copied};
-ghost use Rattle.bosh_claim.specs.Beginning.{begins, call_for, deletion_of, is_call, is_idle, is_leaving, leaving_call, ping_of, sweep_for, update_call};
+ghost use Rattle.bosh_claim.specs.Beginning.{begins, call_for, deletion_of, is_call, is_idle, is_leaving};
+ghost use Rattle.bosh_claim.specs.Beginning.{leaving_call, ping_of, sweep_for, update_call};
 
 use crate::ClaimFault;
 use crate::compile::call_of_slot;
@@ -9,7 +10,8 @@ use crate::number::is_next;
 use crate::phase::{Phase, present};
 use crate::sweep::{deletion, sweep_by};
 use bosh_base::{Begin, Call, Inst, Owner};
-use bosh_fold::{MachineName, Records, Work};
+use bosh_records::Records;
+use bosh_work::{MachineName, Work};
 use std::alloc::Global;
 
 /// Whether a call may begin: it has the next number, and it is the one that is to be made for an owner on which nobody

@@ -9,7 +9,8 @@ use crate::phase::{Phase, present};
 use crate::sweep::{disk_call, sweep_call};
 use crate::update::updated;
 use bosh_base::{Begin, Call, Entry, Owner};
-use bosh_fold::{Records, Work};
+use bosh_records::Records;
+use bosh_work::Work;
 use std::alloc::Global;
 
 /// What comes next in a task.

@@ -5,7 +5,8 @@ ghost use Rattle.bosh_claim.specs.Slot.{call_of_slot, creation, digests_of, key_
 
 use crate::ClaimFault;
 use bosh_base::{Call, Copyable, Digest, KeyWork, Make, Owner, Seq};
-use bosh_fold::{Machine, MachineName, Records, Work};
+use bosh_records::{Machine, Records};
+use bosh_work::{MachineName, Work};
 use std::alloc::Global;
 
 /// The call for the first slot of a task that is not passed over.

@@ -10,7 +10,8 @@ use crate::instance::step;
 use crate::phase::{Phase, present};
 use crate::updating::of_present;
 use bosh_base::{Failure, GoalRow, Inst, Name, TaskEnd, TaskError, Update};
-use bosh_fold::{GroupWork, Machine, Records, Work, number};
+use bosh_records::{Machine, Records};
+use bosh_work::{GroupWork, Work, number};
 use std::alloc::Global;
 
 /// Whether the update of an instance is done: it is left, nobody works on it, it has no next call, and it is a canary or

@@ -1,16 +1,17 @@
 ghost use Rattle.std.specs.Prelude.{◌≡◌, IfOk, None};
 ghost use Rattle.std.specs.Option.{option_copied};
 ghost use Rattle.bosh_base.specs.declared.owner.Owner.TheVariants as owners;
-ghost use Rattle.bosh_fold.specs.Readers.{want_of};
+ghost use Rattle.bosh_records.specs.Readers.{want_of};
 ghost use Rattle.bosh_claim.specs.Noted.{beginning, first_of, gone, leaving, ping, update_of, vm_of};
 ghost use Rattle.bosh_claim.specs.Step.{step_of, step_on};
 
 use crate::ClaimFault;
 use crate::choice::{begin, beginning};
-use crate::place::beside;
 use bosh_base::{Call, Copyable, Entry, GoalRow, Inst, Owner, Row, Update};
-use bosh_fold::{Records, Work};
+use bosh_owned::beside;
+use bosh_records::Records;
 use bosh_rows::{bare, call_of, has_its_machine, next};
+use bosh_work::Work;
 use std::alloc::Global;
 
 /// The first machine of those that are asked whether they answer.

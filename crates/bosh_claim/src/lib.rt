@@ -11,7 +11,6 @@ mod instance;
 mod number;
 mod opening;
 mod phase;
-mod place;
 mod snapshot;
 mod sweep;
 mod update;

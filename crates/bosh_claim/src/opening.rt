@@ -4,15 +4,18 @@ ghost use Rattle.std.specs.List.{list_all, list_any};
 ghost use Rattle.std.specs.Option.{option_copied, option_map_or};
 ghost use Rattle.bosh_base.specs.declared.inst.Inst.{Inst};
 ghost use Rattle.bosh_rows.specs.Same.{same_inst};
-ghost use Rattle.bosh_fold.specs.Planned.{deploys};
-ghost use Rattle.bosh_fold.specs.Readers.{orphan_at};
-ghost use Rattle.bosh_claim.specs.Opening.{changed_in, changes, deletes, does_its_kind, does_not_stand, has_lock, has_named, is_fix, is_free, is_in, is_obsolete, is_of, is_offered_still, keeps, named, names_what_is_there, obsolete_in, opens, opens_on, opens_with, same_dep, withdraws_nothing};
+ghost use Rattle.bosh_records.specs.Kinds.{deploys};
+ghost use Rattle.bosh_records.specs.Readers.{orphan_at};
+ghost use Rattle.bosh_claim.specs.Opening.{changed_in, changes, deletes, does_its_kind, does_not_stand, has_lock};
+ghost use Rattle.bosh_claim.specs.Opening.{has_named, is_fix, is_free, is_in, is_obsolete, is_of, is_offered_still};
+ghost use Rattle.bosh_claim.specs.Opening.{keeps, named, names_what_is_there, obsolete_in, opens, opens_on};
+ghost use Rattle.bosh_claim.specs.Opening.{opens_with, same_dep, withdraws_nothing};
 
 use crate::number::is_next;
 use bosh_base::{
     DepRow, Goal, GoalRow, Inst, Name, Offer, State, TaskKind, TaskOpen, TaskRow, Tie,
 };
-use bosh_fold::{Instance, Records};
+use bosh_records::{Instance, Records};
 use bosh_rows::stands;
 
 /// Whether a task may open: it has the next number, no open task has its lock, and what it is to do is what its kind

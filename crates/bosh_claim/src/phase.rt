@@ -1,7 +1,7 @@
 ghost use Rattle.std.specs.Prelude.{◌≡◌};
 ghost use Rattle.bosh_claim.specs.Phase.{least_stage, lesser, present};
 
-use bosh_fold::{GroupWork, Work};
+use bosh_work::{GroupWork, Work};
 
 /// The phases of a task, in their order (bosh.io, "Deploying", for the order of compilation and updates).
 #[derive(Clone, Copy, Debug, PartialEq, Eq, PartialOrd, Ord)]

@@ -4,7 +4,8 @@ ghost use Rattle.std.specs.Option.{option_copied};
 ghost use Rattle.bosh_rows.specs.CallOf.{is_doubt_on_machine};
 ghost use Rattle.bosh_rows.specs.Disks.{is_active};
 ghost use Rattle.bosh_claim.specs.Opening.{has_lock};
-ghost use Rattle.bosh_claim.specs.Sound.{are_distinct, are_numbered, have_locks_of_their_own, is_sound, is_sound_machine, is_sound_row};
+ghost use Rattle.bosh_claim.specs.Sound.{are_distinct, are_numbered, have_locks_of_their_own, is_sound};
+ghost use Rattle.bosh_claim.specs.Sound.{is_sound_machine, is_sound_row};
 
 use crate::number::is_next;
 use crate::opening::has_lock;

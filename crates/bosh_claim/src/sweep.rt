@@ -3,7 +3,8 @@ ghost use Rattle.std.specs.Option.{option_copied};
 ghost use Rattle.bosh_claim.specs.Sweep.{deletion, disk_call, sweep_by, sweep_call};
 
 use bosh_base::{Call, Doubt, Owner, Vm};
-use bosh_fold::{LooseDisk, MachineName, Records, Work};
+use bosh_records::{LooseDisk, Records};
+use bosh_work::{MachineName, Work};
 
 /// The call for the first compile machine that an earlier task left: it is deleted, once it is known which there is.
 pub(crate) fn sweep_call(records: &Records, work: &Work) -> Option<(Owner, Call)>

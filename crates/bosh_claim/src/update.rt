@@ -1,11 +1,13 @@
 ghost use Rattle.std.specs.Prelude.{◌≡◌, IfOk, option_map};
-ghost use Rattle.bosh_claim.specs.Updated.{claimable, earlier, first_changed, first_place, first_word, is_waiting, noted_of, updated, with_claimable};
+ghost use Rattle.bosh_claim.specs.Updated.{claimable, earlier, first_changed, first_place, first_word, is_waiting};
+ghost use Rattle.bosh_claim.specs.Updated.{noted_of, updated, with_claimable};
 
 use crate::ClaimFault;
 use crate::instance::{begun, update, wanted_step};
-use crate::place::is_some;
 use bosh_base::{Entry, Inst};
-use bosh_fold::{GroupPlace, GroupWork, Records, Work};
+use bosh_owned::is_some;
+use bosh_records::Records;
+use bosh_work::{GroupPlace, GroupWork, Work};
 use std::alloc::Global;
 
 /// The next call of the first changed instance of a stage that may be worked on now; or that its update begins, or that

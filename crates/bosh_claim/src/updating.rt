@@ -3,7 +3,8 @@ ghost use Rattle.bosh_claim.specs.Updating.{begins_update, is_stage, of_present}
 
 use crate::phase::{Phase, present};
 use bosh_base::{Inst, Update};
-use bosh_fold::{GroupPlace, GroupWork, Records, Work};
+use bosh_records::Records;
+use bosh_work::{GroupPlace, GroupWork, Work};
 
 /// Whether the update of an instance may begin: its group's turn is now, and canaries and limit allow it.
 pub(crate) fn begins_update(records: &Records, update: &Update) -> bool

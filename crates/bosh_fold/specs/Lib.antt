@@ -1,13 +1,3 @@
-pub mod Begun
-pub mod Came
-pub mod Ended
-pub mod Instances
-pub mod Keys
+pub mod CameWith
 pub mod Planned
-pub mod Readers
 pub mod Room
-pub mod Snapshot
-pub mod Table
-pub mod Updated
-pub mod View
-pub mod Work

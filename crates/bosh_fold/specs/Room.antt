@@ -3,7 +3,7 @@ use Rattle.std.specs.Prelude.{◌<◌}
 use Rattle.std.specs.Vec.{vec_len, vec_capacity}
 use Rattle.bosh_fold.specs.declared.change.Change.{Change}
 use Rattle.bosh_fold.specs.declared.change.Change.TheVariants.{Release, Stemcell}
-use Rattle.bosh_fold.specs.declared.records.Records.{Records}
+use Rattle.bosh_records.specs.declared.records.Records.{Records}
 
 -- there is room for one release, or one stemcell, more where the change brings one
 abbrev pub HasRoom : Records → Change → Type 0

@@ -1,12 +1,23 @@
 ghost use Rattle.std.specs.Prelude.{◌≡◌, IfOk, OnErr, OnOk};
-ghost use Rattle.bosh_fold.specs.Came.{came, came_with};
+ghost use Rattle.bosh_records.specs.Came.{came};
+ghost use Rattle.bosh_fold.specs.CameWith.{came_with};
 ghost use Rattle.bosh_fold.specs.Planned.{IsPlanned, came_after};
-ghost use Rattle.bosh_fold.specs.declared.change.Change.TheVariants as changes;
 ghost use Rattle.bosh_fold.specs.Room.{HasRoom};
+ghost use Rattle.bosh_fold.specs.declared.change.Change.TheVariants as changes;
 
-use crate::place::put;
-use crate::{Begun, Ended, FoldFault, Opened, Records, Updated};
+use crate::anew::plan_snapshot;
+use crate::beginning::learn_begin;
+use crate::closing::{learn_done, learn_error};
+use crate::ending::learn_end;
+use crate::opening::learn_opening;
+use crate::updating::{learn_update_begin, learn_updated};
 use bosh_base::{Copyable, Entry, Offer, Release, Seq, Stemcell, TaskEnd, Text};
+use bosh_owned::put;
+use bosh_plan::{
+    Begun, Ended, Opened, Updated, plan_begin, plan_done, plan_end, plan_error, plan_gone,
+    plan_opening, plan_update_done,
+};
+use bosh_records::{Records, RecordsFault};
 
 /// What one more entry changes in the records: all that takes memory is made already.
 #[derive(Drop)]
@@ -24,76 +35,74 @@ pub enum Change {
     Nothing,
 }
 
-impl Records {
-    /// What an entry changes. It takes all the memory that is needed, and what is recorded stays as it is.
-    pub fn plan(&mut self, entry: &Entry) -> Result<Change, FoldFault>
-        ensures room { IfOk result (λ change. HasRoom self.new change) }
-        ensures planned { IfOk result (λ change. IsPlanned self.old entry.now change) }
-        ensures same { came self.new ≡ came self.old }
-    {
-        match entry {
-            Entry::Release(release) => self.plan_release(release),
-            Entry::Stemcell(stemcell) => self.plan_stemcell(stemcell),
-            Entry::Config(file) => Ok(Change::Config(file.copy(self.alloc)?)),
-            Entry::TaskOpen(opening) => self.plan_opening(opening).map(Change::Opened),
-            Entry::Begin(begin) => self.plan_begin(begin).map(Change::Begun),
-            Entry::End(end) => self.plan_end(end).map(Change::Ended),
-            Entry::UpdDone(update) => self.plan_update_done(update).map(Change::Updated),
-            Entry::Gone(update) => self.plan_gone(update).map(Change::Updated),
-            Entry::TaskDone(task) => self.plan_done(*task).map(Change::Offers),
-            Entry::TaskError(error) => self.plan_error(error).map(Change::End),
-            Entry::Snapshot(snapshot) => self.plan_snapshot(snapshot).map(Change::Records),
-            Entry::UpdBegin(_) | Entry::Effect(_) | Entry::Write(_) | Entry::Lost(_) => Ok(
-                Change::Nothing,
-            ),
-        }
+/// What an entry changes. It takes all the memory that is needed, and what is recorded stays as it is.
+pub fn plan(records: &mut Records, entry: &Entry) -> Result<Change, RecordsFault>
+    ensures room { IfOk result (λ change. HasRoom records.new change) }
+    ensures planned { IfOk result (λ change. IsPlanned records.old entry.now change) }
+    ensures same { came records.new ≡ came records.old }
+{
+    match entry {
+        Entry::Release(release) => plan_release(records, release),
+        Entry::Stemcell(stemcell) => plan_stemcell(records, stemcell),
+        Entry::Config(file) => Ok(Change::Config(file.copy(records.alloc)?)),
+        Entry::TaskOpen(opening) => plan_opening(records, opening).map(Change::Opened),
+        Entry::Begin(begin) => plan_begin(records, begin).map(Change::Begun),
+        Entry::End(end) => plan_end(records, end).map(Change::Ended),
+        Entry::UpdDone(update) => plan_update_done(records, update).map(Change::Updated),
+        Entry::Gone(update) => plan_gone(records, update).map(Change::Updated),
+        Entry::TaskDone(task) => plan_done(records, *task).map(Change::Offers),
+        Entry::TaskError(error) => plan_error(records, error).map(Change::End),
+        Entry::Snapshot(snapshot) => plan_snapshot(records, snapshot).map(Change::Records),
+        Entry::UpdBegin(_) | Entry::Effect(_) | Entry::Write(_) | Entry::Lost(_) => Ok(
+            Change::Nothing,
+        ),
     }
+}
 
-    fn plan_release(&mut self, release: &Release) -> Result<Change, FoldFault>
-        ensures room { IfOk result (λ change. HasRoom self.new change) }
-        ensures planned { IfOk result (λ change. change ≡ changes.Release release.now) }
-        ensures same { came self.new ≡ came self.old }
-    {
-        self.releases.reserve(1)?;
-        Ok(Change::Release(release.copy(self.alloc)?))
-    }
+fn plan_release(records: &mut Records, release: &Release) -> Result<Change, RecordsFault>
+    ensures room { IfOk result (λ change. HasRoom records.new change) }
+    ensures planned { IfOk result (λ change. change ≡ changes.Release release.now) }
+    ensures same { came records.new ≡ came records.old }
+{
+    records.releases.reserve(1)?;
+    Ok(Change::Release(release.copy(records.alloc)?))
+}
 
-    fn plan_stemcell(&mut self, stemcell: &Stemcell) -> Result<Change, FoldFault>
-        ensures room { IfOk result (λ change. HasRoom self.new change) }
-        ensures planned { IfOk result (λ change. change ≡ changes.Stemcell stemcell.now) }
-        ensures same { came self.new ≡ came self.old }
-    {
-        self.stemcells.reserve(1)?;
-        Ok(Change::Stemcell(stemcell.copy(self.alloc)?))
-    }
+fn plan_stemcell(records: &mut Records, stemcell: &Stemcell) -> Result<Change, RecordsFault>
+    ensures room { IfOk result (λ change. HasRoom records.new change) }
+    ensures planned { IfOk result (λ change. change ≡ changes.Stemcell stemcell.now) }
+    ensures same { came records.new ≡ came records.old }
+{
+    records.stemcells.reserve(1)?;
+    Ok(Change::Stemcell(stemcell.copy(records.alloc)?))
+}
 
-    /// Takes what a planned entry changes into the records. It takes no memory.
-    pub fn learn(&mut self, entry: &Entry, change: Change)
-        requires { HasRoom self.old change }
-        ensures { came self.new ≡ came_after change (came self.old) }
-    {
-        match change {
-            Change::Release(release) => self.releases.push_reserved(release),
-            Change::Stemcell(stemcell) => self.stemcells.push_reserved(stemcell),
-            Change::Config(file) => put(&mut self.config, Some(file)),
-            Change::Opened(opened) => self.learn_opening(opened),
-            Change::Begun(begun) => self.learn_begin(begun),
-            Change::Ended(ended) => self.learn_end(ended),
-            Change::Updated(updated) => self.learn_updated(entry, updated),
-            Change::Offers(offers) => self.learn_done(entry, offers),
-            Change::End(end) => self.learn_error(entry, end),
-            Change::Records(records) => put(self, Box::into_inner(records)),
-            Change::Nothing => self.learn_update_begin(entry),
-        }
+/// Takes what a planned entry changes into the records. It takes no memory.
+pub fn learn(records: &mut Records, entry: &Entry, change: Change)
+    requires { HasRoom records.old change }
+    ensures { came records.new ≡ came_after change (came records.old) }
+{
+    match change {
+        Change::Release(release) => records.releases.push_reserved(release),
+        Change::Stemcell(stemcell) => records.stemcells.push_reserved(stemcell),
+        Change::Config(file) => put(&mut records.config, Some(file)),
+        Change::Opened(opened) => learn_opening(records, opened),
+        Change::Begun(begun) => learn_begin(records, begun),
+        Change::Ended(ended) => learn_end(records, ended),
+        Change::Updated(updated) => learn_updated(records, entry, updated),
+        Change::Offers(offers) => learn_done(records, entry, offers),
+        Change::End(end) => learn_error(records, entry, end),
+        Change::Records(anew) => put(records, Box::into_inner(anew)),
+        Change::Nothing => learn_update_begin(records, entry),
     }
+}
 
-    /// Takes one more entry into the records. For want of memory nothing changes.
-    pub fn apply(&mut self, entry: &Entry) -> Result<(), FoldFault>
-        ensures ok { OnOk result (came self.new ≡ came_with entry.now (came self.old)) }
-        ensures err { OnErr result (came self.new ≡ came self.old) }
-    {
-        let change = self.plan(entry)?;
-        self.learn(entry, change);
-        Ok(())
-    }
+/// Takes one more entry into the records. For want of memory nothing changes.
+pub fn apply(records: &mut Records, entry: &Entry) -> Result<(), RecordsFault>
+    ensures ok { OnOk result (came records.new ≡ came_with entry.now (came records.old)) }
+    ensures err { OnErr result (came records.new ≡ came records.old) }
+{
+    let change = plan(records, entry)?;
+    learn(records, entry, change);
+    Ok(())
 }

@@ -1,6 +1,6 @@
 use Rattle.std.proofs.Common.{◌≡◌}
 use Rattle.std.specs.List.{list_any}
-use Rattle.bosh_fold.specs.Table.{things}
+use Rattle.bosh_records.specs.Table.{things}
 use Rattle.bosh_claim.specs.Ending.{is_of}
 use Rattle.bosh_claim.proofs.ending.has_machine_of.Given as goal
 

@@ -1,7 +1,7 @@
 use Rattle.std.proofs.Common.{◌≡◌}
 use Rattle.std.specs.List.{list_any}
 use Rattle.std.specs.Option.{option_copied}
-use Rattle.bosh_fold.specs.Table.{things}
+use Rattle.bosh_records.specs.Table.{things}
 use Rattle.bosh_claim.specs.Opening.{has_lock}
 use Rattle.bosh_claim.proofs.opening.is_free.Given as goal
 

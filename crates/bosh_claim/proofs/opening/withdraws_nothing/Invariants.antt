@@ -1,6 +1,6 @@
 use Rattle.std.proofs.Common.{◌≡◌}
 use Rattle.std.specs.List.{list_all}
-use Rattle.bosh_fold.specs.Table.{things}
+use Rattle.bosh_records.specs.Table.{things}
 use Rattle.bosh_claim.specs.Opening.{keeps}
 use Rattle.bosh_claim.proofs.opening.withdraws_nothing.Given as goal
 

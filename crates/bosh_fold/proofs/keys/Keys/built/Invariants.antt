@@ -1,6 +1,0 @@
-use Rattle.std.proofs.Common.{◌≡◌, ◌++◌}
-use Rattle.bosh_fold.specs.Keys.{built_of}
-use Rattle.bosh_fold.proofs.keys.Keys.built.Given as goal
-
-abbrev pub invariant-loop-key : goal.invariant-loop-key
-invariant-loop-key l = l.built.items ++ built_of l.key-iterator ≡ built_of l.self.by_key.entries

@@ -1,6 +1,0 @@
-use Rattle.std.proofs.Common.{◌≡◌, ◌++◌}
-use Rattle.bosh_fold.specs.View.{known_of}
-use Rattle.bosh_fold.proofs.records.Records.known.Given as goal
-
-abbrev pub invariant-loop-row : goal.invariant-loop-row
-invariant-loop-row l = l.known.items ++ known_of l.row-iterator ≡ known_of l.self.deployments.places.entries

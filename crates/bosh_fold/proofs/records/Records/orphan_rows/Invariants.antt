@@ -1,6 +1,0 @@
-use Rattle.std.proofs.Common.{◌≡◌, ◌++◌}
-use Rattle.bosh_fold.specs.Snapshot.{loose_disks}
-use Rattle.bosh_fold.proofs.records.Records.orphan_rows.Given as goal
-
-abbrev pub invariant-loop-loose : goal.invariant-loop-loose
-invariant-loop-loose l = l.rows.items ++ loose_disks l.loose-iterator ≡ loose_disks l.self.orphans.places.entries

@@ -1,6 +1,0 @@
-use Rattle.std.proofs.Common.{◌≡◌, ◌++◌}
-use Rattle.bosh_fold.specs.View.{rows_of}
-use Rattle.bosh_fold.proofs.records.Records.rows_of.Given as goal
-
-abbrev pub invariant-loop-inst : goal.invariant-loop-inst
-invariant-loop-inst l = l.rows.items ++ rows_of l.dep l.inst-iterator ≡ rows_of l.dep l.self.instances.by_inst.entries

@@ -1,0 +1,51 @@
+ghost use Rattle.std.specs.Prelude.{◌≡◌};
+
+use bosh_base::Seq;
+use bosh_progress::{PlaceSet, Queue};
+use bosh_records::RecordsFault;
+use bosh_work::{KeyProgress, Line, Work};
+use std::alloc::Global;
+use std::collections::BTreeMap;
+
+/// Nothing is left to do of a task.
+pub(crate) fn nothing(alloc: Global, task: u64) -> Work
+    ensures { result.task ≡ task }
+{
+    Work {
+        task,
+        pings: empty(alloc),
+        sweep: empty(alloc),
+        keys: no_keys(alloc),
+        slots: 0,
+        machines: 0,
+        obsolete: empty(alloc),
+        changed: Seq::new(alloc),
+        groups: Vec::new(alloc),
+        disks: empty(alloc),
+        failed: None,
+        open: 0,
+    }
+}
+
+fn no_keys(alloc: Global) -> KeyProgress {
+    KeyProgress {
+        waiting: Vec::new(alloc),
+        left: PlaceSet::empty(),
+        ready: PlaceSet::empty(),
+        places: BTreeMap::new(alloc),
+        needed: BTreeMap::new(alloc),
+    }
+}
+
+fn empty<T>(alloc: Global) -> Line<T> {
+    Line {
+        items: Vec::new(alloc),
+        queue: Queue::empty(),
+    }
+}
+
+/// Items of which all are left.
+pub(crate) fn full<T: Drop>(alloc: Global, items: Vec<T>) -> Result<Line<T>, RecordsFault> {
+    let queue = Queue::full(alloc, items.len())?;
+    Ok(Line { items, queue })
+}

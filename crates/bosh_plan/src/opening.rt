@@ -1,0 +1,185 @@
+ghost use Rattle.std.specs.Prelude.{◌≡◌, IfOk};
+ghost use Rattle.bosh_records.specs.Came.{came};
+ghost use Rattle.bosh_plan.specs.Opened.{IsOpened, dep_row_of, task_row_of};
+
+use crate::grouping::grouped;
+use crate::key_places::progress;
+use crate::lines::{full, nothing};
+use bosh_base::{Copyable, DepRow, Goal, Inst, Name, Seq, TaskKind, TaskOpen, TaskRow, copy_both};
+use bosh_owned::{beside, put};
+use bosh_records::{Records, RecordsFault, Since, copies};
+use bosh_work::{MachineName, Work};
+use std::alloc::Global;
+
+/// What the opening of a task changes.
+#[derive(Drop)]
+pub struct Opened {
+    pub row: TaskRow,
+    /// Its deployment with the goal, where it is of one.
+    pub deployment: Option<DepRow>,
+    pub work: Work,
+}
+
+/// What the opening of a task changes. Room is made for it, and what is recorded stays as it is.
+pub fn plan_opening(records: &mut Records, opening: &TaskOpen) -> Result<Opened, RecordsFault>
+    ensures opened { IfOk result (λ opened. IsOpened opening.now opened) }
+    ensures same { came records.new ≡ came records.old }
+{
+    records.tasks.ensure(opening.task)?;
+    records.works.ensure(opening.task)?;
+    if let Some(goal) = &opening.goal {
+        records.deployments.ensure(Since::Task(opening.task))?;
+        make_room(records, goal)?;
+    }
+    made(records, opening)
+}
+
+// Room for what a goal wants.
+fn make_room(records: &mut Records, goal: &Goal) -> Result<(), RecordsFault>
+    ensures { came records.new ≡ came records.old }
+{
+    for want in goal.rows.iter() {
+        records.instances.ensure(records.alloc, &want.inst)?;
+    }
+    for work in goal.keys.iter() {
+        records.keys.ensure(records.alloc, &work.name, &work.key)?;
+    }
+    Ok(())
+}
+
+fn made(records: &Records, opening: &TaskOpen) -> Result<Opened, RecordsFault>
+    ensures { IfOk result (λ opened. IsOpened opening.now opened) }
+{
+    let recorded = beside(
+        deployment_of(records.alloc, opening)?,
+        task_row(records.alloc, opening),
+    )?;
+    let ((deployment, row), work) = beside(recorded, work_of(records, opening))?;
+    Ok(Opened {
+        row,
+        deployment,
+        work,
+    })
+}
+
+fn work_of(records: &Records, opening: &TaskOpen) -> Result<Work, RecordsFault>
+    ensures { IfOk result (λ work. work.task ≡ opening.now.task) }
+{
+    let mut work = nothing(records.alloc, opening.task);
+    let filled = fill(records, &mut work, opening);
+    let (work, ()) = beside(work, filled)?;
+    Ok(work)
+}
+
+fn fill(records: &Records, work: &mut Work, opening: &TaskOpen) -> Result<(), RecordsFault>
+    ensures { work.new.task ≡ work.old.task }
+{
+    note_before(records, work, opening)?;
+    note_changes(records.alloc, work, opening)
+}
+
+// What is asked, swept and compiled before any instance changes.
+fn note_before(records: &Records, work: &mut Work, opening: &TaskOpen) -> Result<(), RecordsFault>
+    ensures { work.new.task ≡ work.old.task }
+{
+    let alloc = records.alloc;
+    put(&mut work.pings, full(alloc, to_ping(records, opening)?)?);
+    put(&mut work.sweep, full(alloc, to_sweep(records, opening)?)?);
+    if let Some(goal) = &opening.goal {
+        put(
+            &mut work.keys,
+            progress(alloc, goal.keys.as_slice(), &records.keys)?,
+        );
+        work.slots = u32::try_from(goal.slots.len()).unwrap_or(u32::MAX);
+    }
+    Ok(())
+}
+
+// Which instances leave and change, and which disks are deleted.
+fn note_changes(alloc: Global, work: &mut Work, opening: &TaskOpen) -> Result<(), RecordsFault>
+    ensures { work.new.task ≡ work.old.task }
+{
+    let obsolete = copies(alloc, opening.obsolete.as_slice())?;
+    put(&mut work.obsolete, full(alloc, obsolete)?);
+    put(&mut work.changed, opening.changed.copy(alloc)?);
+    put(&mut work.groups, grouped(alloc, opening)?);
+    let disks = copies(alloc, opening.disks.as_slice())?;
+    put(&mut work.disks, full(alloc, disks)?);
+    Ok(())
+}
+
+// A deploy that looks whether each machine answers asks those of all rows of its deployment that are not known to
+// be lost, and the task that resolves one instance asks that of its row.
+fn to_ping(records: &Records, opening: &TaskOpen) -> Result<Vec<Inst>, RecordsFault> {
+    let mut found = Vec::new(records.alloc);
+    for (inst, _) in records.instances.iter() {
+        if is_asked(opening, inst) && has_machine(records, inst) {
+            found.push(inst.copy(records.alloc)?)?;
+        }
+    }
+    Ok(found)
+}
+
+fn has_machine(records: &Records, inst: &Inst) -> bool {
+    match records.instances.row(inst) {
+        Some(row) => row.vm.is_some() && !row.lost,
+        None => false,
+    }
+}
+
+// The compile machines of the deployment that are recorded.
+fn to_sweep(records: &Records, opening: &TaskOpen) -> Result<Vec<MachineName>, RecordsFault> {
+    let mut found = Vec::new(records.alloc);
+    for (name, machine) in records.machines.iter() {
+        if let Some(machine) = machine {
+            if is_of(opening.dep.as_ref(), &machine.row.dep) {
+                found.push(*name)?;
+            }
+        }
+    }
+    Ok(found)
+}
+
+fn is_asked(opening: &TaskOpen, inst: &Inst) -> bool {
+    match &opening.kind {
+        TaskKind::Fix => is_of(opening.dep.as_ref(), &inst.dep),
+        TaskKind::Resolve(named) => named == inst,
+        _ => false,
+    }
+}
+
+fn is_of(dep: Option<&Name>, other: &Name) -> bool {
+    match dep {
+        Some(dep) => dep == other,
+        None => false,
+    }
+}
+
+fn deployment_of(alloc: Global, opening: &TaskOpen) -> Result<Option<DepRow>, RecordsFault>
+    ensures { IfOk result (λ deployment. deployment ≡ dep_row_of opening.now) }
+{
+    let Some(goal) = &opening.goal else {
+        return Ok(None);
+    };
+    let goal = goal.copy(alloc)?;
+    let dep = goal.dep.copy(alloc)?;
+    Ok(Some(DepRow {
+        dep,
+        goal,
+        shared: Seq::new(alloc),
+    }))
+}
+
+fn task_row(alloc: Global, opening: &TaskOpen) -> Result<TaskRow, RecordsFault>
+    ensures { IfOk result (λ row. row ≡ task_row_of opening.now) }
+{
+    let (kind, dep) = copy_both(&opening.kind, &opening.dep, alloc)?;
+    Ok(TaskRow {
+        task: opening.task,
+        kind,
+        dep,
+        end: None,
+        source: opening.source,
+        calls: Some(0),
+    })
+}

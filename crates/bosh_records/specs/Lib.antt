@@ -1,0 +1,7 @@
+pub mod Came
+pub mod Instances
+pub mod Keys
+pub mod Kinds
+pub mod Places
+pub mod Readers
+pub mod Table

@@ -1,0 +1,119 @@
+ghost use Rattle.std.specs.Prelude.{◌≡◌, [], None, Option, Some, IsNone, IsSome, OnErr, OnOk, is_some};
+ghost use Rattle.std.specs.BTreeMap.{IsUnchanged, Updates, btree_map_len, get};
+ghost use Rattle.std.specs.Map.Iter.{ShowsInOrder, deref_pair};
+ghost use Rattle.std.specs.Option.{option_copied};
+ghost use Rattle.bosh_records.specs.Table.{thing_at};
+
+use crate::RecordsFault;
+use std::alloc::Global;
+use std::collections::BTreeMap;
+use std::collections::btree_map::Iter;
+
+/// Things by their keys. A place may be kept free, so that a thing can be put there later without memory.
+#[derive(Drop)]
+pub struct Table<K: Ord, V> {
+    pub places: BTreeMap<K, Option<V>>,
+}
+
+impl<K: Ord, V> Table<K, V> {
+    pub fn new(alloc: Global) -> Self
+        ensures { result.places.entries ≡ [] }
+    {
+        Table {
+            places: BTreeMap::new(alloc),
+        }
+    }
+
+    /// How many places there are, free ones too.
+    pub fn len(&self) -> usize
+        ensures { result ≡ btree_map_len self.now.places }
+    {
+        self.places.len()
+    }
+
+    /// The places in the order of their keys; some are free.
+    pub fn iter(&self) -> Iter<'_, K, Option<V>>
+        ensures rest { result ≡ self.now.places.entries }
+        ensures runs { ShowsInOrder (deref_pair {K = K} {X = Option V}) }
+    {
+        self.places.iter()
+    }
+}
+
+impl<K: Ord + Drop, V: Drop> Table<K, V> {
+    pub fn get(&self, key: &K) -> Option<&V>
+        ensures { option_copied result ≡ thing_at K.cmp self.now.places key.now }
+    {
+        self.places.get(key)?.as_ref()
+    }
+
+    /// Whether there is a place for a key, free or not.
+    pub fn has_place(&self, key: &K) -> bool
+        ensures { result ≡ is_some (get K.cmp self.now.places key.now) }
+    {
+        self.places.contains_key(key)
+    }
+
+    /// Keeps a place free for a key that has none.
+    pub fn keep_place(&mut self, key: K) -> Result<(), RecordsFault>
+        ensures ok { OnOk result (Updates K.cmp self.old.places self.new.places key (Some None)) }
+        ensures err { OnErr result (IsUnchanged self.old.places self.new.places) }
+    {
+        insert(&mut self.places, key, None)
+    }
+
+    /// Puts a thing in the place of its key.
+    pub fn put(&mut self, key: &K, value: V)
+        ensures put { IsSome (get K.cmp self.old.places key.now)
+            → Updates K.cmp self.old.places self.new.places key.now (Some (Some value)) }
+        ensures none { IsNone (get K.cmp self.old.places key.now) → IsUnchanged self.old.places self.new.places }
+    {
+        if let Some(place) = self.places.get_mut(key) {
+            *place = Some(value);
+        }
+    }
+
+    /// Lets a thing go, with its place.
+    pub fn delete(&mut self, key: &K)
+        ensures { Updates K.cmp self.old.places self.new.places key.now None }
+    {
+        self.places.remove(key);
+    }
+
+    /// Takes a thing away, with its place.
+    pub fn remove(&mut self, key: &K) -> Option<V>
+        ensures value { result ≡ thing_at K.cmp self.old.places key.now }
+        ensures updates { Updates K.cmp self.old.places self.new.places key.now None }
+    {
+        self.places.remove(key)?
+    }
+}
+
+impl<K: Ord + Drop + Copy, V: Drop> Table<K, V> {
+    /// Keeps a place for a key, where it has none yet.
+    pub fn ensure(&mut self, key: K) -> Result<(), RecordsFault>
+        ensures there { IsSome (get K.cmp self.old.places key) → IsUnchanged self.old.places self.new.places }
+        ensures ok { IsNone (get K.cmp self.old.places key)
+            → OnOk result (Updates K.cmp self.old.places self.new.places key (Some None)) }
+        ensures err { OnErr result (IsUnchanged self.old.places self.new.places) }
+    {
+        if self.has_place(&key) {
+            return Ok(());
+        }
+        self.keep_place(key)
+    }
+}
+
+/// Puts a value at a key of a map. Generic, since to let a value of many parts go is dear to prove in the body that does
+/// it.
+pub(crate) fn insert<K: Ord + Drop, V: Drop>(
+    map: &mut BTreeMap<K, V>,
+    key: K,
+    value: V,
+) -> Result<(), RecordsFault>
+    ensures ok { OnOk result (Updates K.cmp map.old map.new key (Some value)) }
+    ensures err { OnErr result (IsUnchanged map.old map.new) }
+{
+    map.insert(key, value)?;
+    Ok(())
+}

@@ -1,0 +1,5 @@
+pub mod Keys
+pub mod Line
+pub mod Part
+pub mod Rolling
+pub mod Work
