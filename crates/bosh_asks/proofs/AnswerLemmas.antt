@@ -108,7 +108,7 @@ pub passed_goal :
 passed_goal it goal (Ok passed) g is = subst (λ (q : Goal). Gives it (Ok q)) (sym is) g
 passed_goal it goal (Err fault) g is = tt
 
-of_err :
+pub of_err :
     {X : Type 0} (test : Result X BookFault) (fault : BookFault) (R : BookFault → Type 0) → test ≡ Err fault
     → IfErr test R → R fault
 of_err (Ok x) fault R is h = absurd cc

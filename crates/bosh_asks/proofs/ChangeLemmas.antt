@@ -1,6 +1,7 @@
 -- Instances that change, one after another.
-use Rattle.std.proofs.Common.{◌≡◌, ◌∙◌, ap, refl, sym, subst, arith, ℕ, ◌+◌, ◌<◌, ◌≤◌, Bool, true, false, ◌||◌, cond, List, [], ◌∷◌, ◌++◌, Option, length, get_or, take}
-use Rattle.std.proofs.lemmas.List.{length_push, take_all, take_more}
+use Rattle.std.proofs.Common.{◌≡◌, ◌∙◌, ap, refl, sym, subst, arith, ℕ, ◌+◌, ◌<◌, ◌≤◌, Bool, true, false, ◌||◌, cond}
+use Rattle.std.proofs.Common.{List, [], ◌∷◌, ◌++◌, Option, length, map, get_or, take}
+use Rattle.std.proofs.lemmas.List.{length-map, map-append, take_all, take_more}
 use Rattle.bosh_base.specs.declared.goal.GoalRow.{GoalRow}
 use Rattle.bosh_base.specs.declared.inst.Inst.{Inst}
 use Rattle.bosh_base.specs.declared.row.Row.{Row}
@@ -42,7 +43,7 @@ every_one [] rows same = refl
 every_one (w ∷ wants) [] same = absurd (omega arith)
 every_one (w ∷ wants) (r ∷ rows) same = ap (λ all. w.inst ∷ all) (every_one wants rows (omega arith))
 
-are_changed :
+pub are_changed :
     (every : Bool) (wants : List GoalRow) (rows : List (Option Row)) (changed : List Inst) → length rows ≡ length wants
     → changed ≡ changed_of every wants rows → AreChanged every wants changed
 are_changed every wants rows changed same is = record {
@@ -52,26 +53,26 @@ are_changed every wants rows changed same is = record {
   all = λ all. is ∙ ap (λ b. changed_of b wants rows) all ∙ every_one wants rows same;
 }
 
-pub none_changed : (every : Bool) (wants : List GoalRow) → AreChanged every (take 0 wants) []
-none_changed every wants = are_changed every [] [] [] refl refl
-
 pub all_changed :
-    (every : Bool) (wants : List GoalRow) (i : ℕ) (changed : List Inst) → length wants ≤ i
-    → AreChanged every (take i wants) changed → AreChanged every wants changed
-all_changed every wants i changed past h = subst (λ ws. AreChanged every ws changed) (take_all i wants past) h
+    (every : Bool) (wants : List GoalRow) (row_of : GoalRow → Option Row) (i : ℕ) (changed : List Inst)
+    → length wants ≤ i → changed ≡ changed_of every (take i wants) (map row_of (take i wants))
+    → changed ≡ changed_of every wants (map row_of wants)
+all_changed every wants row_of i changed past h =
+    subst (λ (ws : List GoalRow). changed ≡ changed_of every ws (map row_of ws)) (take_all i wants past) h
 
 pub changed_more :
-    (every : Bool) (wants : List GoalRow) (i : ℕ) (want : GoalRow) (row : Option Row) (changed : List Inst)
-    (answer : Bool)
-    → i < length wants → want ≡ get_or wants i want → answer ≡ (every || does_not_stand want row)
-    → AreChanged every (take i wants) changed
-    → AreChanged every (take (i + 1) wants) (with_one answer changed want.inst)
-changed_more every wants i want row changed answer low at one before =
+    (every : Bool) (wants : List GoalRow) (row_of : GoalRow → Option Row) (i : ℕ) (want : GoalRow)
+    (changed : List Inst) (answer : Bool) → i < length wants → want ≡ get_or wants i want
+    → answer ≡ (every || does_not_stand want (row_of want))
+    → changed ≡ changed_of every (take i wants) (map row_of (take i wants))
+    → with_one answer changed want.inst ≡ changed_of every (take (i + 1) wants) (map row_of (take (i + 1) wants))
+changed_more every wants row_of i want changed answer low at one before =
     let more : take (i + 1) wants ≡ take i wants ++ want ∷ [] =
     take_more wants i want low ∙ ap (λ w. take i wants ++ w ∷ []) (sym at) in
-    subst (λ ws. AreChanged every ws (with_one answer changed want.inst)) (sym more)
-    (are_changed every (take i wants ++ want ∷ []) (before.rows ++ row ∷ []) (with_one answer changed want.inst)
-    (length_push before.rows row ∙ ap (λ n. n + 1) before.same_length ∙ sym (length_push (take i wants) want))
-    (ap (λ b. with_one b changed want.inst) one
-    ∙ ap (λ all. with_one (every || does_not_stand want row) all want.inst) before.is
-    ∙ sym (last_of every (take i wants) before.rows want row before.same_length)))
+    ap (λ b. with_one b changed want.inst) one
+    ∙ ap (λ all. with_one (every || does_not_stand want (row_of want)) all want.inst) before
+    ∙ sym (last_of every (take i wants) (map row_of (take i wants)) want (row_of want)
+    (length-map (take i wants) row_of))
+    ∙ ap (λ rows. changed_of every (take i wants ++ want ∷ []) rows)
+    (sym (map-append row_of (take i wants) (want ∷ [])))
+    ∙ ap (λ (ws : List GoalRow). changed_of every ws (map row_of ws)) (sym more)

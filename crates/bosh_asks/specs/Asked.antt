@@ -7,7 +7,8 @@ use Rattle.bosh_base.specs.declared.task.TaskKind.TheVariants as kinds
 use Rattle.bosh_goal.specs.declared.change.Change.{Change}
 use Rattle.bosh_goal.specs.declared.change.Change.TheVariants.{To}
 use Rattle.bosh_asks.specs.declared.ask.Ask.{Ask}
-use Rattle.bosh_asks.specs.declared.ask.Ask.TheVariants.{Deploy, Recreate, Start, Halt, DeleteDeployment, DeleteDisk, CleanUp, Resolve}
+use Rattle.bosh_asks.specs.declared.ask.Ask.TheVariants.{Deploy, Recreate, Start, Halt, DeleteDeployment, DeleteDisk}
+use Rattle.bosh_asks.specs.declared.ask.Ask.TheVariants.{CleanUp, Resolve}
 
 abbrev pub kind_of : Ask → TaskKind
 kind_of (Deploy it) = if it.fix then kinds.Fix else kinds.Deploy

@@ -1,12 +1,14 @@
 -- Which instances a task changes and deletes.
-use Rattle.std.specs.Prelude.{◌≡◌, Bool, not, ◌&&◌, ◌||◌, List, [], ◌∷◌, Option, Some, None, is_some, length, map, true, if◌then◌else◌}
+use Rattle.std.specs.Prelude.{◌≡◌, Bool, not, ◌&&◌, ◌||◌, List, [], ◌∷◌}
+use Rattle.std.specs.Prelude.{Option, Some, None, is_some, length, map}
+use Rattle.std.specs.Prelude.{true, if◌then◌else◌}
 use Rattle.std.specs.List.{list_any}
 use Rattle.std.specs.Str.{bytes_eq}
 use Rattle.bosh_base.specs.declared.goal.Goal.{Goal}
 use Rattle.bosh_base.specs.declared.goal.GoalRow.{GoalRow}
 use Rattle.bosh_base.specs.declared.inst.Inst.{Inst}
 use Rattle.bosh_base.specs.declared.row.Row.{Row}
-use Rattle.bosh_fold.specs.declared.instances.Instance.{Instance}
+use Rattle.bosh_records.specs.declared.instances.Instance.{Instance}
 use Rattle.bosh_rows.specs.Disks.{is_detached}
 use Rattle.bosh_rows.specs.Same.{same_inst}
 use Rattle.bosh_rows.specs.Standing.{stands}
@@ -44,7 +46,8 @@ is_obsolete goal it = is_some it.1.row && (bytes_eq it.0.dep goal.dep && not (is
 -- in the order in which instances are listed
 abbrev pub obsolete_of : Goal → List (Inst × Instance) → List Inst
 obsolete_of goal [] = []
-obsolete_of goal (it ∷ others) = if is_obsolete goal it then it.0 ∷ obsolete_of goal others else obsolete_of goal others
+obsolete_of goal (it ∷ others) =
+    if is_obsolete goal it then it.0 ∷ obsolete_of goal others else obsolete_of goal others
 
 -- .. among instances that are listed
 pub record AreObsolete (goal : Goal) (obsolete : List Inst) : Type 0 where

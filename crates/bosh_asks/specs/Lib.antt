@@ -1,7 +1,10 @@
 pub mod Asked
+pub mod Cause
 pub mod Changed
 pub mod Faults
 pub mod Goals
+pub mod Known
 pub mod Opened
+pub mod Over
 pub mod Recorded
 pub mod Refused

@@ -4,7 +4,7 @@ use Rattle.bosh_base.specs.declared.entry.TaskOpen.{TaskOpen}
 use Rattle.bosh_base.specs.declared.goal.Goal.{Goal}
 use Rattle.bosh_base.specs.declared.inst.Inst.{Inst}
 use Rattle.bosh_base.specs.declared.state.State.TheVariants.{Running}
-use Rattle.bosh_fold.specs.declared.orphans.LooseDisk.{LooseDisk}
+use Rattle.bosh_records.specs.declared.orphans.LooseDisk.{LooseDisk}
 use Rattle.bosh_goal.specs.declared.change.Change.{Change}
 use Rattle.bosh_goal.specs.declared.change.Change.TheVariants as changes
 use Rattle.bosh_asks.specs.Asked.{dep_of, halting, kind_of, source_of}

@@ -1,6 +1,8 @@
 -- What is looked for among what is recorded: who has a lock, who uses a link, how many deployments there are, which
 -- disks are orphaned. Places of what is not recorded any more are passed over.
-use Rattle.std.specs.Prelude.{ℕ, Bool, not, nat_le, ◌&&◌, List, [], ◌∷◌, Option, Some, None, count_by, find, is_some, if◌then◌else◌}
+use Rattle.std.specs.Prelude.{ℕ, Bool, not, nat_le, ◌&&◌, List, [], ◌∷◌}
+use Rattle.std.specs.Prelude.{Option, Some, None, count_by, find, is_some}
+use Rattle.std.specs.Prelude.{if◌then◌else◌}
 use Rattle.std.specs.Option.{option_eq, option_map, option_or}
 use Rattle.std.specs.Str.{bytes_eq}
 use Rattle.bosh_base.specs.declared.goal.Goal.{Goal}

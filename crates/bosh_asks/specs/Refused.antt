@@ -6,7 +6,7 @@ use Rattle.bosh_base.specs.declared.link.Joint.{Joint}
 use Rattle.bosh_base.specs.declared.release.Release.{Release}
 use Rattle.bosh_base.specs.declared.snapshot.DepRow.{DepRow}
 use Rattle.bosh_base.specs.declared.state.State.TheVariants.{Running}
-use Rattle.bosh_fold.specs.declared.records.Since.{Since}
+use Rattle.bosh_records.specs.declared.records.Since.{Since}
 use Rattle.bosh_goal.specs.declared.change.Change.{Change}
 use Rattle.bosh_goal.specs.declared.change.Change.TheVariants as changes
 use Rattle.bosh_asks.specs.Asked.{halting}
@@ -16,7 +16,8 @@ use Rattle.bosh_asks.specs.declared.ask.Ask.{Ask}
 use Rattle.bosh_asks.specs.declared.ask.Ask.TheVariants as asks
 use Rattle.bosh_asks.specs.declared.ask.Deploy.{Deploy}
 use Rattle.bosh_asks.specs.declared.fault.BookFault.{BookFault}
-use Rattle.bosh_asks.specs.declared.fault.BookFault.TheVariants.{Locked, Differs, NoDeployment, NoInstance, NoDisk, NotOrphaned, Consumed, Limit, Memory}
+use Rattle.bosh_asks.specs.declared.fault.BookFault.TheVariants.{Locked, Differs, NoDeployment, NoInstance, NoDisk}
+use Rattle.bosh_asks.specs.declared.fault.BookFault.TheVariants.{NotOrphaned, Consumed, Limit, Memory}
 use Rattle.bosh_asks.specs.declared.fault.BookFault.TheVariants as faults
 
 -- some releases are no good

@@ -1,10 +1,11 @@
 ghost use Rattle.std.specs.Prelude.{◌≡◌, ◌||◌, IfOk};
 ghost use Rattle.std.specs.Option.{option_copied};
-ghost use Rattle.bosh_asks.specs.Changed.{AreChanged, does_not_stand};
+ghost use Rattle.bosh_asks.specs.Changed.{AreChanged, changed_of, does_not_stand};
+ghost use Rattle.bosh_asks.specs.Known.{rows_at};
 
 use crate::pushing::push_where;
 use bosh_base::{CopyFault, GoalRow, Inst, Row, Seq, State};
-use bosh_fold::Records;
+use bosh_records::Records;
 use bosh_rows::stands;
 use std::alloc::Global;
 
@@ -31,7 +32,8 @@ pub(crate) fn changed_of(
     wants: &[GoalRow],
     all: bool,
 ) -> Result<Seq<Inst>, CopyFault>
-    ensures { IfOk result (AreChanged all wants.now) }
+    ensures over { IfOk result (λ changed. changed ≡ changed_of all wants.now (rows_at records.now wants.now)) }
+    ensures ok { IfOk result (AreChanged all wants.now) }
 {
     let mut changed = Vec::new(alloc);
     for want in wants {

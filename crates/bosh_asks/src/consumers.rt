@@ -10,7 +10,7 @@ ghost use Rattle.bosh_history.specs.Openings.{is_offered_still};
 
 use crate::BookFault;
 use bosh_base::{Copyable, DepRow, Goal, Joint, Offer, Tie};
-use bosh_fold::Since;
+use bosh_records::Since;
 use std::alloc::Global;
 use std::collections::btree_map::Iter;
 

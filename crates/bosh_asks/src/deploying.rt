@@ -1,9 +1,13 @@
 //! Deployments become what their manifests say.
-ghost use Rattle.std.specs.Prelude.{◌≡◌, ◌⊎◌, IfErr, IfOk, List, Ok, Option, ℕ};
+ghost use Rattle.std.specs.Prelude.{◌≡◌, ◌⊎◌, IfErr, IfOk, List, None, Ok, OnOk, Option, Some, false, ℕ};
 ghost use Rattle.std.specs.Option.{option_copied};
-ghost use Rattle.bosh_asks.specs.Changed.{AreChanged, AreObsolete};
+ghost use Rattle.bosh_asks.specs.Cause.{IsCause};
+ghost use Rattle.bosh_asks.specs.Changed.{AreChanged, AreObsolete, changed_of, obsolete_of};
 ghost use Rattle.bosh_asks.specs.Goals.{AreSound, Gives, recorded_config};
+ghost use Rattle.bosh_asks.specs.Known.{lacks_room, lock_holder, rows_at};
 ghost use Rattle.bosh_asks.specs.Opened.{Deploys};
+ghost use Rattle.bosh_asks.specs.Over.{DeploysOver, GivesOver, Is};
+ghost use Rattle.bosh_asks.specs.Recorded.{first_consumer};
 ghost use Rattle.bosh_asks.specs.Refused.{RefusesDeploy, RefusesGoal};
 ghost use Rattle.bosh_asks.specs.declared.fault.BookFault.TheVariants.{Differs, Memory};
 
@@ -15,13 +19,15 @@ use crate::fault::answered;
 use crate::limits::check_limit;
 use crate::locks::check_free;
 use crate::obsolete::obsolete_of;
-use crate::plan::{Plan, after, beside, passed};
+use crate::plan::Plan;
 use crate::{BookFault, Deploy};
 use bosh_base::{Goal, Inst, Release, Seq};
 use bosh_cloudcfg::Config;
-use bosh_fold::Records;
 use bosh_goal::goal;
+use bosh_owned::{after, beside, passed};
+use bosh_records::Records;
 use bosh_sound::are_sound;
+use bosh_views::view;
 use std::alloc::Global;
 
 fn wanted_from(
@@ -36,8 +42,14 @@ fn wanted_from(
         → IfOk result (λ it. Gives deploy.now (Ok it)) }
     ensures err { (file : Option (List ℕ)) → option_copied config.entry ≡ recorded_config file
         → IfErr result (RefusesDeploy deploy.now) }
+    ensures over { releases.now ≡ records.now.releases.items
+        → option_copied config.entry ≡ recorded_config records.now.config
+        → IfOk result (λ it. GivesOver records.now deploy.now (Ok it)) }
+    ensures cause { releases.now ≡ records.now.releases.items
+        → option_copied config.entry ≡ recorded_config records.now.config
+        → IfErr result (IsCause records.now (Some deploy.now.manifest.name) (GivesOver records.now deploy.now)) }
 {
-    let view = records.view(&deploy.manifest.contents().name)?;
+    let view = view(records, &deploy.manifest.contents().name)?;
     let goal = goal(
         alloc,
         &deploy.manifest,
@@ -59,6 +71,10 @@ fn wanted_of(
     requires { AreSound releases.now }
     ensures ok { IfOk result (λ it. Gives deploy.now (Ok it)) }
     ensures err { IfErr result (RefusesDeploy deploy.now) }
+    ensures over { releases.now ≡ records.now.releases.items
+        → IfOk result (λ it. GivesOver records.now deploy.now (Ok it)) }
+    ensures cause { releases.now ≡ records.now.releases.items
+        → IfErr result (IsCause records.now (Some deploy.now.manifest.name) (GivesOver records.now deploy.now)) }
 {
     let config = recorded_config(alloc, records.config())?;
     let goal = wanted_from(alloc, records, deploy, releases, config.as_ref());
@@ -76,8 +92,11 @@ fn unsound(alloc: Global, releases: &[Release]) -> BookFault
 
 // The goal of the manifest. Releases that are no good are none that are taken up; the last one is named.
 fn wanted(alloc: Global, records: &Records, deploy: &Deploy) -> Result<Goal, BookFault>
+    ensures over { IfOk result (λ it. GivesOver records.now deploy.now (Ok it)) }
     ensures ok { IfOk result (λ it. Gives deploy.now (Ok it)) }
     ensures err { IfErr result (RefusesDeploy deploy.now) }
+    ensures cause { IfErr result
+        (IsCause records.now (Some deploy.now.manifest.name) (GivesOver records.now deploy.now)) }
 {
     let releases = records.releases();
     if !are_sound(alloc, releases)? {
@@ -88,18 +107,24 @@ fn wanted(alloc: Global, records: &Records, deploy: &Deploy) -> Result<Goal, Boo
 
 // That the goal may become that of its deployment.
 fn check(alloc: Global, records: &Records, goal: &Goal) -> Result<(), BookFault>
-    ensures { IfErr result (RefusesGoal goal.now) }
+    ensures kept { OnOk result (first_consumer goal.now records.now.deployments.places.entries ≡ None) }
+    ensures room { OnOk result (lacks_room records.now goal.now.dep ≡ false) }
+    ensures err { IfErr result (RefusesGoal goal.now) }
+    ensures cause { IfErr result (IsCause records.now (Some goal.now.dep) (Is goal.now)) }
 {
     check_consumers(alloc, records.deployments(), goal)?;
-    check_limit(
-        records.deployment(&goal.dep).is_some(),
-        records.deployments(),
-    )
+    check_limit(records, &goal.dep)
 }
 
 fn checked_goal(alloc: Global, records: &Records, deploy: &Deploy) -> Result<Goal, BookFault>
+    ensures free { OnOk result (lock_holder records.now (Some deploy.now.manifest.name) ≡ None) }
+    ensures over { IfOk result (λ it. GivesOver records.now deploy.now (Ok it)) }
+    ensures kept { IfOk result (λ it. first_consumer it records.now.deployments.places.entries ≡ None) }
+    ensures room { OnOk result (lacks_room records.now deploy.now.manifest.name ≡ false) }
     ensures ok { IfOk result (λ it. Gives deploy.now (Ok it)) }
     ensures err { IfErr result (RefusesDeploy deploy.now) }
+    ensures cause { IfErr result
+        (IsCause records.now (Some deploy.now.manifest.name) (GivesOver records.now deploy.now)) }
 {
     check_free(records.tasks(), Some(&deploy.manifest.contents().name))?;
     let goal = wanted(alloc, records, deploy)?;
@@ -114,6 +139,8 @@ fn instances_of(
     goal: &Goal,
     all: bool,
 ) -> Result<(Seq<Inst>, Seq<Inst>), BookFault>
+    ensures over { IfOk result (λ both. (both.0 ≡ changed_of all goal.now.rows (rows_at records.now goal.now.rows))
+        × (both.1 ≡ obsolete_of goal.now records.now.instances.by_inst.entries)) }
     ensures ok { IfOk result (λ both. AreChanged all goal.now.rows both.0 × AreObsolete goal.now both.1) }
     ensures err { IfErr result (λ fault. fault ≡ Memory) }
 {
@@ -129,8 +156,12 @@ pub(crate) fn deploy_plan(
     records: &Records,
     deploy: &Deploy,
 ) -> Result<Plan, BookFault>
+    ensures free { OnOk result (lock_holder records.now (Some deploy.now.manifest.name) ≡ None) }
+    ensures over { IfOk result (DeploysOver records.now deploy.now) }
     ensures ok { IfOk result (Deploys deploy.now) }
     ensures err { IfErr result (RefusesDeploy deploy.now) }
+    ensures cause { IfErr result
+        (IsCause records.now (Some deploy.now.manifest.name) (GivesOver records.now deploy.now)) }
 {
     let goal = checked_goal(alloc, records, deploy)?;
     let instances = instances_of(alloc, records, &goal, deploy.fix);

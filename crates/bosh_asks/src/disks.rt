@@ -1,5 +1,8 @@
-ghost use Rattle.std.specs.Prelude.{◌≡◌, ◌∷◌, [], IfErr, IfOk};
+ghost use Rattle.std.specs.Prelude.{◌≡◌, ◌∷◌, [], IfErr, IfOk, None, OnOk, true};
+ghost use Rattle.bosh_asks.specs.Cause.{IsCause};
+ghost use Rattle.bosh_asks.specs.Known.{is_orphaned, lock_holder};
 ghost use Rattle.bosh_asks.specs.Opened.{CleansUp, disks_alone};
+ghost use Rattle.bosh_asks.specs.Over.{CleansUpOver, HasNone};
 ghost use Rattle.bosh_asks.specs.Recorded.{loose};
 ghost use Rattle.bosh_asks.specs.Refused.{RefusesCleanUp, RefusesDisk};
 
@@ -7,12 +10,14 @@ use crate::BookFault;
 use crate::locks::check_free;
 use crate::plan::{Plan, disks_alone};
 use bosh_base::Seq;
-use bosh_fold::{LooseDisk, Records};
+use bosh_records::{LooseDisk, Records};
 use std::alloc::{AllocError, Global};
 use std::collections::btree_map::Iter;
 
 fn check_orphaned(records: &Records, disk: u64) -> Result<(), BookFault>
-    ensures { IfErr result (RefusesDisk disk) }
+    ensures named { OnOk result (is_orphaned records.now disk ≡ true) }
+    ensures err { IfErr result (RefusesDisk disk) }
+    ensures cause { IfErr result (IsCause records.now None HasNone) }
 {
     if records.orphan(disk).is_some() {
         return Ok(());
@@ -33,8 +38,11 @@ fn one(alloc: Global, disk: u64) -> Result<Seq<u64>, AllocError>
 
 /// An orphaned disk is deleted.
 pub(crate) fn disk_plan(alloc: Global, records: &Records, disk: u64) -> Result<Plan, BookFault>
+    ensures free { OnOk result (lock_holder records.now None ≡ None) }
+    ensures named { OnOk result (is_orphaned records.now disk ≡ true) }
     ensures ok { IfOk result (λ plan. plan ≡ disks_alone (disk ∷ [])) }
     ensures err { IfErr result (RefusesDisk disk) }
+    ensures cause { IfErr result (IsCause records.now None HasNone) }
 {
     check_orphaned(records, disk)?;
     check_free(records.tasks(), None)?;
@@ -55,8 +63,11 @@ fn loose(alloc: Global, orphans: Iter<'_, u64, Option<LooseDisk>>) -> Result<Seq
 
 /// All orphaned disks are deleted.
 pub(crate) fn clean_up_plan(alloc: Global, records: &Records) -> Result<Plan, BookFault>
+    ensures free { OnOk result (lock_holder records.now None ≡ None) }
+    ensures over { IfOk result (CleansUpOver records.now) }
     ensures ok { IfOk result CleansUp }
     ensures err { IfErr result RefusesCleanUp }
+    ensures cause { IfErr result (IsCause records.now None HasNone) }
 {
     check_free(records.tasks(), None)?;
     Ok(disks_alone(alloc, loose(alloc, records.orphans())?))

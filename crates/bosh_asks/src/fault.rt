@@ -3,7 +3,7 @@ ghost use Rattle.bosh_asks.specs.Faults.{answered, of_goal};
 ghost use Rattle.bosh_asks.specs.declared.fault.BookFault.TheVariants.{Memory};
 
 use bosh_base::{CopyFault, Goal, Inst, Joint, Name, Text};
-use bosh_fold::FoldFault;
+use bosh_records::RecordsFault;
 use bosh_uses::GoalFault;
 use std::alloc::{AllocError, AllocFailed};
 
@@ -61,10 +61,10 @@ impl From<CopyFault> for BookFault {
     }
 }
 
-impl From<FoldFault> for BookFault {
+impl From<RecordsFault> for BookFault {
     ghost from_gives = { λ _ fault. fault ≡ Memory };
 
-    fn from(_: FoldFault) -> Self {
+    fn from(_: RecordsFault) -> Self {
         BookFault::Memory
     }
 }

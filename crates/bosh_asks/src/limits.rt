@@ -1,10 +1,11 @@
-ghost use Rattle.std.specs.Prelude.{◌≡◌, ◌&&◌, IfErr, OnOk, false, not, true};
+ghost use Rattle.std.specs.Prelude.{◌≡◌, IfErr, OnOk, false, true};
+ghost use Rattle.bosh_asks.specs.Known.{is_recorded, lacks_room};
 ghost use Rattle.bosh_asks.specs.Recorded.{is_full};
 ghost use Rattle.bosh_asks.specs.declared.fault.BookFault.TheVariants.{Limit};
 
 use crate::BookFault;
-use bosh_base::DepRow;
-use bosh_fold::Since;
+use bosh_base::{DepRow, Name};
+use bosh_records::{Records, Since};
 use std::collections::btree_map::Iter;
 
 // The most deployments that may be recorded.
@@ -25,15 +26,18 @@ fn is_full(rows: Iter<'_, Since, Option<DepRow>>) -> bool
     false
 }
 
-/// That a deployment is recorded already, or that one more may be beside these.
-pub(crate) fn check_limit(
-    is_recorded: bool,
-    rows: Iter<'_, Since, Option<DepRow>>,
-) -> Result<(), BookFault>
-    ensures room { OnOk result ((not is_recorded && is_full rows.entry) ≡ false) }
-    ensures full { IfErr result (λ fault. (fault ≡ Limit) × ((not is_recorded && is_full rows.entry) ≡ true)) }
+fn is_recorded(records: &Records, dep: &Name) -> bool
+    ensures { result ≡ is_recorded records.now dep.now }
 {
-    if !is_recorded && is_full(rows) {
+    records.deployment(dep).is_some()
+}
+
+/// That a deployment is recorded already, or that there may be one more.
+pub(crate) fn check_limit(records: &Records, dep: &Name) -> Result<(), BookFault>
+    ensures room { OnOk result (lacks_room records.now dep.now ≡ false) }
+    ensures full { IfErr result (λ fault. (fault ≡ Limit) × (lacks_room records.now dep.now ≡ true)) }
+{
+    if !is_recorded(records, dep) && is_full(records.deployments()) {
         return Err(BookFault::Limit);
     }
     Ok(())

@@ -1,23 +1,30 @@
 //! Tasks of one instance.
-ghost use Rattle.std.specs.Prelude.{◌≡◌, ◌⊎◌, ◌∷◌, [], IfErr, IfOk, List, Ok, Option, true, ℕ};
+ghost use Rattle.std.specs.Prelude.{◌≡◌, ◌⊎◌, ◌∷◌, []};
+ghost use Rattle.std.specs.Prelude.{IfErr, IfOk, List, None, Ok, OnOk, Option, Some, true, ℕ};
 ghost use Rattle.std.specs.Option.{option_copied};
+ghost use Rattle.bosh_asks.specs.Cause.{IsCause};
 ghost use Rattle.bosh_asks.specs.Changed.{is_in};
 ghost use Rattle.bosh_asks.specs.Faults.{answered};
 ghost use Rattle.bosh_asks.specs.Goals.{Renews, recorded_config};
+ghost use Rattle.bosh_asks.specs.Known.{is_wanted, lock_holder};
 ghost use Rattle.bosh_asks.specs.Opened.{Alters};
+ghost use Rattle.bosh_asks.specs.Over.{AltersOver, RenewsOver};
 ghost use Rattle.bosh_asks.specs.Refused.{RefusesChange};
 ghost use Rattle.bosh_asks.specs.declared.fault.BookFault.TheVariants.{Memory, NoDeployment, NoInstance};
+ghost use Rattle.bosh_records.specs.Readers.{goal_of};
 
 use crate::BookFault;
 use crate::config::recorded_config;
 use crate::fault::answered;
 use crate::locks::check_free;
 use crate::obsolete::is_in;
-use crate::plan::{Plan, after, beside};
+use crate::plan::Plan;
 use bosh_base::{CopyFault, Copyable, Goal, Inst, Name, Seq};
 use bosh_cloudcfg::Config;
-use bosh_fold::Records;
 use bosh_goal::{Change, anew};
+use bosh_owned::{after, beside};
+use bosh_records::Records;
+use bosh_views::view;
 use std::alloc::Global;
 
 fn only(alloc: Global, inst: &Inst) -> Result<Seq<Inst>, CopyFault>
@@ -59,8 +66,14 @@ fn goal_anew(
         → IfOk result (λ it. Renews inst.now change (Ok it)) }
     ensures err { (file : Option (List ℕ)) → option_copied config.entry ≡ recorded_config file
         → IfErr result (RefusesChange inst.now change) }
+    ensures over { goal_of records.now inst.now.dep ≡ Some goal.now
+        → option_copied config.entry ≡ recorded_config records.now.config
+        → IfOk result (λ it. RenewsOver records.now inst.now change (Ok it)) }
+    ensures cause { goal_of records.now inst.now.dep ≡ Some goal.now
+        → option_copied config.entry ≡ recorded_config records.now.config
+        → IfErr result (IsCause records.now (Some inst.now.dep) (RenewsOver records.now inst.now change)) }
 {
-    let view = records.view(&inst.dep)?;
+    let view = view(records, &inst.dep)?;
     let goal = anew(alloc, inst, change, config, &view, goal);
     after(view, answered(goal))
 }
@@ -76,6 +89,10 @@ fn renewed(
     requires { is_in goal.now inst.now ≡ true }
     ensures ok { IfOk result (λ it. Renews inst.now change (Ok it)) }
     ensures err { IfErr result (RefusesChange inst.now change) }
+    ensures over { goal_of records.now inst.now.dep ≡ Some goal.now
+        → IfOk result (λ it. RenewsOver records.now inst.now change (Ok it)) }
+    ensures cause { goal_of records.now inst.now.dep ≡ Some goal.now
+        → IfErr result (IsCause records.now (Some inst.now.dep) (RenewsOver records.now inst.now change)) }
 {
     let config = recorded_config(alloc, records.config())?;
     let goal = goal_anew(alloc, records, inst, change, config.as_ref(), goal);
@@ -83,14 +100,19 @@ fn renewed(
 }
 
 // The goal of the deployment with the instance changed.
+#[tactic(auto, using(crate::proofs::OverLemmas::is_unrecorded))]
 fn changed_goal(
     alloc: Global,
     records: &Records,
     inst: &Inst,
     change: Change,
 ) -> Result<Goal, BookFault>
+    ensures free { OnOk result (lock_holder records.now (Some inst.now.dep) ≡ None) }
+    ensures named { OnOk result (is_wanted records.now inst.now ≡ true) }
+    ensures over { IfOk result (λ it. RenewsOver records.now inst.now change (Ok it)) }
     ensures ok { IfOk result (λ it. Renews inst.now change (Ok it)) }
     ensures err { IfErr result (RefusesChange inst.now change) }
+    ensures cause { IfErr result (IsCause records.now (Some inst.now.dep) (RenewsOver records.now inst.now change)) }
 {
     let Some(goal) = records.goal_of(&inst.dep) else {
         return Err(no_deployment(alloc, &inst.dep));
@@ -109,8 +131,12 @@ pub(crate) fn named_plan(
     inst: &Inst,
     change: Change,
 ) -> Result<Plan, BookFault>
+    ensures free { OnOk result (lock_holder records.now (Some inst.now.dep) ≡ None) }
+    ensures named { OnOk result (is_wanted records.now inst.now ≡ true) }
+    ensures over { IfOk result (AltersOver records.now inst.now change) }
     ensures ok { IfOk result (Alters inst.now change) }
     ensures err { IfErr result (RefusesChange inst.now change) }
+    ensures cause { IfErr result (IsCause records.now (Some inst.now.dep) (RenewsOver records.now inst.now change)) }
 {
     let changed = only(alloc, inst)?;
     let goal = changed_goal(alloc, records, inst, change);

@@ -4,7 +4,7 @@ ghost use Rattle.bosh_rows.specs.Same.{same_inst};
 
 use crate::pushing::push_where;
 use bosh_base::{CopyFault, Goal, Inst, Seq};
-use bosh_fold::Instance;
+use bosh_records::Instance;
 use std::alloc::Global;
 use std::collections::btree_map::Iter;
 

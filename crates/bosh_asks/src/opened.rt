@@ -1,14 +1,17 @@
-ghost use Rattle.std.specs.Prelude.{◌≡◌, IfErr, IfOk};
+ghost use Rattle.std.specs.Prelude.{◌≡◌, IfErr, IfOk, None, OnOk};
 ghost use Rattle.std.specs.Option.{option_copied};
 ghost use Rattle.bosh_asks.specs.Asked.{dep_of, kind_of, source_of};
-ghost use Rattle.bosh_asks.specs.Opened.{Opens};
+ghost use Rattle.bosh_asks.specs.Cause.{IsCause};
+ghost use Rattle.bosh_asks.specs.Known.{lock_holder, next_task};
+ghost use Rattle.bosh_asks.specs.Opened.{Opens, plan_of};
+ghost use Rattle.bosh_asks.specs.Over.{DoesOver, GoalOver, IsNamed};
 ghost use Rattle.bosh_asks.specs.Refused.{MayRefuse};
 
-use crate::plan::beside;
 use crate::planned::planned;
 use crate::{Ask, BookFault};
 use bosh_base::{CopyFault, Copyable, Digest, Name, TaskKind, TaskOpen};
-use bosh_fold::Records;
+use bosh_owned::beside;
+use bosh_records::Records;
 use std::alloc::Global;
 
 fn dep_of(ask: &Ask) -> Option<&Name>
@@ -68,6 +71,11 @@ fn kind_and_dep(alloc: Global, ask: &Ask) -> Result<(TaskKind, Option<Name>), Co
 /// not there; an open task has its lock; there is no goal; a link would be withdrawn that others use; there would be
 /// too many deployments.
 pub fn opening(alloc: Global, records: &Records, ask: &Ask) -> Result<TaskOpen, BookFault>
+    ensures number { IfOk result (λ it. it.task ≡ next_task records.now) }
+    ensures free { OnOk result (lock_holder records.now (dep_of ask.now) ≡ None) }
+    ensures named { OnOk result (IsNamed records.now ask.now) }
+    ensures over { IfOk result (λ it. DoesOver records.now ask.now (plan_of it)) }
+    ensures cause { IfErr result (IsCause records.now (dep_of ask.now) (GoalOver records.now ask.now)) }
     ensures ok { IfOk result (Opens ask.now) }
     ensures err { IfErr result (MayRefuse ask.now) }
 {

@@ -1,7 +1,10 @@
-use Rattle.std.proofs.Common.{◌∙◌}
+use Rattle.std.proofs.Common.{◌∙◌, Some}
 use Rattle.std.specs.Option.{option_copied}
 use Rattle.bosh_asks.proofs.AnswerLemmas.{given, refused, renews}
+use Rattle.bosh_asks.proofs.OverLemmas.{renews_over}
+use Rattle.bosh_asks.specs.Cause.{IsCause}
 use Rattle.bosh_asks.specs.Goals.{Renews}
+use Rattle.bosh_asks.specs.Over.{RenewsOver}
 use Rattle.bosh_asks.specs.Refused.{RefusesChange}
 use Rattle.bosh_asks.proofs.naming.goal_anew.Goals as goal
 
@@ -18,3 +21,19 @@ returns-clause-err c = λ file is.
     c.anew-goal.result c.after.result (c.after.ensures ∙ c.answered.ensures)
     (renews c.args.inst.now c.args.change c.args.goal.now c.in_ok-view.view (option_copied c.args.config) file
     c.anew-goal.result c.requires is c.anew-goal.ensures)
+
+pub returns-clause-over : goal.returns-clause-over
+returns-clause-over c = λ recorded is.
+    given (RenewsOver c.args.records.now c.args.inst.now c.args.change) c.anew-goal.result c.after.result
+    (c.after.ensures ∙ c.answered.ensures)
+    (renews_over c.args.records.now c.args.inst.now c.args.change c.args.goal.now c.in_ok-view.view
+    (option_copied c.args.config) c.anew-goal.result recorded c.in_ok-view.ensures is c.anew-goal.ensures)
+
+pub returns-clause-cause : goal.returns-clause-cause
+returns-clause-cause c = λ recorded is.
+    refused (RenewsOver c.args.records.now c.args.inst.now c.args.change)
+    (IsCause c.args.records.now (Some c.args.inst.now.dep)
+    (RenewsOver c.args.records.now c.args.inst.now c.args.change)) tt (λ fault why. why)
+    c.anew-goal.result c.after.result (c.after.ensures ∙ c.answered.ensures)
+    (renews_over c.args.records.now c.args.inst.now c.args.change c.args.goal.now c.in_ok-view.view
+    (option_copied c.args.config) c.anew-goal.result recorded c.in_ok-view.ensures is c.anew-goal.ensures)
