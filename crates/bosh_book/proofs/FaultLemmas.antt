@@ -1,14 +1,18 @@
 -- How faults of a store are told over several calls.
-use Rattle.std.proofs.Common.{arith, ◌≡◌, ◌∙◌, ℕ, Bool, false, true, Option, Result, Ok, Err, List, [], ◌∷◌, refl, sym}
+use Rattle.std.proofs.Common.{arith, ◌≡◌, ◌∙◌, ℕ, Bool, false, true, Result, Ok, Err, List, refl}
 use Rattle.std.proofs.Common.{inl, inr}
-use Rattle.std.specs.Prelude.{◌⊎◌}
+use Rattle.std.specs.Prelude.{◌||◌, not, IfErr}
 use Rattle.bosh_asks.specs.declared.fault.BookFault.{BookFault}
 use Rattle.bosh_asks.specs.declared.fault.BookFault.TheVariants as book
+use Rattle.bosh_asks.specs.Asked.{dep_of}
+use Rattle.bosh_asks.specs.Cause.{IsCause}
+use Rattle.bosh_asks.specs.Over.{GoalOver}
 use Rattle.bosh_asks.specs.Refused.{MayRefuse}
 use Rattle.bosh_asks.specs.declared.ask.Ask.{Ask}
 use Rattle.bosh_asks.specs.declared.ask.Ask.TheVariants as asks
-use Rattle.bosh_book.specs.BookView.{BookView, is_stopped}
-use Rattle.bosh_book.specs.Faults.{FailsAs, IsNoteFault, IsOpenFault, IsQuiet}
+use Rattle.bosh_book.specs.Running.{is_running, is_stopped}
+use Rattle.bosh_book.specs.declared.book.Book.{Book}
+use Rattle.bosh_book.specs.Faults.{FailsAs, IsDiffering, IsNoteFault, IsOpenFault, IsQuiet, IsUploadFault}
 use Rattle.bosh_journal.specs.JournalView.{JournalView}
 use Rattle.bosh_ports.specs.Faults.{NeverFalls, Rose}
 
@@ -56,43 +60,67 @@ fails_quietly T faults (book.Consumed by) journal quiet = refl
 fails_quietly T faults book.Memory journal quiet = refl
 
 -- what is asked is never refused because the book is stopped, or full, or its store failed
-pub refuses_open : {K : Type 0} (was : BookView K) (ask : Ask) (fault : BookFault) → MayRefuse ask fault →
-    IsOpenFault was ask fault
-refuses_open was (asks.Deploy it) book.Stopped refuses = absurd refuses
-refuses_open was (asks.Recreate inst) book.Stopped refuses = absurd refuses
-refuses_open was (asks.Start inst) book.Stopped refuses = absurd refuses
-refuses_open was (asks.Halt inst hard) book.Stopped refuses = absurd refuses
-refuses_open was (asks.DeleteDeployment dep) book.Stopped refuses = absurd refuses
-refuses_open was (asks.DeleteDisk disk) book.Stopped refuses = absurd refuses
-refuses_open was asks.CleanUp book.Stopped refuses = absurd refuses
-refuses_open was (asks.Resolve inst) book.Stopped refuses = absurd refuses
-refuses_open was (asks.Deploy it) book.Full refuses = absurd refuses
-refuses_open was (asks.Recreate inst) book.Full refuses = absurd refuses
-refuses_open was (asks.Start inst) book.Full refuses = absurd refuses
-refuses_open was (asks.Halt inst hard) book.Full refuses = absurd refuses
-refuses_open was (asks.DeleteDeployment dep) book.Full refuses = absurd refuses
-refuses_open was (asks.DeleteDisk disk) book.Full refuses = absurd refuses
-refuses_open was asks.CleanUp book.Full refuses = absurd refuses
-refuses_open was (asks.Resolve inst) book.Full refuses = absurd refuses
-refuses_open was (asks.Deploy it) book.StoreFault refuses = absurd refuses
-refuses_open was (asks.Recreate inst) book.StoreFault refuses = absurd refuses
-refuses_open was (asks.Start inst) book.StoreFault refuses = absurd refuses
-refuses_open was (asks.Halt inst hard) book.StoreFault refuses = absurd refuses
-refuses_open was (asks.DeleteDeployment dep) book.StoreFault refuses = absurd refuses
-refuses_open was (asks.DeleteDisk disk) book.StoreFault refuses = absurd refuses
-refuses_open was asks.CleanUp book.StoreFault refuses = absurd refuses
-refuses_open was (asks.Resolve inst) book.StoreFault refuses = absurd refuses
-refuses_open was ask (book.Damaged place) refuses = refuses
-refuses_open was ask (book.Locked task) refuses = refuses
-refuses_open was ask (book.Differs name) refuses = refuses
-refuses_open was ask (book.NoDeployment name) refuses = refuses
-refuses_open was ask (book.NoInstance inst) refuses = refuses
-refuses_open was ask (book.NoDisk disk) refuses = refuses
-refuses_open was ask (book.NotOrphaned disk) refuses = refuses
-refuses_open was ask (book.Goal fault) refuses = refuses
-refuses_open was ask book.Limit refuses = refuses
-refuses_open was ask (book.Consumed by) refuses = refuses
-refuses_open was ask book.Memory refuses = refuses
+pub refuses_open : {K : Type 0} (was : Book K) (ask : Ask) (fault : BookFault) → MayRefuse ask fault →
+    IsCause was.records (dep_of ask) (GoalOver was.records ask) fault → IsOpenFault was ask fault
+refuses_open was (asks.Deploy it) book.Stopped refuses cause = absurd refuses
+refuses_open was (asks.Recreate inst) book.Stopped refuses cause = absurd refuses
+refuses_open was (asks.Start inst) book.Stopped refuses cause = absurd refuses
+refuses_open was (asks.Halt inst hard) book.Stopped refuses cause = absurd refuses
+refuses_open was (asks.DeleteDeployment dep) book.Stopped refuses cause = absurd refuses
+refuses_open was (asks.DeleteDisk disk) book.Stopped refuses cause = absurd refuses
+refuses_open was asks.CleanUp book.Stopped refuses cause = absurd refuses
+refuses_open was (asks.Resolve inst) book.Stopped refuses cause = absurd refuses
+refuses_open was (asks.Deploy it) book.Full refuses cause = absurd refuses
+refuses_open was (asks.Recreate inst) book.Full refuses cause = absurd refuses
+refuses_open was (asks.Start inst) book.Full refuses cause = absurd refuses
+refuses_open was (asks.Halt inst hard) book.Full refuses cause = absurd refuses
+refuses_open was (asks.DeleteDeployment dep) book.Full refuses cause = absurd refuses
+refuses_open was (asks.DeleteDisk disk) book.Full refuses cause = absurd refuses
+refuses_open was asks.CleanUp book.Full refuses cause = absurd refuses
+refuses_open was (asks.Resolve inst) book.Full refuses cause = absurd refuses
+refuses_open was (asks.Deploy it) book.StoreFault refuses cause = absurd refuses
+refuses_open was (asks.Recreate inst) book.StoreFault refuses cause = absurd refuses
+refuses_open was (asks.Start inst) book.StoreFault refuses cause = absurd refuses
+refuses_open was (asks.Halt inst hard) book.StoreFault refuses cause = absurd refuses
+refuses_open was (asks.DeleteDeployment dep) book.StoreFault refuses cause = absurd refuses
+refuses_open was (asks.DeleteDisk disk) book.StoreFault refuses cause = absurd refuses
+refuses_open was asks.CleanUp book.StoreFault refuses cause = absurd refuses
+refuses_open was (asks.Resolve inst) book.StoreFault refuses cause = absurd refuses
+refuses_open was ask (book.Damaged place) refuses cause = (refuses, cause)
+refuses_open was ask (book.Locked task) refuses cause = (refuses, cause)
+refuses_open was ask (book.Differs name) refuses cause = (refuses, cause)
+refuses_open was ask (book.NoDeployment name) refuses cause = (refuses, cause)
+refuses_open was ask (book.NoInstance inst) refuses cause = (refuses, cause)
+refuses_open was ask (book.NoDisk disk) refuses cause = (refuses, cause)
+refuses_open was ask (book.NotOrphaned disk) refuses cause = (refuses, cause)
+refuses_open was ask (book.Goal fault) refuses cause = (refuses, cause)
+refuses_open was ask book.Limit refuses cause = (refuses, cause)
+refuses_open was ask (book.Consumed by) refuses cause = (refuses, cause)
+refuses_open was ask book.Memory refuses cause = (refuses, cause)
+
+-- .. which never says that the store failed
+pub refuses_quietly : (ask : Ask) (fault : BookFault) → MayRefuse ask fault → IsQuiet fault
+refuses_quietly (asks.Deploy it) book.StoreFault refuses = absurd refuses
+refuses_quietly (asks.Recreate inst) book.StoreFault refuses = absurd refuses
+refuses_quietly (asks.Start inst) book.StoreFault refuses = absurd refuses
+refuses_quietly (asks.Halt inst hard) book.StoreFault refuses = absurd refuses
+refuses_quietly (asks.DeleteDeployment dep) book.StoreFault refuses = absurd refuses
+refuses_quietly (asks.DeleteDisk disk) book.StoreFault refuses = absurd refuses
+refuses_quietly asks.CleanUp book.StoreFault refuses = absurd refuses
+refuses_quietly (asks.Resolve inst) book.StoreFault refuses = absurd refuses
+refuses_quietly ask book.Stopped refuses = tt
+refuses_quietly ask (book.Damaged place) refuses = tt
+refuses_quietly ask (book.Locked task) refuses = tt
+refuses_quietly ask (book.Differs name) refuses = tt
+refuses_quietly ask (book.NoDeployment name) refuses = tt
+refuses_quietly ask (book.NoInstance inst) refuses = tt
+refuses_quietly ask (book.NoDisk disk) refuses = tt
+refuses_quietly ask (book.NotOrphaned disk) refuses = tt
+refuses_quietly ask (book.Goal other) refuses = tt
+refuses_quietly ask book.Limit refuses = tt
+refuses_quietly ask book.Full refuses = tt
+refuses_quietly ask (book.Consumed by) refuses = tt
+refuses_quietly ask book.Memory refuses = tt
 
 -- want of memory may always be met
 memory_refuses : (ask : Ask) → MayRefuse ask book.Memory
@@ -106,10 +134,10 @@ memory_refuses asks.CleanUp = tt
 memory_refuses (asks.Resolve inst) = tt
 
 -- .. and so may what noting meets
-pub notes_open : {K : Type 0} (was : BookView K) (ask : Ask) (fault : BookFault) → is_stopped was ≡ false →
+pub notes_open : {K : Type 0} (was : Book K) (ask : Ask) (fault : BookFault) → is_stopped was ≡ false →
     IsNoteFault fault → IsOpenFault was ask fault
 notes_open was ask book.StoreFault runs fault = runs
-notes_open was ask book.Memory runs fault = memory_refuses ask
+notes_open was ask book.Memory runs fault = (memory_refuses ask, tt)
 notes_open was ask book.Stopped runs fault = absurd fault
 notes_open was ask (book.Damaged place) runs fault = absurd fault
 notes_open was ask (book.Locked task) runs fault = absurd fault
@@ -122,3 +150,34 @@ notes_open was ask (book.Goal other) runs fault = absurd fault
 notes_open was ask book.Limit runs fault = absurd fault
 notes_open was ask book.Full runs fault = absurd fault
 notes_open was ask (book.Consumed by) runs fault = absurd fault
+
+-- a book that goes on has a store that goes on
+neither : (a b : Bool) → (a || b) ≡ false → a ≡ false
+neither false b h = refl
+neither true b h = absurd cc
+
+pub is_whole : {K : Type 0} (book : Book K) → is_stopped book ≡ false → book.journal.is_broken ≡ false
+is_whole book runs = neither book.journal.is_broken (not (is_running book.standing)) runs
+
+-- what an upload is refused for, in a book that goes on
+differing_as : {K : Type 0} (was : Book K) (told : List ℕ) (Cause : Type 0) (fault : BookFault) →
+    is_stopped was ≡ false → IsDiffering told Cause fault → IsUploadFault was told Cause fault
+differing_as was told Cause (book.Differs name) runs differs = (runs, differs.0, differs.1)
+differing_as was told Cause book.Memory runs differs = tt
+differing_as was told Cause book.StoreFault runs differs = absurd differs
+differing_as was told Cause book.Stopped runs differs = absurd differs
+differing_as was told Cause (book.Damaged place) runs differs = absurd differs
+differing_as was told Cause (book.Locked task) runs differs = absurd differs
+differing_as was told Cause (book.NoDeployment name) runs differs = absurd differs
+differing_as was told Cause (book.NoInstance inst) runs differs = absurd differs
+differing_as was told Cause (book.NoDisk disk) runs differs = absurd differs
+differing_as was told Cause (book.NotOrphaned disk) runs differs = absurd differs
+differing_as was told Cause (book.Goal fault) runs differs = absurd differs
+differing_as was told Cause book.Limit runs differs = absurd differs
+differing_as was told Cause book.Full runs differs = absurd differs
+differing_as was told Cause (book.Consumed by) runs differs = absurd differs
+
+pub differs_as_upload : {K T : Type 0} (was : Book K) (told : List ℕ) (Cause : Type 0) (result : Result T BookFault) →
+    is_stopped was ≡ false → IfErr result (IsDiffering told Cause) → IfErr result (IsUploadFault was told Cause)
+differs_as_upload was told Cause (Ok value) runs differs = tt
+differs_as_upload was told Cause (Err fault) runs differs = differing_as was told Cause fault runs differs

@@ -1,6 +1,6 @@
 -- What a book knows of its journal after an append.
-use Rattle.std.proofs.Common.{◌≡◌, ℕ, Bool, true, false, Option, Result, Ok, Err, List, [], ◌∷◌, ◌++◌, refl, sym, ◌∙◌, ap, subst, append-nil, true≢false}
-use Rattle.bosh_asks.specs.declared.fault.BookFault.{BookFault}
+use Rattle.std.proofs.Common.{◌≡◌, ℕ, Bool, false, Option, Ok, Err, List, [], ◌∷◌, ◌++◌, sym}
+use Rattle.std.proofs.Common.{◌∙◌, append-nil, true≢false}
 use Rattle.bosh_base.specs.declared.entry.Entry.{Entry}
 use Rattle.bosh_book.specs.Appends.{Appends}
 use Rattle.bosh_book.specs.Faults.{of_journal}

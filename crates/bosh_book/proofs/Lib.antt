@@ -1,5 +1,6 @@
 pub mod AddsLemmas
 pub mod ConfigLemmas
 pub mod FaultLemmas
+pub mod GrantLemmas
 pub mod JournalLemmas
 pub mod StartLemmas

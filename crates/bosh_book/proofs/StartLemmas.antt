@@ -1,15 +1,16 @@
 -- A book that started, from the store that it was read from.
-use Rattle.std.proofs.Common.{◌≡◌, ◌∙◌, ℕ, Bool, false, true, Option, Result, Ok, Err, List, length, refl, sym, ap, subst}
+use Rattle.std.proofs.Common.{◌≡◌, ◌∙◌, ℕ, Bool, false, Option, Result, Ok, List, length, sym, ap}
+use Rattle.std.proofs.Common.{subst}
 use Rattle.std.specs.Prelude.{IfErr}
 use Rattle.bosh_asks.specs.declared.fault.BookFault.{BookFault}
-use Rattle.bosh_book.specs.BookView.{BookView}
+use Rattle.bosh_book.specs.declared.book.Book.{Book}
 use Rattle.bosh_book.specs.Faults.{FailsAs, IsStartFault}
 use Rattle.bosh_book.specs.Starts.{standing_after, Starts, StartsFrom}
 use Rattle.bosh_journal.specs.JournalView.{JournalView}
 use Rattle.bosh_journal.specs.Reads.{Reads}
 
 pub starts_from : {K T : Type 0} (bodies : K → Option (List (List ℕ))) (faults : K → ℕ) (is_broken : K → Bool)
-    (compacts : Bool) (store : K) (result : Result T BookFault) (journal : JournalView K) (first now : BookView K) →
+    (compacts : Bool) (store : K) (result : Result T BookFault) (journal : JournalView K) (first now : Book K) →
     first.journal ≡ journal → Reads bodies faults is_broken store (Ok journal.entries) journal.store →
     journal.is_broken ≡ false → Starts bodies faults compacts first now →
     FailsAs faults result first.journal now.journal → IfErr result (IsStartFault (length first.journal.entries)) →
@@ -27,13 +28,13 @@ starts_from bodies faults is_broken compacts store result journal first now is r
 
 -- the same from the store of a book as it was
 pub starts_again : {K T : Type 0} (bodies : K → Option (List (List ℕ))) (faults : K → ℕ) (is_broken : K → Bool)
-    (told was : BookView K) (result : Result T BookFault) (journal : JournalView K) (first now : BookView K) →
+    (told was : Book K) (result : Result T BookFault) (journal : JournalView K) (first now : Book K) →
     told ≡ was → first.journal ≡ journal →
     Reads bodies faults is_broken told.journal.store (Ok journal.entries) journal.store →
     journal.is_broken ≡ false → Starts bodies faults false first now →
     FailsAs faults result first.journal now.journal → IfErr result (IsStartFault (length first.journal.entries)) →
     now.standing ≡ standing_after result → StartsFrom bodies faults is_broken false was.journal.store result now
 starts_again bodies faults is_broken told was result journal first now same is reads whole starts fails fault standing =
-    subst (λ (it : BookView _). StartsFrom bodies faults is_broken false it.journal.store result now) same
+    subst (λ (it : Book _). StartsFrom bodies faults is_broken false it.journal.store result now) same
     (starts_from bodies faults is_broken false told.journal.store result journal first now is reads whole starts fails
     fault standing)

@@ -1,16 +1,25 @@
 -- Entries that a call adds at the end of a book.
-use Rattle.std.specs.Prelude.{◌≡◌, ℕ, List, ◌++◌, Option}
+use Rattle.std.specs.Prelude.{◌≡◌, ℕ, List, [], ◌∷◌, ◌++◌, Option}
 use Rattle.bosh_base.specs.declared.entry.Entry.{Entry}
-use Rattle.bosh_book.specs.BookView.{BookView}
+use Rattle.bosh_book.specs.declared.book.Book.{Book}
+use Rattle.bosh_fold.specs.CameWith.{came_with}
+use Rattle.bosh_records.specs.Came.{Came, came}
 use Rattle.bosh_journal.specs.Kept.{IsKept}
 use Rattle.bosh_ports.specs.Faults.{NeverFalls}
 
--- The book has these entries at its end besides those before. Its store holds them all, if it held those before, and no
--- fault of it is forgotten. Whether the book goes on, and what is told of its start, stays.
+-- the uploads, and how many tasks and calls there are, after more entries
+abbrev pub came_by : List Entry → Came → Came
+came_by [] before = before
+came_by (entry ∷ entries) before = came_by entries (came_with entry before)
+
+-- The book has these entries at its end besides those before, and its records have what came by them. Its store holds
+-- them all, if it held those before, and no fault of it is forgotten. Whether the book goes on, and what is told of its
+-- start, stays.
 pub record Adds {K : Type 0}
-    (bodies : K → Option (List (List ℕ))) (faults : K → ℕ) (was : BookView K) (added : List Entry) (now : BookView K) :
+    (bodies : K → Option (List (List ℕ))) (faults : K → ℕ) (was : Book K) (added : List Entry) (now : Book K) :
     Type 0 where
   pub entries : now.journal.entries ≡ was.journal.entries ++ added
+  pub recorded : came now.records ≡ came_by added (came was.records)
   pub kept : IsKept bodies was.journal → IsKept bodies now.journal
   pub count : NeverFalls (faults was.journal.store) (faults now.journal.store)
   pub standing : now.standing ≡ was.standing

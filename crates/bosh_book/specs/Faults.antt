@@ -1,11 +1,21 @@
 -- Why a book refuses what it is asked.
-use Rattle.std.specs.Prelude.{◌≡◌, ◌<◌, ℕ, List, is_some, true, false, Result, Ok, Err}
+use Rattle.std.specs.Prelude.{◌≡◌, ◌<◌, ℕ, List, is_some, true, false, Result, Err}
+use Rattle.bosh_asks.specs.Asked.{dep_of}
+use Rattle.bosh_asks.specs.Cause.{IsCause}
 use Rattle.bosh_asks.specs.Goals.{config_in}
+use Rattle.bosh_asks.specs.Over.{GoalOver}
 use Rattle.bosh_asks.specs.Refused.{MayRefuse}
 use Rattle.bosh_asks.specs.declared.ask.Ask.{Ask}
 use Rattle.bosh_asks.specs.declared.fault.BookFault.{BookFault}
 use Rattle.bosh_asks.specs.declared.fault.BookFault.TheVariants as book
-use Rattle.bosh_book.specs.BookView.{BookView, is_stopped}
+use Rattle.bosh_base.specs.Answer.{is_kind}
+use Rattle.bosh_base.specs.Call.{method_of}
+use Rattle.bosh_base.specs.declared.answer.Answer.{Answer}
+use Rattle.bosh_book.specs.Current.{IsCurrent}
+use Rattle.bosh_book.specs.Ends.{IsAtWork}
+use Rattle.bosh_book.specs.Running.{is_full, is_stopped}
+use Rattle.bosh_book.specs.declared.book.Book.{Book}
+use Rattle.bosh_book.specs.declared.granted.Granted.{Granted}
 use Rattle.bosh_journal.specs.JournalView.{JournalView}
 use Rattle.bosh_journal.specs.declared.fault.JournalFault.{JournalFault}
 use Rattle.bosh_journal.specs.declared.fault.JournalFault.TheVariants as journal
@@ -36,13 +46,13 @@ IsNoteFault book.Memory = Unit {0}
 IsNoteFault fault = ⊥
 
 -- the same of a book that may be stopped
-abbrev pub IsCallFault : {K : Type 0} → BookView K → BookFault → Type 0
+abbrev pub IsCallFault : {K : Type 0} → Book K → BookFault → Type 0
 IsCallFault was book.Stopped = is_stopped was ≡ true
 IsCallFault was fault = IsNoteFault fault
 
 -- the same of a book that may have no room either
-abbrev pub IsClaimFault : {K : Type 0} → BookView K → BookFault → Type 0
-IsClaimFault was book.Full = is_stopped was ≡ false
+abbrev pub IsClaimFault : {K : Type 0} → Book K → BookFault → Type 0
+IsClaimFault was book.Full = (is_stopped was ≡ false) × (is_full was ≡ true)
 IsClaimFault was fault = IsCallFault was fault
 
 -- to start is refused where an entry may not stand at its place, where the store fails, or for want of memory
@@ -50,20 +60,30 @@ abbrev pub IsStartFault : ℕ → BookFault → Type 0
 IsStartFault count (book.Damaged place) = place < count
 IsStartFault count fault = IsNoteFault fault
 
+-- a call may end with an answer: its permit is current, and the answer of its kind
+abbrev pub MayEnd : {K : Type 0} → Book K → Granted → Answer → Type 0
+MayEnd was permit answer = IsCurrent was permit × (is_kind (method_of permit.call) answer ≡ true)
+
 -- to end a call is refused where the permit is not current, or the answer is not of the call's kind
-abbrev pub IsSettleFault : {K : Type 0} → BookView K → ℕ → BookFault → Type 0
-IsSettleFault was task (book.Locked holder) = (is_stopped was ≡ false) × (holder ≡ task)
-IsSettleFault was task fault = IsCallFault was fault
+abbrev pub IsSettleFault : {K : Type 0} → Book K → Granted → Answer → BookFault → Type 0
+IsSettleFault was permit answer (book.Locked holder) =
+    (is_stopped was ≡ false) × (holder ≡ permit.task) × (¬ MayEnd was permit answer)
+IsSettleFault was permit answer fault = IsCallFault was fault
 
--- another one of its name and version is there, or it does not go with those that are there
-abbrev pub IsDiffering : BookFault → Type 0
-IsDiffering (book.Differs name) = Unit {0}
-IsDiffering book.Memory = Unit {0}
-IsDiffering fault = ⊥
+-- to end a task is refused where something is left of it
+abbrev pub IsEndFault : {K : Type 0} → Book K → ℕ → BookFault → Type 0
+IsEndFault was task (book.Locked holder) = (is_stopped was ≡ false) × (holder ≡ task) × IsAtWork was.records task
+IsEndFault was task fault = IsCallFault was fault
 
-abbrev pub IsUploadFault : {K : Type 0} → BookView K → BookFault → Type 0
-IsUploadFault was (book.Differs name) = is_stopped was ≡ false
-IsUploadFault was fault = IsCallFault was fault
+-- an upload is refused for a cause that is given, and told by its name and version
+abbrev pub IsDiffering : List ℕ → Type 0 → BookFault → Type 0
+IsDiffering told Cause (book.Differs name) = (name ≡ told) × Cause
+IsDiffering told Cause book.Memory = Unit {0}
+IsDiffering told Cause fault = ⊥
+
+abbrev pub IsUploadFault : {K : Type 0} → Book K → List ℕ → Type 0 → BookFault → Type 0
+IsUploadFault was told Cause (book.Differs name) = (is_stopped was ≡ false) × (name ≡ told) × Cause
+IsUploadFault was told Cause fault = IsCallFault was fault
 
 -- a file is refused that spells no config
 abbrev pub IsNoConfig : List ℕ → BookFault → Type 0
@@ -71,14 +91,14 @@ IsNoConfig file (book.Goal fault) = (fault ≡ goal.NoConfig) × (is_some (confi
 IsNoConfig file book.Memory = Unit {0}
 IsNoConfig file fault = ⊥
 
-abbrev pub IsConfigFault : {K : Type 0} → BookView K → List ℕ → BookFault → Type 0
+abbrev pub IsConfigFault : {K : Type 0} → Book K → List ℕ → BookFault → Type 0
 IsConfigFault was file (book.Goal fault) =
     (is_stopped was ≡ false) × (fault ≡ goal.NoConfig) × (is_some (config_in file) ≡ false)
 IsConfigFault was file fault = IsCallFault was fault
 
--- a task opens unless what is asked is refused, or there is no room for it
-abbrev pub IsOpenFault : {K : Type 0} → BookView K → Ask → BookFault → Type 0
+-- a task opens unless what is asked is refused, for a cause in the records, or there is no room for it
+abbrev pub IsOpenFault : {K : Type 0} → Book K → Ask → BookFault → Type 0
 IsOpenFault was ask book.Stopped = is_stopped was ≡ true
-IsOpenFault was ask book.Full = is_stopped was ≡ false
+IsOpenFault was ask book.Full = (is_stopped was ≡ false) × (is_full was ≡ true)
 IsOpenFault was ask book.StoreFault = is_stopped was ≡ false
-IsOpenFault was ask fault = MayRefuse ask fault
+IsOpenFault was ask fault = MayRefuse ask fault × IsCause was.records (dep_of ask) (GoalOver was.records ask) fault

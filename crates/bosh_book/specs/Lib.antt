@@ -1,9 +1,12 @@
 pub mod Adds
 pub mod Appends
-pub mod BookView
+pub mod Claims
+pub mod Current
 pub mod Ends
 pub mod Faults
 pub mod Made
+pub mod Opens
+pub mod Running
 pub mod Starts
 pub mod Turns
 pub mod Uploads

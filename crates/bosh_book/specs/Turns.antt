@@ -5,10 +5,10 @@ use Rattle.bosh_base.specs.declared.entry.Begin as begin
 use Rattle.bosh_base.specs.declared.entry.Entry.{Entry}
 use Rattle.bosh_base.specs.declared.entry.Entry.TheVariants.{Begin, UpdBegin, UpdDone, Gone}
 use Rattle.bosh_book.specs.Adds.{Adds}
-use Rattle.bosh_book.specs.BookView.{BookView}
+use Rattle.bosh_book.specs.Current.{IsFor}
+use Rattle.bosh_book.specs.declared.book.Book.{Book}
 use Rattle.bosh_book.specs.declared.claim.Claim.{Claim}
 use Rattle.bosh_book.specs.declared.claim.Claim.TheVariants.{Work}
-use Rattle.bosh_book.specs.declared.granted.Granted.{Granted}
 
 -- the beginning or the end of an update, or that an instance has nothing left
 abbrev pub IsUpdate : Entry → Type 0
@@ -16,13 +16,6 @@ IsUpdate (UpdBegin update) = Unit {0}
 IsUpdate (UpdDone update) = Unit {0}
 IsUpdate (Gone update) = Unit {0}
 IsUpdate entry = ⊥
-
--- what is permitted is the call that began so
-pub record IsFor (begun : begin.Begin) (it : Granted) : Type 0 where
-  pub number : begun.n ≡ it.n
-  pub task : begun.task ≡ it.task
-  pub owner : begun.owner ≡ it.owner
-  pub call : begun.call ≡ it.call
 
 -- a claim that gives a call has noted its beginning last; another one nothing more
 abbrev pub Gives : Claim → List Entry → Type 0
@@ -41,8 +34,8 @@ some (Err fault) = Err fault
 
 -- Updates are noted, and then what the answer says.
 pub record Notes {K : Type 0}
-    (bodies : K → Option (List (List ℕ))) (faults : K → ℕ) (was : BookView K) (result : Result (Option Claim) BookFault)
-    (now : BookView K) : Type 0 where
+    (bodies : K → Option (List (List ℕ))) (faults : K → ℕ) (was : Book K)
+    (result : Result (Option Claim) BookFault) (now : Book K) : Type 0 where
   pub updates : List Entry
   pub are_updates : All IsUpdate updates
   pub last : List Entry

@@ -1,13 +1,12 @@
 ghost use Rattle.std.specs.Prelude.{◌≡◌};
-ghost use Rattle.bosh_book.specs.BookView.{is_stopped};
+ghost use Rattle.bosh_book.specs.Running.{is_stopped};
 
 use crate::standing::Standing;
 use bosh_base::Entry;
-use bosh_fold::Records;
 use bosh_journal::Journal;
 use bosh_ports::Keeper;
+use bosh_records::Records;
 use std::alloc::Global;
-use std::marker::Model;
 
 /// What the director knows, over the store that keeps it.
 #[derive(Drop)]
@@ -22,22 +21,11 @@ pub struct Book<K: Keeper> {
     pub(crate) mended: Option<usize>,
 }
 
-impl<K: Keeper> Model for Book<K> {
-    ghost use Rattle.bosh_book.specs.BookView.{BookView};
-
-    ghost Value = { BookView K };
-
-    ghost view = { λ book. record {
-      journal = book.journal;
-      standing = book.standing;
-      read = book.read;
-      mended = book.mended;
-    } };
-}
-
 impl<K: Keeper> Book<K> {
     /// What the entries stand for.
-    pub fn records(&self) -> &Records {
+    pub fn records(&self) -> &Records
+        ensures { result.now ≡ self.now.records }
+    {
         &self.records
     }
 

@@ -2,11 +2,12 @@ ghost use Rattle.std.specs.Prelude.{◌≡◌, ◌≤◌, ◌<◌, Err, IfErr, I
 ghost use Rattle.bosh_asks.specs.declared.fault.BookFault.TheVariants as faults;
 ghost use Rattle.bosh_book.specs.Faults.{IsQuiet, IsStartFault};
 
-use crate::place::is_there;
 use bosh_asks::{BookFault, config_in};
 use bosh_base::{Entry, Release};
 use bosh_claim::is_allowed;
-use bosh_fold::Records;
+use bosh_fold::apply;
+use bosh_owned::is_there;
+use bosh_records::Records;
 use bosh_sound::are_sound;
 use std::alloc::Global;
 
@@ -52,7 +53,7 @@ fn fold(alloc: Global, records: &mut Records, entries: &[Entry]) -> Result<usize
         if !may_stand(alloc, records, entry, place)? {
             return Ok(place);
         }
-        records.apply(entry)?;
+        apply(records, entry)?;
     }
     Ok(entries.len())
 }

@@ -1,8 +1,9 @@
 ghost use Rattle.std.specs.Prelude.{◌≡◌, ◌↔◌, IfOk, IsTrue};
-ghost use Rattle.bosh_book.specs.Turns.{IsFor};
+ghost use Rattle.std.specs.Option.{option_copied};
+ghost use Rattle.bosh_book.specs.Current.{IsFor, dep_of, permit_of};
 
 use bosh_base::{Begin, Call, CopyFault, Name, Owner, copy_three, is_same};
-use bosh_fold::Records;
+use bosh_records::Records;
 use std::alloc::Global;
 
 /// The call that a permit is for.
@@ -18,13 +19,7 @@ pub(crate) struct Granted {
 impl Granted {
     /// The call that begins so, for a deployment.
     pub(crate) fn of(alloc: Global, begin: &Begin, dep: &Name) -> Result<Granted, CopyFault>
-        ensures { IfOk result (λ granted. granted ≡ record {
-          n = begin.now.n;
-          task = begin.now.task;
-          owner = begin.now.owner;
-          dep = dep.now;
-          call = begin.now.call;
-        }) }
+        ensures { IfOk result (λ granted. granted ≡ permit_of begin.now dep.now) }
     {
         let (owner, dep, call) = copy_three(&begin.owner, dep, &begin.call, alloc)?;
         Ok(Granted {
@@ -49,7 +44,9 @@ impl Granted {
 
 /// The deployment that what is done for an owner is for: that of an instance, that of the task of a compile machine, or
 /// that of the instance that had an orphaned disk.
-pub(crate) fn dep_of<'a>(records: &'a Records, owner: &'a Owner) -> Option<&'a Name> {
+pub(crate) fn dep_of<'a>(records: &'a Records, owner: &'a Owner) -> Option<&'a Name>
+    ensures { option_copied result ≡ dep_of records.now owner.now }
+{
     match owner {
         Owner::Instance(inst) => Some(&inst.dep),
         Owner::Compile(task, _) => records.task(*task)?.dep.as_ref(),

@@ -11,7 +11,6 @@ mod kept;
 mod made;
 mod noting;
 mod permit;
-mod place;
 mod rigged;
 mod settling;
 mod standing;

@@ -2,7 +2,7 @@ ghost use Rattle.std.specs.Prelude.{◌≡◌, ◌⊎◌, [], ◌∷◌, IfErr, 
 ghost use Rattle.bosh_asks.specs.declared.fault.BookFault.TheVariants as faults;
 ghost use Rattle.bosh_book.specs.Adds.{Adds};
 ghost use Rattle.bosh_book.specs.Appends.{unless_refused};
-ghost use Rattle.bosh_book.specs.BookView.{is_long, is_stopped};
+ghost use Rattle.bosh_book.specs.Running.{is_full, is_long, is_stopped};
 ghost use Rattle.bosh_book.specs.Faults.{FailsAs, IsNoteFault};
 ghost use Rattle.bosh_book.specs.Made.{NotesMade};
 ghost use Rattle.bosh_journal.specs.Director.{is_directors};
@@ -12,6 +12,7 @@ use crate::kept::kept_with;
 use crate::made::Made;
 use bosh_asks::BookFault;
 use bosh_base::Entry;
+use bosh_fold::{learn, plan};
 use bosh_ports::Keeper;
 
 /// So many entries are noted at most before the director starts anew.
@@ -28,9 +29,9 @@ impl<K: Keeper> Book<K> {
         ensures failed { FailsAs K.faults result self.old.journal self.new.journal }
         ensures fault { IfErr result IsNoteFault }
     {
-        let change = self.records.plan(entry)?;
+        let change = plan(&mut self.records, entry)?;
         let change = kept_with(&mut self.journal, entry, change)?;
-        self.records.learn(entry, change);
+        learn(&mut self.records, entry, change);
         Ok(())
     }
 
@@ -80,9 +81,9 @@ impl<K: Keeper> Book<K> {
     /// That it goes on, and more entries may be noted and more calls made.
     pub(crate) fn check(&self) -> Result<(), BookFault>
         ensures runs { OnOk result (is_stopped self.now ≡ false) }
-        ensures room { OnOk result (is_long self.now ≡ false) }
+        ensures room { OnOk result (is_full self.now ≡ false) }
         ensures fault { IfErr result (λ fault. (fault ≡ faults.Stopped) × (is_stopped self.now ≡ true)
-            ⊎ (fault ≡ faults.Full) × (is_stopped self.now ≡ false)) }
+            ⊎ (fault ≡ faults.Full) × (is_stopped self.now ≡ false) × (is_full self.now ≡ true)) }
     {
         self.check_running()?;
         self.check_room()
@@ -90,13 +91,19 @@ impl<K: Keeper> Book<K> {
 
     /// That more entries may be noted and more calls made.
     pub(crate) fn check_room(&self) -> Result<(), BookFault>
-        ensures room { OnOk result (is_long self.now ≡ false) }
-        ensures full { IfErr result (λ fault. fault ≡ faults.Full) }
+        ensures room { OnOk result (is_full self.now ≡ false) }
+        ensures full { IfErr result (λ fault. (fault ≡ faults.Full) × (is_full self.now ≡ true)) }
     {
-        if self.is_long() || self.records.last_call() >= LAST_CALL {
+        if self.is_full() {
             return Err(BookFault::Full);
         }
         Ok(())
+    }
+
+    fn is_full(&self) -> bool
+        ensures { result ≡ is_full self.now }
+    {
+        self.is_long() || self.records.last_call() >= LAST_CALL
     }
 
     fn is_long(&self) -> bool

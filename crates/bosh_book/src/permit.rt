@@ -1,9 +1,9 @@
 ghost use Rattle.std.specs.Prelude.{◌≡◌, ◌↔◌, IsTrue};
-ghost use Rattle.bosh_book.specs.Turns.{IsFor};
+ghost use Rattle.bosh_book.specs.Current.{IsFor};
 
 use crate::granted::Granted;
-use crate::place::let_go;
 use bosh_base::{Begin, Call, Name, Owner};
+use bosh_owned::let_go;
 use std::marker::Model;
 
 /// The leave to make one call. A claim alone makes it, and it has to be spent.

@@ -1,34 +1,28 @@
-ghost use Rattle.std.specs.Prelude.{◌≡◌, ◌⊎◌, [], ◌∷◌, IfErr, IfOk, IfSome, OnErr, OnOk, false, true, Err};
+ghost use Rattle.std.specs.Prelude.{◌≡◌, ◌↔◌, [], ◌∷◌, Err, IfErr, IfOk, IsTrue, OnErr, OnOk, Some, true};
+ghost use Rattle.std.specs.Option.{option_copied};
 ghost use Rattle.bosh_asks.specs.declared.fault.BookFault.TheVariants as faults;
-ghost use Rattle.bosh_base.specs.Answer.{is_kind};
-ghost use Rattle.bosh_base.specs.Call.{method_of};
 ghost use Rattle.bosh_base.specs.declared.entry.Entry.TheVariants as entries;
 ghost use Rattle.bosh_book.specs.Adds.{Adds};
-ghost use Rattle.bosh_book.specs.BookView.{is_stopped};
-ghost use Rattle.bosh_book.specs.Faults.{FailsAs, IsSettleFault};
+ghost use Rattle.bosh_book.specs.Running.{is_stopped};
+ghost use Rattle.bosh_book.specs.Current.{IsCurrent, IsOpenCall};
+ghost use Rattle.bosh_book.specs.Faults.{FailsAs, IsSettleFault, MayEnd};
 ghost use Rattle.bosh_book.specs.declared.standing.Standing.TheVariants.{Abandoned};
 
 use crate::granted::dep_of;
 use crate::standing::Standing;
 use crate::{Book, Permit};
 use bosh_asks::BookFault;
-use bosh_base::{Answer, Copyable, End, Entry};
+use bosh_base::{Answer, Copyable, End, Entry, Name, is_same};
 use bosh_ports::Keeper;
+use bosh_records::Records;
 use std::alloc::Global;
 
 impl<K: Keeper> Book<K> {
     /// Whether the call of a permit is open in this book. After a reload that was refused none is.
-    pub fn is_current(&self, permit: &Permit) -> bool {
-        self.standing != Standing::Unread && self.is_open_call(permit)
-    }
-
-    fn is_open_call(&self, permit: &Permit) -> bool {
-        match self.records.call(permit.n()) {
-            Some(begin) => {
-                permit.is_begun(begin) && dep_of(&self.records, &begin.owner) == Some(permit.dep())
-            }
-            None => false,
-        }
+    pub fn is_current(&self, permit: &Permit) -> bool
+        ensures { IsTrue result ↔ IsCurrent self.now permit.now }
+    {
+        self.standing.is_read() && is_open_call(&self.records, permit)
     }
 
     /// Notes the answer of a call. A permit that is not current, and an answer that is not of the call's kind, are handed
@@ -40,11 +34,14 @@ impl<K: Keeper> Book<K> {
     ) -> Result<(), (Permit, Answer, BookFault)>
         ensures ok { OnOk result (Adds K.bodies K.faults self.old
             (entries.End (record { n = permit.n; answer = answer }) ∷ []) self.new) }
-        ensures kind { OnOk result (is_kind (method_of permit.call) answer ≡ true) }
+        ensures may_end { OnOk result (MayEnd self.old permit answer) }
         ensures refused { OnErr result (Adds K.bodies K.faults self.old [] self.new) }
         ensures back { IfErr result (λ back. (back.0 ≡ permit) × (back.1 ≡ answer)) }
-        ensures fault { IfErr result (λ back. IsSettleFault self.old permit.task back.2) }
+        ensures fault { IfErr result (λ back. IsSettleFault self.old permit answer back.2) }
         ensures stopped { is_stopped self.old ≡ true → IfErr result (λ back. back.2 ≡ faults.Stopped) }
+        ensures whole { OnOk result (self.new.journal.is_broken ≡ self.old.journal.is_broken) }
+        ensures failed { IfErr result (λ back.
+            FailsAs {T = Unit {0}} K.faults (Err back.2) self.old.journal self.new.journal) }
     {
         match self.end_call(&permit, &answer) {
             Ok(()) => {
@@ -58,9 +55,9 @@ impl<K: Keeper> Book<K> {
     fn end_call(&mut self, permit: &Permit, answer: &Answer) -> Result<(), BookFault>
         ensures ok { OnOk result (Adds K.bodies K.faults self.old
             (entries.End (record { n = permit.now.n; answer = answer.now }) ∷ []) self.new) }
-        ensures kind { OnOk result (is_kind (method_of permit.now.call) answer.now ≡ true) }
+        ensures may_end { OnOk result (MayEnd self.old permit.now answer.now) }
         ensures refused { OnErr result (Adds K.bodies K.faults self.old [] self.new) }
-        ensures fault { IfErr result (IsSettleFault self.old permit.now.task) }
+        ensures fault { IfErr result (IsSettleFault self.old permit.now answer.now) }
         ensures stopped { is_stopped self.old ≡ true → IfErr result (λ fault. fault ≡ faults.Stopped) }
         ensures failed { FailsAs K.faults result self.old.journal self.new.journal }
     {
@@ -75,12 +72,32 @@ impl<K: Keeper> Book<K> {
 
     /// Gives a call up: it stays open, and where the permit is current the book is stopped.
     pub fn abandon(&mut self, permit: Permit)
-        ensures { (self.new ≡ self.old) ⊎ (self.new ≡ record self.old { standing = Abandoned }) }
+        ensures current { IsCurrent self.old permit → self.new ≡ record self.old { standing = Abandoned } }
+        ensures other { (¬ IsCurrent self.old permit) → self.new ≡ self.old }
     {
         if self.is_current(&permit) {
             self.standing = Standing::Abandoned;
         }
         permit.spend();
+    }
+}
+
+// Whether the call of a permit is open by the records.
+fn is_open_call(records: &Records, permit: &Permit) -> bool
+    ensures { IsTrue result ↔ IsOpenCall records.now permit.now }
+{
+    match records.call(permit.n()) {
+        Some(begin) => permit.is_begun(begin) && is_of(dep_of(records, &begin.owner), permit.dep()),
+        None => false,
+    }
+}
+
+fn is_of(found: Option<&Name>, dep: &Name) -> bool
+    ensures { IsTrue result ↔ (option_copied found.entry ≡ Some dep.now) }
+{
+    match found {
+        Some(name) => is_same(name, dep),
+        None => false,
     }
 }
 

@@ -1,5 +1,6 @@
-ghost use Rattle.std.specs.Prelude.{◌≡◌};
-ghost use Rattle.bosh_book.specs.BookView.{is_running};
+ghost use Rattle.std.specs.Prelude.{◌≡◌, ◌≢◌, ◌↔◌, IsTrue};
+ghost use Rattle.bosh_book.specs.Running.{is_running};
+ghost use Rattle.bosh_book.specs.declared.standing.Standing.TheVariants as standings;
 
 /// Whether the book goes on.
 #[derive(Clone, Copy, Debug, PartialEq, Eq)]
@@ -17,5 +18,11 @@ impl Standing {
         ensures { result ≡ is_running self }
     {
         matches!(self, Standing::Running)
+    }
+
+    pub(crate) fn is_read(self) -> bool
+        ensures { IsTrue result ↔ (self ≢ standings.Unread) }
+    {
+        !matches!(self, Standing::Unread)
     }
 }

@@ -2,7 +2,8 @@ ghost use Rattle.std.specs.Prelude.{◌≡◌, ◌⊎◌, [], IfErr, IfOk, IfSom
 ghost use Rattle.bosh_base.specs.declared.entry.Entry.TheVariants as entries;
 ghost use Rattle.bosh_base.specs.declared.failure.Failure.TheVariants.{Interrupted};
 ghost use Rattle.bosh_book.specs.Faults.{FailsAs, IsNoteFault, IsStartFault};
-ghost use Rattle.bosh_book.specs.Starts.{ComesOut, Finishes, Interrupts, IsNotLoaded, IsNotReloaded, Starts, StartsFrom, Takes, standing_after};
+ghost use Rattle.bosh_book.specs.Starts.{ComesOut, Finishes, Interrupts, IsNotLoaded, IsNotReloaded, Starts};
+ghost use Rattle.bosh_book.specs.Starts.{StartsFrom, Takes, standing_after};
 ghost use Rattle.bosh_book.specs.declared.standing.Standing.TheVariants.{Unread};
 ghost use Rattle.bosh_journal.specs.Director.{is_snapshot};
 ghost use Rattle.bosh_journal.specs.Kept.{IsKept};
@@ -11,13 +12,14 @@ use crate::Book;
 use crate::faults::of_journal;
 use crate::folding::folded;
 use crate::made::Made;
-use crate::place::put;
 use crate::standing::Standing;
 use bosh_asks::BookFault;
 use bosh_base::{Entry, Failure, TaskError};
-use bosh_fold::Records;
 use bosh_journal::Journal;
+use bosh_owned::put;
 use bosh_ports::Keeper;
+use bosh_records::Records;
+use bosh_views::snapshot;
 use std::alloc::Global;
 
 /// With more entries than these, a load puts a snapshot in their place.
@@ -126,7 +128,7 @@ impl<K: Keeper> Book<K> {
         ensures failed { FailsAs K.faults result self.old.journal self.new.journal }
         ensures fault { IfErr result IsNoteFault }
     {
-        let snapshot = self.records.snapshot()?;
+        let snapshot = snapshot(&self.records)?;
         self.compact_to(Entry::Snapshot(snapshot))
     }
 

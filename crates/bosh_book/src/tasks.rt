@@ -1,15 +1,17 @@
-ghost use Rattle.std.specs.Prelude.{◌≡◌, ◌⊎◌, [], ◌∷◌, ◌++◌, IfErr, IfOk, IfSome, IsTrue, None, OnErr, OnOk, Some, false, true};
+ghost use Rattle.std.specs.Prelude.{◌≡◌, [], ◌∷◌, IfErr, IfOk, None, OnErr, OnOk, Some, Err, false, is_some, option_map, true};
+ghost use Rattle.std.specs.Option.{option_copied};
 ghost use Rattle.bosh_asks.specs.declared.fault.BookFault.TheVariants as faults;
-ghost use Rattle.bosh_asks.specs.Opened.{Opens};
 ghost use Rattle.bosh_base.specs.declared.entry.Entry.TheVariants as entries;
-ghost use Rattle.bosh_base.specs.declared.entry.TaskOpen as task_open;
 ghost use Rattle.bosh_book.specs.Adds.{Adds};
-ghost use Rattle.bosh_book.specs.BookView.{is_long, is_stopped};
-ghost use Rattle.bosh_book.specs.Faults.{FailsAs, IsClaimFault, IsNoteFault, IsOpenFault};
+ghost use Rattle.bosh_book.specs.Claims.{Begins, Claims, TakesOn, Turn, Turns, most_turns};
+ghost use Rattle.bosh_book.specs.Current.{IsFor, dep_of, permit_of};
+ghost use Rattle.bosh_book.specs.Faults.{FailsAs, IsClaimFault, IsNoteFault, IsOpenFault, IsQuiet};
 ghost use Rattle.bosh_book.specs.Made.{Noted};
-ghost use Rattle.bosh_book.specs.Turns.{IsFor, IsUpdate, Notes, some};
-ghost use Rattle.bosh_book.specs.declared.standing.Standing.TheVariants.{Abandoned};
-ghost use Rattle.bosh_journal.specs.Director.{is_directors};
+ghost use Rattle.bosh_book.specs.Opens.{IsOpening, OpensTask};
+ghost use Rattle.bosh_book.specs.Running.{is_full, is_stopped};
+ghost use Rattle.bosh_book.specs.Turns.{IsUpdate, Notes, some};
+ghost use Rattle.bosh_book.specs.declared.claim.Claim.TheVariants as claims;
+ghost use Rattle.bosh_claim.specs.Choice.{choice_of};
 
 use crate::granted::{Granted, dep_of};
 use crate::made::Made;
@@ -18,29 +20,30 @@ use bosh_asks::{Ask, BookFault, opening};
 use bosh_base::{Begin, CopyFault, Entry, TaskOpen};
 use bosh_claim::{Choice, choose};
 use bosh_ports::Keeper;
+use bosh_work::Work;
 
 impl<K: Keeper> Book<K> {
     /// Opens the task that does what is asked, and answers its number.
-    #[tactic(auto, using(crate::proofs::FaultLemmas::notes_open))]
+    #[tactic(auto, using(crate::proofs::FaultLemmas::notes_open, crate::proofs::FaultLemmas::fails_quietly))]
     pub fn begin_task(&mut self, ask: &Ask) -> Result<u64, BookFault>
-        ensures opens { OnOk result ((opening : task_open.TaskOpen) × Opens ask.now opening
-            × Adds K.bodies K.faults self.old (entries.TaskOpen opening ∷ []) self.new
-            × IfOk result (λ task. task ≡ opening.task)) }
+        ensures opens { IfOk result (λ task. OpensTask K.bodies K.faults self.old ask.now task self.new) }
         ensures refused { OnErr result (Adds K.bodies K.faults self.old [] self.new) }
+        ensures failed { FailsAs K.faults result self.old.journal self.new.journal }
         ensures fault { IfErr result (IsOpenFault self.old ask.now) }
         ensures stopped { is_stopped self.old ≡ true → result ≡ Err faults.Stopped }
-        ensures full { OnOk result (is_long self.old ≡ false) }
+        ensures room { OnOk result (is_full self.old ≡ false) }
     {
         let opening = self.opened(ask)?;
         self.open(opening)
     }
 
-    #[tactic(auto, using(crate::proofs::FaultLemmas::refuses_open))]
+    #[tactic(auto, using(crate::proofs::FaultLemmas::refuses_open, crate::proofs::FaultLemmas::refuses_quietly))]
     fn opened(&self, ask: &Ask) -> Result<TaskOpen, BookFault>
-        ensures opens { IfOk result (Opens ask.now) }
+        ensures opens { IfOk result (IsOpening self.now.records ask.now) }
+        ensures quiet { IfErr result IsQuiet }
         ensures fault { IfErr result (IsOpenFault self.now ask.now) }
         ensures runs { OnOk result (is_stopped self.now ≡ false) }
-        ensures room { OnOk result (is_long self.now ≡ false) }
+        ensures room { OnOk result (is_full self.now ≡ false) }
         ensures stopped { is_stopped self.now ≡ true → result ≡ Err faults.Stopped }
     {
         self.check_running()?;
@@ -57,8 +60,8 @@ impl<K: Keeper> Book<K> {
     }
 
     fn with_room<T: Drop>(&self, value: T) -> Result<T, BookFault>
-        ensures value { IfOk result (λ it. (it ≡ value) × (is_long self.now ≡ false)) }
-        ensures full { IfErr result (λ fault. fault ≡ faults.Full) }
+        ensures value { IfOk result (λ it. (it ≡ value) × (is_full self.now ≡ false)) }
+        ensures full { IfErr result (λ fault. (fault ≡ faults.Full) × (is_full self.now ≡ true)) }
     {
         match self.check_room() {
             Ok(()) => Ok(value),
@@ -70,11 +73,13 @@ impl<K: Keeper> Book<K> {
     /// over.
     #[tactic(auto, using(crate::proofs::AddsLemmas::nothing_noted))]
     pub fn claim(&mut self, task: u64, worker: u8) -> Result<Claim, BookFault>
+        ensures claims { is_stopped self.old ≡ false → is_full self.old ≡ false
+            → Claims K.bodies K.faults task worker self.old result self.new }
         ensures notes { Notes K.bodies K.faults self.old (some result) self.new }
         ensures failed { FailsAs K.faults result self.old.journal self.new.journal }
         ensures fault { IfErr result (IsClaimFault self.old) }
         ensures stopped { is_stopped self.old ≡ true → result ≡ Err faults.Stopped }
-        ensures full { is_stopped self.old ≡ false → is_long self.old ≡ true → result ≡ Err faults.Full }
+        ensures full { is_stopped self.old ≡ false → is_full self.old ≡ true → result ≡ Err faults.Full }
     {
         match self.check() {
             Ok(()) => self.claim_next(task, worker),
@@ -83,14 +88,27 @@ impl<K: Keeper> Book<K> {
     }
 
     // The same of a book that goes on and has room.
-    #[tactic(auto, using(crate::proofs::AddsLemmas::noted_on, crate::proofs::AddsLemmas::noted_last, crate::proofs::AddsLemmas::waits_noted))]
     fn claim_next(&mut self, task: u64, worker: u8) -> Result<Claim, BookFault>
         requires { self.old.journal.is_broken ≡ false }
+        ensures claims { Claims K.bodies K.faults task worker self.old result self.new }
         ensures notes { Notes K.bodies K.faults self.old (some result) self.new }
         ensures failed { FailsAs K.faults result self.old.journal self.new.journal }
         ensures fault { IfErr result IsNoteFault }
     {
-        for _ in 0..self.most_notes(task) {
+        let turns = most_turns(self.records.work(task));
+        self.claim_within(turns, task, worker)
+    }
+
+    // The same with so many turns at most.
+    #[tactic(auto, using(crate::proofs::AddsLemmas::noted_on, crate::proofs::AddsLemmas::noted_last, crate::proofs::AddsLemmas::waits_noted))]
+    fn claim_within(&mut self, turns: u64, task: u64, worker: u8) -> Result<Claim, BookFault>
+        requires { self.old.journal.is_broken ≡ false }
+        ensures claims { Turns K.bodies K.faults task worker turns self.old result self.new }
+        ensures notes { Notes K.bodies K.faults self.old (some result) self.new }
+        ensures failed { FailsAs K.faults result self.old.journal self.new.journal }
+        ensures fault { IfErr result IsNoteFault }
+    {
+        for _ in 0..turns {
             match self.turn(task, worker) {
                 Ok(None) => {}
                 Ok(Some(claim)) => return Ok(claim),
@@ -100,22 +118,11 @@ impl<K: Keeper> Book<K> {
         Ok(Claim::Wait)
     }
 
-    // No more entries than these are noted before a call begins or nothing can be done: each begins or ends the update of
-    // an instance, or notes that one has nothing left.
-    fn most_notes(&self, task: u64) -> usize {
-        match self.records.work(task) {
-            Some(work) => {
-                let instances = work.changed.len().saturating_add(work.obsolete.items.len());
-                instances.saturating_mul(2).saturating_add(1)
-            }
-            None => 1,
-        }
-    }
-
     // What the rules choose is noted, where there is something to note. A claim is answered, or that one goes on.
     #[tactic(auto, using(crate::proofs::AddsLemmas::nothing_noted))]
     fn turn(&mut self, task: u64, worker: u8) -> Result<Option<Claim>, BookFault>
         requires { self.old.journal.is_broken ≡ false }
+        ensures turn { Turn K.bodies K.faults task worker self.old result self.new }
         ensures notes { Notes K.bodies K.faults self.old result self.new }
         ensures failed { FailsAs K.faults result self.old.journal self.new.journal }
         ensures fault { IfErr result IsNoteFault }
@@ -132,6 +139,7 @@ impl<K: Keeper> Book<K> {
     #[tactic(auto, using(crate::proofs::AddsLemmas::nothing_noted))]
     fn take_on<T: Made + Drop>(&mut self, chosen: T) -> Result<Option<Claim>, BookFault>
         requires { self.old.journal.is_broken ≡ false }
+        ensures takes_on { TakesOn K.bodies K.faults (T.entry_of chosen) self.old result self.new }
         ensures notes { Notes K.bodies K.faults self.old result self.new }
         ensures failed { FailsAs K.faults result self.old.journal self.new.journal }
         ensures fault { IfErr result IsNoteFault }
@@ -144,8 +152,9 @@ impl<K: Keeper> Book<K> {
         }
     }
 
-    pub(crate) fn choice(&self, task: u64, worker: u8) -> Result<Choice, BookFault>
-        ensures { IfErr result (λ fault. fault ≡ faults.Memory) }
+    fn choice(&self, task: u64, worker: u8) -> Result<Choice, BookFault>
+        ensures choice { IfOk result (λ choice. choice ≡ choice_of self.now.records task worker) }
+        ensures memory { IfErr result (λ fault. fault ≡ faults.Memory) }
     {
         match choose(self.alloc, &self.records, task, worker) {
             Ok(choice) => Ok(choice),
@@ -158,13 +167,16 @@ impl<K: Keeper> Book<K> {
     fn grant(&mut self, entry: &Entry, begin: &Begin) -> Result<Option<Claim>, BookFault>
         requires begins { entry.now ≡ entries.Begin begin.now }
         requires whole { self.old.journal.is_broken ≡ false }
+        ensures begins { Begins K.bodies K.faults begin.now (dep_of self.old.records begin.now.owner)
+            self.old result self.new }
         ensures notes { Notes K.bodies K.faults self.old result self.new }
         ensures failed { FailsAs K.faults result self.old.journal self.new.journal }
         ensures fault { IfErr result IsNoteFault }
     {
-        match self.granted(begin)? {
-            Some(granted) => self.permit(entry, begin, granted),
-            None => Ok(Some(Claim::Wait)),
+        match self.granted(begin) {
+            Ok(Some(granted)) => self.permit(entry, begin, granted),
+            Ok(None) => Ok(Some(Claim::Wait)),
+            Err(_) => Err(BookFault::Memory),
         }
     }
 
@@ -178,6 +190,7 @@ impl<K: Keeper> Book<K> {
         requires begins { entry.now ≡ entries.Begin begin.now }
         requires for_begin { IsFor begin.now granted }
         requires whole { self.old.journal.is_broken ≡ false }
+        ensures noted { Noted K.bodies K.faults entry.now (Some (claims.Work granted)) self.old result self.new }
         ensures notes { Notes K.bodies K.faults self.old result self.new }
         ensures failed { FailsAs K.faults result self.old.journal self.new.journal }
         ensures fault { IfErr result IsNoteFault }
@@ -188,7 +201,9 @@ impl<K: Keeper> Book<K> {
 
     // The call that begins so, where its owner is of a deployment.
     fn granted(&self, begin: &Begin) -> Result<Option<Granted>, CopyFault>
-        ensures { IfOk result (λ granted. IfSome granted (IsFor begin.now)) }
+        ensures granted { IfOk result (λ granted.
+            granted ≡ option_map (permit_of begin.now) (dep_of self.now.records begin.now.owner)) }
+        ensures some { OnErr result (is_some (dep_of self.now.records begin.now.owner) ≡ true) }
     {
         match dep_of(&self.records, &begin.owner) {
             Some(dep) => Ok(Some(Granted::of(self.alloc, begin, dep)?)),
@@ -201,11 +216,28 @@ impl<K: Keeper> Book<K> {
     fn update(&mut self, entry: &Entry) -> Result<Option<Claim>, BookFault>
         requires update { IsUpdate entry.now }
         requires whole { self.old.journal.is_broken ≡ false }
+        ensures noted { Noted K.bodies K.faults entry.now None self.old result self.new }
         ensures notes { Notes K.bodies K.faults self.old result self.new }
         ensures failed { FailsAs K.faults result self.old.journal self.new.journal }
         ensures fault { IfErr result IsNoteFault }
     {
         self.note(entry)?;
         Ok(None)
+    }
+}
+
+// No more entries than these come before a call begins or nothing can be done: each begins or ends the update of an
+// instance, or says that one has nothing left.
+fn most_turns(work: Option<&Work>) -> u64
+    ensures { result ≡ most_turns (option_copied work.entry) }
+{
+    match work {
+        Some(work) => {
+            let instances = (work.changed.len() as u64).saturating_add(
+                work.obsolete.items.len() as u64,
+            );
+            instances.saturating_mul(2).saturating_add(1)
+        }
+        None => 1,
     }
 }

@@ -1,19 +1,25 @@
-ghost use Rattle.std.specs.Prelude.{◌≡◌, IfErr, IfOk, OnOk, false, is_some, true};
+ghost use Rattle.std.specs.Prelude.{◌≡◌, ◌⊎◌, IfErr, IfOk, IsFalse, IsTrue, OnOk, false, is_some, true};
+ghost use Rattle.std.specs.Option.{option_copied};
+ghost use Rattle.bosh_asks.specs.Faults.{name_and_version};
 ghost use Rattle.bosh_asks.specs.Goals.{config_in};
 ghost use Rattle.bosh_asks.specs.declared.fault.BookFault.TheVariants as faults;
+ghost use Rattle.bosh_base.specs.Version.{IsVersion};
 ghost use Rattle.bosh_base.specs.declared.entry.Entry.TheVariants as entries;
 ghost use Rattle.bosh_book.specs.Adds.{Adds};
 ghost use Rattle.bosh_book.specs.Appends.{unless_refused};
-ghost use Rattle.bosh_book.specs.BookView.{is_stopped};
 ghost use Rattle.bosh_book.specs.Faults.{FailsAs, IsConfigFault, IsDiffering, IsNoConfig, IsQuiet, IsUploadFault};
-ghost use Rattle.bosh_book.specs.Uploads.{if_new};
-ghost use Rattle.bosh_book.specs.declared.uploads.Added.TheVariants.{New};
+ghost use Rattle.bosh_book.specs.Running.{is_stopped};
+ghost use Rattle.bosh_book.specs.Uploads.{AreSame, GoesWith, IsAdded, IsOther, IsUpload};
+ghost use Rattle.bosh_book.specs.Uploads.{are_equal, has_stemcell, if_new, recorded};
+ghost use Rattle.bosh_book.specs.declared.uploads.Added.TheVariants.{New, Same};
 
 use crate::Book;
 use crate::faults::no_config;
-use crate::place::is_there;
 use bosh_asks::{BookFault, config_in, differs};
-use bosh_base::{Copyable, Entry, Name, Release, Stemcell, Text, is_version, version_order};
+use bosh_base::{
+    Copyable, Entry, Name, Release, Stemcell, Text, is_same, is_version, version_order,
+};
+use bosh_owned::is_there;
 use bosh_ports::Keeper;
 use bosh_sound::{are_sound, are_sound_with};
 use std::alloc::{AllocError, Global};
@@ -33,8 +39,10 @@ impl<K: Keeper> Book<K> {
     #[tactic(auto, using(crate::proofs::FaultLemmas::fails_quietly))]
     pub fn upload(&mut self, release: Release) -> Result<Added, BookFault>
         ensures adds { Adds K.bodies K.faults self.old (if_new result (entries.Release release)) self.new }
+        ensures told { IfOk result (IsUpload self.old.records.releases.items release) }
         ensures failed { FailsAs K.faults result self.old.journal self.new.journal }
-        ensures fault { IfErr result (IsUploadFault self.old) }
+        ensures fault { IfErr result (IsUploadFault self.old (name_and_version release.name release.version)
+            (IsOther self.old.records.releases.items release)) }
         ensures stopped { is_stopped self.old ≡ true → IfErr result (λ fault. fault ≡ faults.Stopped) }
     {
         match self.compared(&release) {
@@ -46,27 +54,14 @@ impl<K: Keeper> Book<K> {
 
     fn compared(&self, release: &Release) -> Result<Added, BookFault>
         ensures runs { OnOk result (is_stopped self.now ≡ false) }
-        ensures fault { IfErr result (IsUploadFault self.now) }
+        ensures told { IfOk result (IsUpload self.now.records.releases.items release.now) }
+        ensures fault { IfErr result (IsUploadFault self.now (name_and_version release.now.name release.now.version)
+            (IsOther self.now.records.releases.items release.now)) }
         ensures quiet { IfErr result IsQuiet }
         ensures stopped { is_stopped self.now ≡ true → IfErr result (λ fault. fault ≡ faults.Stopped) }
     {
         self.check_running()?;
-        if let Some(there) = recorded(self.records.releases(), release) {
-            return same_or_differs(self.alloc, there, release);
-        }
-        if !is_version(release.version.as_slice()) || !self.goes_with(release)? {
-            return Err(differing(self.alloc, release));
-        }
-        Ok(Added::New)
-    }
-
-    // Whether the recorded releases are sound with one more.
-    fn goes_with(&self, release: &Release) -> Result<bool, AllocError> {
-        let recorded = self.records.releases();
-        match are_sound(self.alloc, recorded)? {
-            true => are_sound_with(self.alloc, recorded, release),
-            false => Ok(false),
-        }
+        compared(self.alloc, self.records.releases(), release)
     }
 
     /// Records a stemcell, where it is not there yet. What is no version is taken for another one than those that are
@@ -74,8 +69,9 @@ impl<K: Keeper> Book<K> {
     pub fn add_stemcell(&mut self, os: &Name, version: &[u8]) -> Result<Added, BookFault>
         ensures adds { Adds K.bodies K.faults self.old
             (if_new result (entries.Stemcell (record { os = os.now; version = version.now }))) self.new }
+        ensures told { IfOk result (IsAdded self.old.records.stemcells.items os.now version.now) }
         ensures failed { FailsAs K.faults result self.old.journal self.new.journal }
-        ensures fault { IfErr result (IsUploadFault self.old) }
+        ensures fault { IfErr result (IsUploadFault self.old (name_and_version os.now version.now) (¬ IsVersion version.now)) }
         ensures stopped { is_stopped self.old ≡ true → IfErr result (λ fault. fault ≡ faults.Stopped) }
     {
         self.check_running()?;
@@ -124,33 +120,83 @@ fn spells(alloc: Global, file: &[u8]) -> Result<bool, BookFault>
     is_there(config_in(alloc, file))
 }
 
-fn are_equal(one: &[u8], other: &[u8]) -> bool {
+fn are_equal(one: &[u8], other: &[u8]) -> bool
+    ensures { result ≡ are_equal one.now other.now }
+{
     matches!(version_order(one, other), Some(Ordering::Equal))
 }
 
+// What is told of a release beside those that are recorded.
+fn compared(alloc: Global, releases: &[Release], release: &Release) -> Result<Added, BookFault>
+    ensures told { IfOk result (IsUpload releases.now release.now) }
+    ensures fault { IfErr result (IsDiffering (name_and_version release.now.name release.now.version)
+        (IsOther releases.now release.now)) }
+{
+    match recorded(releases, release) {
+        Some(there) => same_or_differs(alloc, there, release),
+        None => new_or_differs(alloc, releases, release),
+    }
+}
+
 // The recorded release of the name and version of another.
-fn recorded<'a>(releases: &'a [Release], release: &Release) -> Option<&'a Release> {
+fn recorded<'a>(releases: &'a [Release], release: &Release) -> Option<&'a Release>
+    ensures { option_copied result ≡ recorded releases.now release.now }
+{
     releases.iter().find(|it| it.name == release.name
         && are_equal(it.version.as_slice(), release.version.as_slice()))
 }
 
 fn same_or_differs(alloc: Global, there: &Release, release: &Release) -> Result<Added, BookFault>
-    ensures { IfErr result IsDiffering }
+    ensures told { IfOk result (λ added. (added ≡ Same) × AreSame there.now release.now) }
+    ensures fault { IfErr result (IsDiffering (name_and_version release.now.name release.now.version)
+        (¬ AreSame there.now release.now)) }
 {
-    if there.jobs == release.jobs && there.packages == release.packages {
+    if is_same(&there.jobs, &release.jobs) && is_same(&there.packages, &release.packages) {
         Ok(Added::Same)
     } else {
         Err(differing(alloc, release))
     }
 }
 
+// One that is not recorded is new, where it has a version and goes with those that are.
+fn new_or_differs(
+    alloc: Global,
+    releases: &[Release],
+    release: &Release,
+) -> Result<Added, BookFault>
+    ensures told { IfOk result (λ added. (added ≡ New) × IsVersion release.now.version
+        × GoesWith releases.now release.now) }
+    ensures fault { IfErr result (IsDiffering (name_and_version release.now.name release.now.version)
+        ((¬ IsVersion release.now.version) ⊎ (¬ GoesWith releases.now release.now))) }
+{
+    if !is_version(release.version.as_slice()) || !goes_with(alloc, releases, release)? {
+        return Err(differing(alloc, release));
+    }
+    Ok(Added::New)
+}
+
+// Whether the recorded releases are sound, also with one more.
+fn goes_with(alloc: Global, releases: &[Release], release: &Release) -> Result<bool, AllocError>
+    ensures yes { IfOk result (λ yes. IsTrue yes → GoesWith releases.now release.now) }
+    ensures no { IfOk result (λ yes. IsFalse yes → ¬ GoesWith releases.now release.now) }
+{
+    match are_sound(alloc, releases)? {
+        true => are_sound_with(alloc, releases, release),
+        false => Ok(false),
+    }
+}
+
+// That a release is another one than those that are there.
 fn differing(alloc: Global, release: &Release) -> BookFault
-    ensures { IsDiffering result }
+    ensures { (result ≡ faults.Differs (name_and_version release.now.name release.now.version))
+        ⊎ (result ≡ faults.Memory) }
 {
     differs(alloc, &release.name, release.version.as_slice())
 }
 
-fn has_stemcell(stemcells: &[Stemcell], os: &Name, version: &[u8]) -> bool {
+fn has_stemcell(stemcells: &[Stemcell], os: &Name, version: &[u8]) -> bool
+    ensures { result ≡ has_stemcell stemcells.now os.now version.now }
+{
     stemcells.iter().any(|it| it.os == *os && are_equal(it.version.as_slice(), version))
 }
 

@@ -10,8 +10,9 @@ use crate::deploy::{ask_of, is_told, new_book};
 use crate::driven::is_driven;
 use bosh_base::Entry;
 use bosh_book::{Ask, Book};
-use bosh_fold::Records;
+use bosh_fold::apply;
 use bosh_ports::MemKeeper;
+use bosh_records::Records;
 use std::alloc::Global;
 use std::process::ExitCode;
 use std::rt::Clock;
@@ -97,7 +98,7 @@ fn fold(clock: &impl Clock, alloc: Global, count: u32) -> Option<(Asked, Duratio
 fn folds(alloc: Global, entries: &[Entry]) -> bool {
     let mut records = Records::empty(alloc);
     for entry in entries {
-        if records.apply(entry).is_err() {
+        if apply(&mut records, entry).is_err() {
             return false;
         }
     }

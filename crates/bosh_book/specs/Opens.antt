@@ -1,0 +1,30 @@
+-- A task opens (this project's profile).
+use Rattle.std.specs.Prelude.{◌≡◌, ℕ, List, [], ◌∷◌, Option, None}
+use Rattle.bosh_asks.specs.Asked.{dep_of}
+use Rattle.bosh_asks.specs.Known.{lock_holder, next_task}
+use Rattle.bosh_asks.specs.Opened.{Opens, plan_of}
+use Rattle.bosh_asks.specs.Over.{DoesOver, IsNamed}
+use Rattle.bosh_asks.specs.declared.ask.Ask.{Ask}
+use Rattle.bosh_base.specs.declared.entry.Entry.TheVariants as entries
+use Rattle.bosh_base.specs.declared.entry.TaskOpen as task_open
+use Rattle.bosh_book.specs.Adds.{Adds}
+use Rattle.bosh_book.specs.declared.book.Book.{Book}
+use Rattle.bosh_records.specs.declared.records.Records.{Records}
+
+-- How a task opens that does what is asked, over what is recorded: it has the next number, no open task has its lock,
+-- what is named is there, and it does what is asked by the records.
+pub record IsOpening (records : Records) (ask : Ask) (opening : task_open.TaskOpen) : Type 0 where
+  pub opens : Opens ask opening
+  pub number : opening.task ≡ next_task records
+  pub free : lock_holder records (dep_of ask) ≡ None
+  pub named : IsNamed records ask
+  pub over : DoesOver records ask (plan_of opening)
+
+-- .. and that is noted, and its number told
+pub record OpensTask {K : Type 0}
+    (bodies : K → Option (List (List ℕ))) (faults : K → ℕ) (was : Book K) (ask : Ask) (task : ℕ) (now : Book K) :
+    Type 0 where
+  pub opening : task_open.TaskOpen
+  pub is_opening : IsOpening was.records ask opening
+  pub adds : Adds bodies faults was (entries.TaskOpen opening ∷ []) now
+  pub told : task ≡ opening.task
