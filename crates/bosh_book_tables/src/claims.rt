@@ -5,9 +5,18 @@ use bosh_case_texts::{push_addr, push_count, push_owner};
 use bosh_cases::push_parts;
 use std::alloc::AllocError;
 
-// As `z1 10.0.0.10`: the zone, the addresses, and what it is for.
+// Cloud properties, where there are any.
+fn push_properties(text: &mut Vec<u8>, properties: &[u8]) -> Result<(), AllocError> {
+    if properties == b"null".as_slice() {
+        return Ok(());
+    }
+    push_parts(text, &[b" ", properties])
+}
+
+// As `z1 10.0.0.10`: the zone, the cloud properties and the addresses.
 fn push_make(text: &mut Vec<u8>, make: &Make) -> Result<(), AllocError> {
     push_parts(text, &[b" ", make.az.as_bytes()])?;
+    push_properties(text, make.vm.as_slice())?;
     for net in make.nets.iter() {
         push_addr(text, b" ", net.addr)?;
     }

@@ -1,4 +1,5 @@
 //! Refusals in words.
+use crate::told::Told;
 use bosh_book::BookFault;
 use bosh_case_texts::{push_count, push_inst, push_joint};
 use bosh_cases::{CaseFault, push_parts};
@@ -26,12 +27,6 @@ fn word(fault: &BookFault) -> &'static [u8] {
         BookFault::Full => b"Full",
         _ => b"Memory",
     }
-}
-
-/// What is told of a refusal.
-pub(crate) trait Told {
-    /// Adds its name, with what it names. Want of memory is none of the book's answers.
-    fn push_to(&self, text: &mut Vec<u8>) -> Result<(), CaseFault>;
 }
 
 impl Told for BookFault {

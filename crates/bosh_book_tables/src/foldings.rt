@@ -1,28 +1,29 @@
 //! Records that are written down whole, and read again.
+use crate::store::body_of;
 use bosh_base::Entry;
 use bosh_cases::CaseFault;
-use bosh_entry::write;
-use bosh_fold::Records;
+use bosh_fold::apply;
+use bosh_owned::beside;
+use bosh_records::Records;
+use bosh_views::snapshot;
 use std::alloc::Global;
 
-// The body of a snapshot of records.
+// A snapshot of records, and its body.
 fn spelled(alloc: Global, records: &Records) -> Result<(Entry, Vec<u8>), CaseFault> {
-    let Ok(snapshot) = records.snapshot() else {
+    let Ok(snapshot) = snapshot(records) else {
         return Err(CaseFault::Memory);
     };
     with_body(alloc, Entry::Snapshot(snapshot))
 }
 
 fn with_body(alloc: Global, entry: Entry) -> Result<(Entry, Vec<u8>), CaseFault> {
-    match write(alloc, &entry) {
-        Ok(body) => Ok((entry, body)),
-        Err(_) => Err(CaseFault::Memory),
-    }
+    let body = body_of(alloc, &entry);
+    beside(entry, body)
 }
 
 fn read_again(alloc: Global, snapshot: &Entry) -> Result<Records, CaseFault> {
     let mut records = Records::empty(alloc);
-    match records.apply(snapshot) {
+    match apply(&mut records, snapshot) {
         Ok(()) => Ok(records),
         Err(_) => Err(CaseFault::Memory),
     }

@@ -8,12 +8,16 @@ mod claims;
 mod entries;
 mod faults;
 mod foldings;
+mod openings;
 mod permits;
 mod running;
 mod stand;
 mod steps;
 mod store;
-mod uploads;
+mod told;
+mod versions;
+mod words;
+mod written;
 
 use crate::calls::BookCalls;
 use bosh_case_runner::run_tables;

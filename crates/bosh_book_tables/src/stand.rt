@@ -1,15 +1,19 @@
 //! The book that a case works on.
 use crate::claims::push_permit;
 use crate::entries::push_entries;
-use crate::faults::Told;
 use crate::foldings::folds_again;
 use crate::running::{Claimed, Running};
-use crate::store::{Store, spoiled};
-use bosh_base::{Answer, TaskEnd};
-use bosh_book::{Added, Book, Permit};
+use crate::store::{Store, spoiled, store_at};
+use crate::told::Told;
+use crate::versions::{first_refused, may_stand, refused_in};
+use bosh_base::{Answer, Entry};
+use bosh_book::{Book, Permit};
+use bosh_case_texts::push_count;
 use bosh_cases::{CaseFault, Outcome, push_parts};
 use bosh_cloud::SimCloud;
+use bosh_owned::after;
 use bosh_ports::MemKeeper;
+use bosh_yaml::Node;
 use itoa::Buffer;
 use std::alloc::Global;
 
@@ -69,56 +73,25 @@ impl Stand {
         Ok(push_parts(self.part()?, &[word.as_bytes(), b" ", number.as_bytes()])?)
     }
 
-    // Generic, as all that tell refusals are: to let one go, which has many kinds, is dear to prove.
-    fn tell_fault<E: Told + Drop>(&mut self, fault: E) -> Result<(), CaseFault> {
-        fault.push_to(self.part()?)
+    // Generic, as all that tell answers are: to let a refusal go, which has many kinds, is dear to prove.
+    fn tell_value<T: Told>(&mut self, value: T) -> Result<(), CaseFault> {
+        value.push_to(self.part()?)
     }
 
-    // .. which ends the work.
-    fn stop_at<E: Told + Drop>(&mut self, fault: E) -> Result<bool, CaseFault> {
+    // Tells a refusal, which ends the work.
+    fn stop_at<E: Told>(&mut self, fault: E) -> Result<bool, CaseFault> {
         fault.push_to(self.part()?)?;
         Ok(false)
     }
 
-    /// Tells how a call came out that has no answer of its own.
-    pub(crate) fn tell_done<E: Told + Drop>(
+    /// Tells what was answered.
+    pub(crate) fn tell_answer<V: Told, E: Told>(
         &mut self,
-        done: Result<(), E>,
+        answer: Result<V, E>,
     ) -> Result<(), CaseFault> {
-        match done {
-            Ok(()) => self.tell("ok"),
-            Err(fault) => self.tell_fault(fault),
-        }
-    }
-
-    pub(crate) fn tell_added<E: Told + Drop>(
-        &mut self,
-        added: Result<Added, E>,
-    ) -> Result<(), CaseFault> {
-        match added {
-            Ok(Added::New) => self.tell("new"),
-            Ok(Added::Same) => self.tell("same"),
-            Err(fault) => self.tell_fault(fault),
-        }
-    }
-
-    pub(crate) fn tell_task<E: Told + Drop>(
-        &mut self,
-        task: Result<u64, E>,
-    ) -> Result<(), CaseFault> {
-        match task {
-            Ok(task) => self.tell_number("task", task),
-            Err(fault) => self.tell_fault(fault),
-        }
-    }
-
-    fn tell_end<E: Told + Drop>(&mut self, end: Result<TaskEnd, E>) -> Result<(), CaseFault> {
-        match end {
-            Ok(TaskEnd::Finished) => self.tell("done"),
-            Ok(TaskEnd::Fault { n, .. }) => self.tell_number("failed", n),
-            Ok(TaskEnd::Gone { n, .. }) => self.tell_number("gone", n),
-            Ok(TaskEnd::Interrupted) => self.tell("interrupted"),
-            Err(fault) => self.tell_fault(fault),
+        match answer {
+            Ok(value) => self.tell_value(value),
+            Err(fault) => self.tell_value(fault),
         }
     }
 
@@ -136,7 +109,7 @@ impl Stand {
             Ok(Claimed::Work(n)) => self.tell_permit(n),
             Ok(Claimed::Wait) => self.tell("wait"),
             Ok(Claimed::Over) => self.tell("over"),
-            Err(fault) => self.tell_fault(fault),
+            Err(fault) => self.tell_value(fault),
         }
     }
 
@@ -152,7 +125,7 @@ impl Stand {
     /// Ends a call with an answer.
     pub(crate) fn settle(&mut self, n: u64, answer: Answer) -> Result<(), CaseFault> {
         let done = self.running()?.settle(n, answer)?;
-        self.tell_done(done)
+        self.tell_answer(done)
     }
 
     /// Gives a call up.
@@ -177,14 +150,14 @@ impl Stand {
         let answer = self.performed(n)?;
         match self.running()?.settle(n, answer)? {
             Ok(()) => Ok(()),
-            Err(fault) => self.tell_fault(fault),
+            Err(fault) => self.tell_value(fault),
         }
     }
 
     /// Ends a task, and tells how it ended.
     pub(crate) fn end(&mut self, task: u64) -> Result<(), CaseFault> {
         let end = self.book()?.end_task(task);
-        self.tell_end(end)
+        self.tell_answer(end)
     }
 
     // Claims work and has it carried out. Where there is none, that is so.
@@ -212,7 +185,7 @@ impl Stand {
     /// Reloads the book.
     pub(crate) fn reload(&mut self) -> Result<(), CaseFault> {
         let done = self.book()?.reload();
-        self.tell_done(done)?;
+        self.tell_answer(done)?;
         self.tell_mended()
     }
 
@@ -266,7 +239,32 @@ impl Stand {
                 self.set(book);
                 self.tell_mended()
             }
-            Err(fault) => self.tell_fault(fault),
+            Err(fault) => self.tell_value(fault),
+        }
+    }
+
+    /// Loads the book from a new store, in which nothing is recorded but the number of the last call.
+    pub(crate) fn begin_at(&mut self, last_call: u64) -> Result<(), CaseFault> {
+        let store = store_at(self.alloc, last_call)?;
+        self.load_from(store)
+    }
+
+    /// Whether an entry may stand after those of the book.
+    pub(crate) fn ask(&mut self, entry: &Entry) -> Result<(), CaseFault> {
+        let alloc = self.alloc;
+        if may_stand(alloc, self.book()?.records(), entry)? {
+            self.tell("allowed")
+        } else {
+            self.tell("refused")
+        }
+    }
+
+    /// Whether each entry of a list may stand after those before it, or the number of the first that may not.
+    pub(crate) fn ask_version(&mut self, parts: &[Node]) -> Result<(), CaseFault> {
+        let alloc = self.alloc;
+        match refused_in(alloc, self.book()?, parts)? {
+            None => self.tell("allowed"),
+            Some(number) => self.tell_number("refused", number),
         }
     }
 
@@ -283,18 +281,30 @@ impl Stand {
     /// What was told, and the entries that there are, one a line.
     pub(crate) fn into_outcome(self, taken: Result<(), CaseFault>) -> Result<Outcome, CaseFault> {
         let Stand {
-            alloc: _,
+            alloc,
             running,
-            cloud: _,
+            cloud,
             told,
         } = self;
         let book = match running {
             Some(running) => Some(running.into_book()),
             None => None,
         };
-        taken?;
-        outcome(told, book.as_ref())
+        after(cloud, finished(alloc, told, taken, book))
     }
+}
+
+fn finished(
+    alloc: Global,
+    told: Vec<u8>,
+    taken: Result<(), CaseFault>,
+    book: Option<Book<Store>>,
+) -> Result<Outcome, CaseFault> {
+    let outcome = match taken {
+        Ok(()) => outcome(alloc, told, book.as_ref()),
+        Err(fault) => Err(fault),
+    };
+    after(book, outcome)
 }
 
 // Without the store, which is given back. Generic, as it is let go.
@@ -312,11 +322,26 @@ fn answered(cloud: &mut SimCloud<MemKeeper>, permit: &Permit) -> Result<Answer, 
     }
 }
 
-fn outcome(told: Vec<u8>, book: Option<&Book<Store>>) -> Result<Outcome, CaseFault> {
+fn push_refused(text: &mut Vec<u8>, refused: Option<u64>) -> Result<(), CaseFault> {
+    match refused {
+        None => push_parts(text, &[b"each allowed"])?,
+        Some(number) => push_count(text, b"refused ", number)?,
+    }
+    text.push(b'\n')?;
+    Ok(())
+}
+
+// The entries, and whether each may stand after those before it.
+fn push_book(alloc: Global, text: &mut Vec<u8>, book: &Book<Store>) -> Result<(), CaseFault> {
+    push_entries(text, book.entries())?;
+    push_refused(text, first_refused(alloc, book.entries())?)
+}
+
+fn outcome(alloc: Global, told: Vec<u8>, book: Option<&Book<Store>>) -> Result<Outcome, CaseFault> {
     let mut text = told;
     text.push(b'\n')?;
     if let Some(book) = book {
-        push_entries(&mut text, book.entries())?;
+        push_book(alloc, &mut text, book)?;
     }
     Ok(Outcome::bytes(text))
 }

@@ -1,9 +1,11 @@
 //! The steps of a case.
 use crate::asks::{asked, deploy};
 use crate::stand::Stand;
-use crate::uploads::release;
+use crate::told::Opened;
+use crate::written::entry;
 use bosh_base::{Answer, Name, Text};
 use bosh_book::Ask;
+use bosh_case_files::release;
 use bosh_case_words::{Worded, number, word};
 use bosh_cases::{CaseFault, Given, characters};
 use bosh_ports::Rig;
@@ -24,9 +26,23 @@ fn with<T: Drop, F: FnOnce(&mut Stand, T) -> Result<(), CaseFault> + Drop>(
     }
 }
 
+// The same with what is looked at and let go.
+fn over<T: Drop, F: FnOnce(&mut Stand, &T) -> Result<(), CaseFault> + Drop>(
+    stand: &mut Stand,
+    given: Result<T, CaseFault>,
+    ask: F,
+) -> Result<(), CaseFault>
+    requires { F.IsAlwaysCallable ask }
+{
+    match given {
+        Ok(given) => ask(stand, &given),
+        Err(fault) => Err(fault),
+    }
+}
+
 fn begin(stand: &mut Stand, ask: Ask) -> Result<(), CaseFault> {
     let task = stand.book()?.begin_task(&ask);
-    stand.tell_task(task)
+    stand.tell_answer(task.map(Opened))
 }
 
 // As `stemcell jammy 1.1`.
@@ -34,7 +50,7 @@ fn stemcell_step(stand: &mut Stand, words: &mut SplitWhitespace<'_>) -> Result<(
     let os = Name::of(stand.alloc(), word(words)?.as_bytes())?;
     let version = word(words)?.as_bytes();
     let added = stand.book()?.add_stemcell(&os, version);
-    stand.tell_added(added)
+    stand.tell_answer(added)
 }
 
 // As `claim 1` or `claim 1 by 2`.
@@ -86,7 +102,14 @@ fn rig_step(stand: &mut Stand, words: &mut SplitWhitespace<'_>) -> Result<(), Ca
         return Err(CaseFault::Form);
     }
     let done = stand.book()?.rig(k, how);
-    stand.tell_done(done)
+    stand.tell_answer(done)
+}
+
+// An entry in words.
+fn entry_step(stand: &mut Stand, text: &str) -> Result<(), CaseFault> {
+    let alloc = stand.alloc();
+    let entry = entry(alloc, stand.book()?, text);
+    over(stand, entry, |stand, entry| stand.ask(entry))
 }
 
 // A task is asked for.
@@ -118,6 +141,7 @@ fn take_words(stand: &mut Stand, text: &str) -> Result<(), CaseFault> {
         "load" => stand.load(),
         "rig" => rig_step(stand, &mut words),
         "fold" => stand.fold_again(),
+        "begin_at" => stand.begin_at(number(&mut words)?),
         verb => ask_step(stand, verb, &mut words),
     }
 }
@@ -125,10 +149,10 @@ fn take_words(stand: &mut Stand, text: &str) -> Result<(), CaseFault> {
 fn config_step(stand: &mut Stand, file: Result<Text, CaseFault>) -> Result<(), CaseFault> {
     let file = file?;
     let done = stand.book()?.set_config(file.as_slice());
-    stand.tell_done(done)
+    stand.tell_answer(done)
 }
 
-// `{"config": TEXT}`, `{"release": ..}` or `{"deploy": ..}`.
+// `{"config": TEXT}`, `{"release": ..}`, `{"asked": ENTRY}`, `{"version": ENTRIES}` or `{"deploy": ..}`.
 fn take_map(stand: &mut Stand, node: &Node) -> Result<(), CaseFault> {
     let alloc = stand.alloc();
     if let Some(file) = node.find(b"config") {
@@ -137,8 +161,14 @@ fn take_map(stand: &mut Stand, node: &Node) -> Result<(), CaseFault> {
     if let Some(folder) = node.find(b"release") {
         return with(stand, release(alloc, folder), |stand, release| {
             let added = stand.book()?.upload(release);
-            stand.tell_added(added)
+            stand.tell_answer(added)
         });
+    }
+    if let Some(Node::Text(text)) = node.find(b"asked") {
+        return entry_step(stand, characters(text)?);
+    }
+    if let Some(Node::List(parts)) = node.find(b"version") {
+        return stand.ask_version(parts.as_slice());
     }
     match node.find(b"deploy") {
         Some(_) => with(stand, deploy(alloc, node), begin),

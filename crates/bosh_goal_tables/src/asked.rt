@@ -2,6 +2,7 @@
 use crate::uploads::{Uploads, uploaded};
 use crate::views::view;
 use bosh_base::{Goal, Name, Seq, Stemcell, Text, View};
+use bosh_case_files::manifest;
 use bosh_cases::{CaseFault, Given, both};
 use bosh_cloudcfg::Config;
 use bosh_goal::goal;
@@ -47,22 +48,10 @@ pub(crate) fn config(alloc: Global, part: Option<&Node>) -> Result<Option<Config
     }
 }
 
-fn manifest_in(alloc: Global, dep: &Name, node: &Node) -> Result<Manifest, CaseFault> {
-    match bosh_manifest::check(alloc, node, dep) {
-        Ok(manifest) => Ok(manifest),
-        Err(_) => Err(CaseFault::Form),
-    }
-}
-
-fn checked_manifest(alloc: Global, dep: &Name, text: &Text) -> Result<Manifest, CaseFault> {
-    let node = read(alloc, text.as_slice())?;
-    manifest_in(alloc, dep, &node)
-}
-
-fn manifest(alloc: Global, setting: &Node, given: &Node) -> Result<Manifest, CaseFault> {
+fn manifest_of(alloc: Global, setting: &Node, given: &Node) -> Result<Manifest, CaseFault> {
     let text = value(alloc, part(setting, given, "manifest"));
     let (dep, text) = both(value(alloc, part(setting, given, "dep")), text)?;
-    checked_manifest(alloc, &dep, &text)
+    manifest(alloc, &dep, &text)
 }
 
 /// A manifest, and what is uploaded.
@@ -78,7 +67,7 @@ impl Asked {
         let uploads = uploaded(alloc, part(setting, given, "releases"));
         let stemcells = value(alloc, part(setting, given, "stemcells"));
         let rest = both(uploads, stemcells);
-        let (manifest, (uploads, stemcells)) = both(manifest(alloc, setting, given), rest)?;
+        let (manifest, (uploads, stemcells)) = both(manifest_of(alloc, setting, given), rest)?;
         Ok(Asked {
             manifest,
             uploads,

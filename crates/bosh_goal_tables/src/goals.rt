@@ -1,48 +1,38 @@
 //! Goals. What a case is answered under is made one thing after the other, each in a function of its own.
 use crate::asked::{Asked, config, part};
-use crate::refusals::of_goal;
+use crate::shown::Shown;
 use crate::told::state;
 use bosh_base::{Copyable, Goal, Inst, View};
-use bosh_case_texts::goal_text;
 use bosh_cases::{CaseFault, Outcome, both, characters, field};
 use bosh_cloudcfg::Config;
 use bosh_goal::{Change, anew};
-use bosh_uses::GoalFault;
 use bosh_yaml::Node;
 use std::alloc::Global;
 
-/// A goal, or why there is none. A struct is let go by one call, however many faults there are.
-#[derive(Drop)]
-struct Answer {
-    goal: Result<Goal, GoalFault>,
-}
-
-fn shown(alloc: Global, goal: &Goal) -> Result<Outcome, CaseFault> {
-    Ok(Outcome::bytes(goal_text(alloc, goal)?))
-}
-
-fn told(alloc: Global, answer: &Answer) -> Result<Outcome, CaseFault> {
-    match &answer.goal {
-        Ok(goal) => shown(alloc, goal),
-        Err(fault) => of_goal(alloc, fault),
+// What a call came to: a goal, or why there is none. Generic, since to let either go is dear to prove.
+fn outcome<G: Shown, E: Shown>(alloc: Global, answer: Result<G, E>) -> Result<Outcome, CaseFault> {
+    match answer {
+        Ok(goal) => goal.shown(alloc),
+        Err(fault) => fault.shown(alloc),
     }
+}
+
+// A goal that has to be there. Generic for the same reason.
+fn sound<G: Drop, E: Drop>(answer: Result<G, E>) -> Result<G, CaseFault> {
+    match answer {
+        Ok(goal) => Ok(goal),
+        Err(_) => Err(CaseFault::Form),
+    }
+}
+
+// A value after another one, which is let go. Generic for the same reason.
+fn after<A: Drop, B: Drop>(_before: A, value: B) -> B {
+    value
 }
 
 fn recreates(alloc: Global, given: &Node) -> Result<bool, CaseFault> {
     let recreate: Option<bool> = field(alloc, given, "recreate")?;
     Ok(recreate.unwrap_or(false))
-}
-
-// Dear to prove, as the other two that make an answer: a goal or one of nine faults is put into it.
-fn goal_over(
-    alloc: Global,
-    asked: &Asked,
-    config: Option<&Config>,
-    view: &View,
-    recreate: bool,
-) -> Result<Outcome, CaseFault> {
-    let goal = asked.goal(alloc, config, view, recreate);
-    told(alloc, &Answer { goal })
 }
 
 fn goal_in(
@@ -54,7 +44,8 @@ fn goal_in(
 ) -> Result<Outcome, CaseFault> {
     let recreate = recreates(alloc, given)?;
     let view = asked.view(alloc, part(setting, given, "view"))?;
-    goal_over(alloc, asked, config, &view, recreate)
+    let goal = outcome(alloc, asked.goal(alloc, config, &view, recreate));
+    after(view, goal)
 }
 
 fn goal_of(
@@ -77,28 +68,6 @@ pub(crate) fn of_manifest(
     goal_of(alloc, &asked, setting, given)
 }
 
-fn copied(alloc: Global, goal: &Goal) -> Result<Goal, CaseFault> {
-    Ok(goal.copy(alloc)?)
-}
-
-fn sound(alloc: Global, answer: &Answer) -> Result<Goal, CaseFault> {
-    match &answer.goal {
-        Ok(goal) => copied(alloc, goal),
-        Err(_) => Err(CaseFault::Form),
-    }
-}
-
-fn current_over(
-    alloc: Global,
-    asked: &Asked,
-    config: Option<&Config>,
-    view: &View,
-    recreate: bool,
-) -> Result<Goal, CaseFault> {
-    let goal = asked.goal(alloc, config, view, recreate);
-    sound(alloc, &Answer { goal })
-}
-
 fn current_in(
     alloc: Global,
     asked: &Asked,
@@ -107,7 +76,8 @@ fn current_in(
 ) -> Result<Goal, CaseFault> {
     let recreate = recreates(alloc, given)?;
     let view = asked.view(alloc, given.find(b"before"))?;
-    current_over(alloc, asked, config, &view, recreate)
+    let goal = sound(asked.goal(alloc, config, &view, recreate));
+    after(view, goal)
 }
 
 // The current goal: that of the manifest, over what was recorded before.
@@ -134,6 +104,10 @@ fn change(given: &Node) -> Result<Change, CaseFault> {
     }
 }
 
+fn copied(alloc: Global, goal: &Goal) -> Result<Goal, CaseFault> {
+    Ok(goal.copy(alloc)?)
+}
+
 fn with_goal(view: View, goal: Goal) -> View {
     View {
         goal: Some(goal),
@@ -155,8 +129,7 @@ fn anew_told(
     view: &View,
     goal: &Goal,
 ) -> Result<Outcome, CaseFault> {
-    let goal = anew(alloc, inst, change, config, view, goal);
-    told(alloc, &Answer { goal })
+    outcome(alloc, anew(alloc, inst, change, config, view, goal))
 }
 
 fn changed_over(
@@ -179,7 +152,8 @@ fn changed_in(
     given: &Node,
 ) -> Result<Outcome, CaseFault> {
     let view = view_of(alloc, asked, goal, given)?;
-    changed_over(alloc, config, &view, goal, given)
+    let changed = changed_over(alloc, config, &view, goal, given);
+    after(view, changed)
 }
 
 fn changed(

@@ -6,6 +6,7 @@ mod asked;
 mod calls;
 mod goals;
 mod refusals;
+mod shown;
 mod told;
 mod uploads;
 mod views;

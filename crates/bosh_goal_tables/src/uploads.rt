@@ -1,13 +1,13 @@
 //! Releases that are uploaded.
-ghost use Rattle.std.specs.Prelude.{◌≡◌, All, IfOk};
+ghost use Rattle.std.specs.Prelude.{All};
 ghost use Rattle.bosh_alike.specs.Alike.{AreAlike};
 ghost use Rattle.bosh_release.specs.Sound.{IsSound};
 
 use bosh_alike::stay_alike;
 use bosh_base::{Key, PackageSpec, Release, Text};
-use bosh_cases::{CaseFault, Given, both, characters, field};
-use bosh_release::{File, a_collected_release_is_sound, collect};
-use bosh_yaml::{Node, Str};
+use bosh_case_files::release;
+use bosh_cases::{CaseFault, both, characters};
+use bosh_yaml::Node;
 use std::alloc::Global;
 use std::marker::Model;
 
@@ -70,41 +70,6 @@ fn package_of<'a>(release: &'a Release, name: &str) -> Option<&'a PackageSpec> {
         .packages
         .iter()
         .find(|pack| pack.name.as_bytes() == name.as_bytes())
-}
-
-fn file(alloc: Global, path: &Str, bytes: &Node) -> Result<File, CaseFault> {
-    let path = Text::from(Vec::from_slice(alloc, path.as_bytes())?);
-    let bytes = Text::of(alloc, bytes)?;
-    Ok(File { path, bytes })
-}
-
-fn files(alloc: Global, node: &Node) -> Result<Vec<File>, CaseFault> {
-    let Some(Node::Map(pairs)) = node.find(b"files") else {
-        return Err(CaseFault::Form);
-    };
-    let mut files = Vec::new(alloc);
-    for (path, bytes) in pairs.as_slice() {
-        files.push(file(alloc, path, bytes)?)?;
-    }
-    Ok(files)
-}
-
-fn collected(alloc: Global, files: &[File], version: &Text) -> Result<Release, CaseFault>
-    ensures { IfOk result IsSound }
-{
-    a_collected_release_is_sound();
-    match collect(alloc, files, version.as_slice()) {
-        Ok(release) => Ok(release),
-        Err(_) => Err(CaseFault::Form),
-    }
-}
-
-// `version`, and the `files` of its folder.
-fn release(alloc: Global, node: &Node) -> Result<Release, CaseFault>
-    ensures { IfOk result IsSound }
-{
-    let (files, version) = both(files(alloc, node), field(alloc, node, "version"))?;
-    collected(alloc, files.as_slice(), &version)
 }
 
 fn added(alloc: Global, nodes: &[Node]) -> Result<Uploads, CaseFault> {

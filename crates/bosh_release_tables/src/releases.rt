@@ -1,27 +1,11 @@
 //! Releases.
 use crate::refusals::of_release;
 use bosh_base::{Digest, JobSpec, Name, PackageSpec, Release, Seq, Text};
+use bosh_case_files::files;
 use bosh_cases::{CaseFault, Given, Outcome, push_parts};
-use bosh_release::{File, collect};
-use bosh_yaml::{Node, Str};
+use bosh_release::collect;
+use bosh_yaml::Node;
 use std::alloc::{AllocError, Global};
-
-fn file(alloc: Global, path: &Str, bytes: &Node) -> Result<File, CaseFault> {
-    let path = Text::from(Vec::from_slice(alloc, path.as_bytes())?);
-    let bytes = Text::of(alloc, bytes)?;
-    Ok(File { path, bytes })
-}
-
-fn files(alloc: Global, given: &Node) -> Result<Vec<File>, CaseFault> {
-    let Node::Map(pairs) = given else {
-        return Err(CaseFault::Form);
-    };
-    let mut files = Vec::new(alloc);
-    for (path, bytes) in pairs.as_slice() {
-        files.push(file(alloc, path, bytes)?)?;
-    }
-    Ok(files)
-}
 
 fn push_digest(text: &mut Vec<u8>, digest: &Digest) -> Result<(), AllocError> {
     let mut digits = [0u8; 64];
