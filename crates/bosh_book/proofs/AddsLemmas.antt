@@ -8,6 +8,7 @@ use Rattle.bosh_asks.specs.declared.fault.BookFault.{BookFault}
 use Rattle.bosh_base.specs.declared.entry.Begin as begin
 use Rattle.bosh_base.specs.declared.entry.Entry.{Entry}
 use Rattle.bosh_base.specs.declared.entry.Entry.TheVariants.{Begin}
+use Rattle.bosh_base.specs.declared.entry.Entry.TheVariants as entries
 use Rattle.bosh_book.specs.Adds.{Adds, came_by}
 use Rattle.bosh_fold.specs.CameWith.{came_with}
 use Rattle.bosh_records.specs.Came.{Came, came}
@@ -32,7 +33,7 @@ nothing_added bodies faults book = record {
   mended = refl;
 }
 
-came_after : (one other : List Entry) (before : Came) → came_by (one ++ other) before ≡ came_by other (came_by one before)
+pub came_after : (one other : List Entry) (before : Came) → came_by (one ++ other) before ≡ came_by other (came_by one before)
 came_after [] other before = refl
 came_after (entry ∷ entries) other before = came_after entries other (came_with entry before)
 
@@ -199,12 +200,31 @@ went_on bodies faults task worker turns left first mid last found is taken notes
 pub one_less : (turns taken : ℕ) → taken < turns → turns - taken ≡ suc (turns - (taken + 1))
 one_less turns taken more = omega arith
 
+-- an interruption brings no upload, and no task and no call
+interrupted_same : (entry : Entry) (before : Came) → IsInterruption entry → came_with entry before ≡ before
+interrupted_same (entries.TaskError error) before is = refl
+interrupted_same (entries.Release it) before is = absurd is
+interrupted_same (entries.Stemcell it) before is = absurd is
+interrupted_same (entries.Config it) before is = absurd is
+interrupted_same (entries.TaskOpen it) before is = absurd is
+interrupted_same (entries.Begin it) before is = absurd is
+interrupted_same (entries.End it) before is = absurd is
+interrupted_same (entries.UpdBegin it) before is = absurd is
+interrupted_same (entries.UpdDone it) before is = absurd is
+interrupted_same (entries.Gone it) before is = absurd is
+interrupted_same (entries.TaskDone it) before is = absurd is
+interrupted_same (entries.Snapshot it) before is = absurd is
+interrupted_same (entries.Effect it) before is = absurd is
+interrupted_same (entries.Write it) before is = absurd is
+interrupted_same (entries.Lost it) before is = absurd is
+
 pub none_ended : {K : Type 0} (bodies : K → Option (List (List ℕ))) (faults : K → ℕ) (book : Book K) →
     Interrupts bodies faults book book
 none_ended bodies faults book = record {
   ended = [];
   are_ended = All-nil IsInterruption;
   adds = nothing_added bodies faults book;
+  same_came = refl;
 }
 
 -- one is ended, or that is refused
@@ -214,6 +234,7 @@ one_ended bodies faults was now entry is adds = record {
   ended = entry ∷ [];
   are_ended = All-cons IsInterruption entry [] is (All-nil IsInterruption);
   adds = adds;
+  same_came = adds.recorded ∙ interrupted_same entry (came was.records) is;
 }
 
 pub refused_ended : {K : Type 0} (bodies : K → Option (List (List ℕ))) (faults : K → ℕ) (was now : Book K) →
@@ -222,6 +243,7 @@ refused_ended bodies faults was now adds = record {
   ended = [];
   are_ended = All-nil IsInterruption;
   adds = adds;
+  same_came = adds.recorded;
 }
 
 -- some are ended, and then others
@@ -231,6 +253,7 @@ more_ended bodies faults first mid last was now = record {
   ended = was.ended ++ now.ended;
   are_ended = All-append IsInterruption was.ended now.ended was.are_ended now.are_ended;
   adds = more_added bodies faults first mid last was.ended now.ended was.adds now.adds;
+  same_came = now.same_came ∙ was.same_came;
 }
 
 -- a book that started: what it read was taken in, tasks were ended, and this is kept of it

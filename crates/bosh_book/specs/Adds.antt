@@ -1,9 +1,10 @@
 -- Entries that a call adds at the end of a book.
-use Rattle.std.specs.Prelude.{◌≡◌, ℕ, List, [], ◌∷◌, ◌++◌, Option}
+use Rattle.std.specs.Prelude.{◌≡◌, ℕ, List, [], ◌∷◌, ◌++◌, Option, None}
 use Rattle.bosh_base.specs.declared.entry.Entry.{Entry}
 use Rattle.bosh_book.specs.declared.book.Book.{Book}
 use Rattle.bosh_fold.specs.CameWith.{came_with}
 use Rattle.bosh_records.specs.Came.{Came, came}
+use Rattle.bosh_records.specs.declared.records.Records.{Records}
 use Rattle.bosh_journal.specs.Kept.{IsKept}
 use Rattle.bosh_ports.specs.Faults.{NeverFalls}
 
@@ -11,6 +12,14 @@ use Rattle.bosh_ports.specs.Faults.{NeverFalls}
 abbrev pub came_by : List Entry → Came → Came
 came_by [] before = before
 came_by (entry ∷ entries) before = came_by entries (came_with entry before)
+
+-- before the first entry
+abbrev pub nothing_came : Came
+nothing_came = record { releases = []; stemcells = []; config = None; opened = 0; last_call = 0 }
+
+-- the records have what came by these entries alone
+abbrev pub IsRecorded : List Entry → Records → Type 0
+IsRecorded entries records = came records ≡ came_by entries nothing_came
 
 -- The book has these entries at its end besides those before, and its records have what came by them. Its store holds
 -- them all, if it held those before, and no fault of it is forgotten. Whether the book goes on, and what is told of its

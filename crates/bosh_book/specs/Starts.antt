@@ -1,11 +1,11 @@
 -- What a book is once it has started.
 use Rattle.std.specs.Prelude.{◌≡◌, ◌⊎◌, ℕ, Bool, true, false, List, [], ◌∷◌, ◌++◌, length, All, Option, None, Some}
-use Rattle.std.specs.Prelude.{Result, Ok, Err, IfErr}
+use Rattle.std.specs.Prelude.{Result, Ok, Err, IfErr, OnOk}
 use Rattle.bosh_asks.specs.declared.fault.BookFault.{BookFault}
 use Rattle.bosh_base.specs.declared.entry.Entry.{Entry}
 use Rattle.bosh_base.specs.declared.entry.Entry.TheVariants.{TaskError}
 use Rattle.bosh_base.specs.declared.failure.Failure.TheVariants.{Interrupted}
-use Rattle.bosh_book.specs.Adds.{Adds}
+use Rattle.bosh_book.specs.Adds.{Adds, IsRecorded}
 use Rattle.bosh_book.specs.declared.book.Book.{Book}
 use Rattle.bosh_book.specs.Faults.{FailsAs, IsNoteFault, IsStartFault, of_journal}
 use Rattle.bosh_book.specs.declared.standing.Standing.{Standing}
@@ -15,6 +15,7 @@ use Rattle.bosh_journal.specs.Kept.{IsKept}
 use Rattle.bosh_journal.specs.Reads.{Reads}
 use Rattle.bosh_journal.specs.declared.fault.JournalFault.{JournalFault}
 use Rattle.bosh_ports.specs.Faults.{NeverFalls}
+use Rattle.bosh_records.specs.Came.{came}
 
 abbrev pub IsInterruption : Entry → Type 0
 IsInterruption (TaskError error) = error.cause ≡ Interrupted
@@ -40,6 +41,7 @@ pub record Interrupts {K : Type 0}
   pub ended : List Entry
   pub are_ended : All IsInterruption ended
   pub adds : Adds bodies faults was ended now
+  pub same_came : came now.records ≡ came was.records
 
 -- .. and their number is told, and how many entries there are now
 pub record Finishes {K : Type 0}
@@ -85,6 +87,7 @@ pub record StartsFrom {K T : Type 0}
   pub reads : Reads bodies faults is_broken store (Ok first.journal.entries) first.journal.store
   pub whole : first.journal.is_broken ≡ false
   pub starts : Starts bodies faults compacts first now
+  pub recorded : OnOk result (IsRecorded first.journal.entries now.records)
   pub fails : FailsAs faults result first.journal now.journal
   pub fault : IfErr result (IsStartFault (length first.journal.entries))
   pub standing : now.standing ≡ standing_after result

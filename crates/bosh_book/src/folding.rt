@@ -1,6 +1,8 @@
-ghost use Rattle.std.specs.Prelude.{◌≡◌, ◌≤◌, ◌<◌, Err, IfErr, IfOk, length};
+ghost use Rattle.std.specs.Prelude.{◌≡◌, ◌≤◌, ◌<◌, Err, IfErr, IfOk, OnOk, is_ok, length, take, true};
 ghost use Rattle.bosh_asks.specs.declared.fault.BookFault.TheVariants as faults;
+ghost use Rattle.bosh_book.specs.Adds.{IsRecorded, came_by};
 ghost use Rattle.bosh_book.specs.Faults.{IsQuiet, IsStartFault};
+ghost use Rattle.bosh_records.specs.Came.{came};
 
 use bosh_asks::{BookFault, config_in};
 use bosh_base::{Entry, Release};
@@ -14,6 +16,7 @@ use std::alloc::Global;
 /// What entries stand for, where each may stand after those before it: a config reads and is checked, and releases go
 /// with those before them. Else the first one is named that may not.
 pub(crate) fn folded(alloc: Global, entries: &[Entry]) -> Result<Records, BookFault>
+    ensures recorded { IfOk result (IsRecorded entries.now) }
     ensures fault { IfErr result (IsStartFault (length entries.now)) }
     ensures quiet { IfErr result IsQuiet }
 {
@@ -24,7 +27,7 @@ pub(crate) fn folded(alloc: Global, entries: &[Entry]) -> Result<Records, BookFa
 
 // It is generic, since records that are let go are dear to prove.
 fn where_taken<T: Drop>(value: T, taken: Result<(), BookFault>) -> Result<T, BookFault>
-    ensures value { IfOk result (λ it. it ≡ value) }
+    ensures value { IfOk result (λ it. (it ≡ value) × (is_ok taken ≡ true)) }
     ensures taken { IfErr result (λ fault. taken ≡ Err fault) }
 {
     match taken {
@@ -34,6 +37,7 @@ fn where_taken<T: Drop>(value: T, taken: Result<(), BookFault>) -> Result<T, Boo
 }
 
 fn take_all(alloc: Global, records: &mut Records, entries: &[Entry]) -> Result<(), BookFault>
+    ensures came { OnOk result (came records.new ≡ came_by entries.now (came records.old)) }
     ensures fault { IfErr result (IsStartFault (length entries.now)) }
     ensures quiet { IfErr result IsQuiet }
 {
@@ -47,6 +51,7 @@ fn take_all(alloc: Global, records: &mut Records, entries: &[Entry]) -> Result<(
 // Takes entries into records up to the first that may not stand there, and answers how many.
 fn fold(alloc: Global, records: &mut Records, entries: &[Entry]) -> Result<usize, BookFault>
     ensures count { IfOk result (λ count. count ≤ length entries.now) }
+    ensures came { IfOk result (λ count. came records.new ≡ came_by (take count entries.now) (came records.old)) }
     ensures memory { IfErr result (λ fault. fault ≡ faults.Memory) }
 {
     for (place, entry) in entries.iter().enumerate() {
@@ -100,6 +105,7 @@ fn config_of(entry: &Entry) -> Option<&[u8]> {
 // That so many entries are all, and that the releases among them go with one another.
 fn check(alloc: Global, records: &Records, entries: &[Entry], taken: usize) -> Result<(), BookFault>
     requires some { 1 ≤ length entries.now }
+    ensures all { OnOk result (length entries.now ≤ taken) }
     ensures fault { IfErr result (IsStartFault (length entries.now)) }
     ensures quiet { IfErr result IsQuiet }
 {

@@ -1,12 +1,14 @@
-ghost use Rattle.std.specs.Prelude.{◌≡◌, ◌⊎◌, [], IfErr, IfOk, IfSome, IsTrue, None, Ok, OnOk, false, length, true};
+ghost use Rattle.std.specs.Prelude.{◌≡◌, ◌⊎◌, [], IfErr, IfOk, IfSome, IsTrue, None, Ok, OnOk, false, is_ok, length, true};
 ghost use Rattle.bosh_base.specs.declared.entry.Entry.TheVariants as entries;
 ghost use Rattle.bosh_base.specs.declared.failure.Failure.TheVariants.{Interrupted};
+ghost use Rattle.bosh_book.specs.Adds.{IsRecorded};
 ghost use Rattle.bosh_book.specs.Faults.{FailsAs, IsNoteFault, IsStartFault};
 ghost use Rattle.bosh_book.specs.Starts.{ComesOut, Finishes, Interrupts, IsNotLoaded, IsNotReloaded, Starts};
 ghost use Rattle.bosh_book.specs.Starts.{StartsFrom, Takes, standing_after};
 ghost use Rattle.bosh_book.specs.declared.standing.Standing.TheVariants.{Unread};
 ghost use Rattle.bosh_journal.specs.Director.{is_snapshot};
 ghost use Rattle.bosh_journal.specs.Kept.{IsKept};
+ghost use Rattle.bosh_records.specs.Came.{came};
 
 use crate::Book;
 use crate::faults::of_journal;
@@ -67,6 +69,7 @@ impl<K: Keeper> Book<K> {
         requires whole { self.old.journal.is_broken ≡ false }
         requires unread { self.old.standing ≡ Unread }
         ensures starts { Starts K.bodies K.faults compacts self.old self.new }
+        ensures recorded { OnOk result (IsRecorded self.old.journal.entries self.new.records) }
         ensures failed { FailsAs K.faults result self.old.journal self.new.journal }
         ensures fault { IfErr result (IsStartFault (length self.old.journal.entries)) }
         ensures standing { self.new.standing ≡ standing_after result }
@@ -84,6 +87,8 @@ impl<K: Keeper> Book<K> {
     fn finish(&mut self, taken: Result<(), BookFault>) -> Result<(), BookFault>
         requires { OnOk taken (self.old.journal.is_broken ≡ false) }
         ensures finishes { Finishes K.bodies K.faults self.old self.new }
+        ensures taken { OnOk result (is_ok taken ≡ true) }
+        ensures came { came self.new.records ≡ came self.old.records }
         ensures comes_out { ComesOut K.faults taken self.old result self.new }
     {
         let before = self.entries().len();
@@ -97,6 +102,7 @@ impl<K: Keeper> Book<K> {
     fn interrupt_after(&mut self, taken: Result<(), BookFault>) -> Result<(), BookFault>
         requires { OnOk taken (self.old.journal.is_broken ≡ false) }
         ensures interrupts { Interrupts K.bodies K.faults self.old self.new }
+        ensures taken { OnOk result (is_ok taken ≡ true) }
         ensures comes_out { ComesOut K.faults taken self.old result self.new }
     {
         match taken {
@@ -110,6 +116,7 @@ impl<K: Keeper> Book<K> {
     fn take_in(&mut self, compacts: bool) -> Result<(), BookFault>
         requires { self.old.journal.is_broken ≡ false }
         ensures takes { Takes K.bodies K.faults compacts self.old self.new }
+        ensures recorded { OnOk result (IsRecorded self.old.journal.entries self.new.records) }
         ensures failed { FailsAs K.faults result self.old.journal self.new.journal }
         ensures fault { IfErr result (IsStartFault (length self.old.journal.entries)) }
     {
@@ -125,6 +132,7 @@ impl<K: Keeper> Book<K> {
     fn compact(&mut self) -> Result<(), BookFault>
         requires { self.old.journal.is_broken ≡ false }
         ensures takes { Takes K.bodies K.faults true self.old self.new }
+        ensures records { self.new.records ≡ self.old.records }
         ensures failed { FailsAs K.faults result self.old.journal self.new.journal }
         ensures fault { IfErr result IsNoteFault }
     {
@@ -137,6 +145,7 @@ impl<K: Keeper> Book<K> {
         requires snapshot { IsTrue (is_snapshot (T.entry_of snapshot)) }
         requires whole { self.old.journal.is_broken ≡ false }
         ensures takes { Takes K.bodies K.faults true self.old self.new }
+        ensures records { self.new.records ≡ self.old.records }
         ensures failed { FailsAs K.faults result self.old.journal self.new.journal }
         ensures fault { IfErr result IsNoteFault }
     {

@@ -8,5 +8,5 @@ returns-in-Ok-clause-starts g c = inr
     (starts_again g.K.Keeper.bodies g.K.Keeper.faults g.K.Keeper.is_broken c.args.self.now c.args.self.now c.start.result
     c.reload.new.self
     (record c.args.self.now { journal = c.reload.new.self; standing = Unread; mended = None })
-    c.start.new.self refl refl c.in-Ok.ensures.reads c.in-Ok.ensures.broken c.start.ensures.starts
+    c.start.new.self refl refl c.in-Ok.ensures.reads c.in-Ok.ensures.broken c.start.ensures.starts c.start.ensures.recorded
     c.start.ensures.failed c.start.ensures.fault c.start.ensures.standing)
