@@ -1,6 +1,7 @@
 pub mod Cloud
 pub mod Disk
 pub mod Instance
+pub mod Joint
 pub mod Owner
 pub mod Piece
 pub mod Problem

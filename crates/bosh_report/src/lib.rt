@@ -5,6 +5,8 @@ mod cloud;
 mod disk;
 mod fault;
 mod instance;
+mod joint;
+mod named;
 mod owner;
 mod piece;
 mod problem;
@@ -14,4 +16,6 @@ mod reply;
 mod task;
 
 pub use fault::ReportFault;
+pub use named::{DiskNumber, text_of};
+pub use piece::{Piece, Word};
 pub use reply::say;

@@ -7,7 +7,7 @@ use crate::ReportFault;
 use bosh_base::{Digest, Name, Text};
 
 /// A value that replies name.
-pub(crate) trait Piece {
+pub trait Piece {
     /// How they name it.
     ghost text: { Self → List ℕ };
 
@@ -74,6 +74,18 @@ impl<T: Piece> Piece for Option<T> {
             None => add(out, b"-"),
             Some(piece) => piece.add_to(out),
         }
+    }
+}
+
+/// Bytes that stand for themselves.
+#[derive(Clone, Copy)]
+pub struct Word<'a>(pub &'a [u8]);
+
+impl<'a> Piece for Word<'a> {
+    ghost text = { λ word. word.0.now };
+
+    fn add_to(&self, out: &mut Vec<u8>) -> Result<(), ReportFault> {
+        add(out, self.0)
     }
 }
 
