@@ -1,0 +1,10 @@
+pub mod Checks
+pub mod Deploys
+pub mod Ends
+pub mod Files
+pub mod Folder
+pub mod Listings
+pub mod Placed
+pub mod Shelved
+pub mod Step
+pub mod Texts
