@@ -1,11 +1,44 @@
--- What is shown of a task (this project's profile).
-use Rattle.std.specs.Prelude.{ℕ, codes, decimal, Option, None, Some}
+-- What is listed of what is recorded, and of what is there in the cloud (this project's profile).
+use Rattle.std.specs.Prelude.{◌≡◌, ℕ, List, codes, decimal, map, IsPermutation, Option, None, Some}
+use Rattle.bosh_answers.specs.Checks.{checked}
+use Rattle.bosh_base.specs.declared.machine.Disk.{Disk}
+use Rattle.bosh_base.specs.declared.machine.Machine.{Machine}
 use Rattle.bosh_base.specs.declared.reply.Reply.{Reply}
-use Rattle.bosh_base.specs.declared.reply.Reply.TheVariants.{Refused, Task}
+use Rattle.bosh_base.specs.declared.reply.Reply.TheVariants as replies
+use Rattle.bosh_base.specs.declared.snapshot.BuiltKey.{BuiltKey}
 use Rattle.bosh_base.specs.declared.task.TaskRow.{TaskRow}
+use Rattle.bosh_lines.specs.declared.command.Command.{Command}
+use Rattle.bosh_lines.specs.declared.command.Command.TheVariants as commands
+use Rattle.bosh_records.specs.Keys.{built_of}
+use Rattle.bosh_records.specs.Readers.{task_at}
+use Rattle.bosh_records.specs.declared.records.Records.{Records}
 use Rattle.bosh_refusals.specs.Refused.{refused_with}
-use Rattle.bosh_shown.specs.Tasks.{task_detail}
+use Rattle.bosh_shown.specs.Cloud.{cloud_listing}
+use Rattle.bosh_shown.specs.Instances.{instance_lines}
+use Rattle.bosh_shown.specs.Orphans.{orphan_lines}
+use Rattle.bosh_shown.specs.Releases.{release_line}
+use Rattle.bosh_shown.specs.Tasks.{task_detail, task_lines}
 
+-- what is shown of a task
 abbrev pub shown_task : ℕ → Option TaskRow → Reply
-shown_task task (Some row) = Task (task_detail row)
-shown_task task None = Refused (refused_with (codes "session") (codes "NoTask") (decimal task))
+shown_task task (Some row) = replies.Task (task_detail row)
+shown_task task None = replies.Refused (refused_with (codes "session") (codes "NoTask") (decimal task))
+
+-- the compiled packages are told, in some order
+abbrev pub TellsCompiled : Records → Reply → Type 0
+TellsCompiled records reply =
+    (keys : List BuiltKey) × (reply ≡ replies.Compiled keys) × IsPermutation (built_of records.keys.by_key.entries) keys
+
+-- the reply is the list that a command asks for; nothing is told where it asks for none
+abbrev pub IsListed : Command → Records → List (Option Machine) → List (Option Disk) → Reply → Type 0
+IsListed (commands.Instances dep) records machines disks reply =
+    reply ≡ replies.Instances (instance_lines dep records.instances.by_inst.entries)
+IsListed commands.OrphanedDisks records machines disks reply =
+    reply ≡ replies.Orphans (orphan_lines records.orphans.places.entries)
+IsListed commands.Tasks records machines disks reply = reply ≡ replies.Tasks (task_lines records.tasks.places.entries)
+IsListed (commands.Task task) records machines disks reply = reply ≡ shown_task task (task_at records task)
+IsListed commands.Releases records machines disks reply = reply ≡ replies.Releases (map release_line records.releases.items)
+IsListed commands.Compiled records machines disks reply = TellsCompiled records reply
+IsListed commands.Cloud records machines disks reply = reply ≡ replies.Cloud (cloud_listing machines disks)
+IsListed (commands.CloudCheck dep) records machines disks reply = reply ≡ checked dep records machines disks
+IsListed command records machines disks reply = reply ≡ replies.Nothing

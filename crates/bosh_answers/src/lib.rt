@@ -2,6 +2,7 @@
 //! name, what a deploy of a text asks for, lists, the ends of tasks, and refusals.
 #![tactic(auto)]
 
+mod asking;
 mod check;
 mod deploy;
 mod ends;
@@ -13,6 +14,7 @@ mod placed;
 mod refusing;
 mod text_fault;
 
+pub use asking::ask_of;
 pub use check::check_cloud;
 pub use deploy::{How, deploy_of};
 pub use ends::{end_of, told_end};
@@ -20,7 +22,8 @@ pub use fault::AnswerFault;
 pub use files::{Files, KeptFile};
 pub use folder::{read_file, read_folder};
 pub use listings::{
-    list_cloud, list_compiled, list_instances, list_orphans, list_releases, list_tasks, show_task,
+    list, list_cloud, list_compiled, list_instances, list_orphans, list_releases, list_tasks,
+    show_task,
 };
 pub use placed::show_file;
 pub use refusing::{refused, replied};

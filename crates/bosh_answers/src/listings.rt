@@ -1,9 +1,7 @@
 //! What is recorded, and what is there in the cloud, is listed.
-ghost use Rattle.std.specs.Prelude.{◌≡◌, IfOk, IsPermutation, List, map};
-ghost use Rattle.bosh_answers.specs.Listings.{shown_task};
+ghost use Rattle.std.specs.Prelude.{◌≡◌, IfOk, map};
+ghost use Rattle.bosh_answers.specs.Listings.{IsListed, TellsCompiled, shown_task};
 ghost use Rattle.bosh_base.specs.declared.reply.Reply.TheVariants as replies;
-ghost use Rattle.bosh_base.specs.declared.snapshot.BuiltKey.{BuiltKey};
-ghost use Rattle.bosh_records.specs.Keys.{built_of};
 ghost use Rattle.bosh_records.specs.Readers.{task_at};
 ghost use Rattle.bosh_shown.specs.Cloud.{cloud_listing};
 ghost use Rattle.bosh_shown.specs.Instances.{instance_lines};
@@ -11,8 +9,9 @@ ghost use Rattle.bosh_shown.specs.Orphans.{orphan_lines};
 ghost use Rattle.bosh_shown.specs.Releases.{release_line};
 ghost use Rattle.bosh_shown.specs.Tasks.{task_lines};
 
-use crate::{AnswerFault, refused};
+use crate::{AnswerFault, check_cloud, refused};
 use bosh_base::{Disk, Machine, Name, Reply};
+use bosh_lines::Command;
 use bosh_records::Records;
 use bosh_refusals::SessionFault;
 use bosh_shown::{
@@ -61,8 +60,7 @@ pub fn list_releases(alloc: Global, records: &Records) -> Result<Reply, AnswerFa
 
 /// The compiled packages.
 pub fn list_compiled(records: &Records) -> Result<Reply, AnswerFault>
-    ensures { IfOk result (λ reply. (keys : List BuiltKey) × (reply ≡ replies.Compiled keys)
-        × IsPermutation (built_of records.now.keys.by_key.entries) keys) }
+    ensures { IfOk result (TellsCompiled records.now) }
 {
     Ok(Reply::Compiled(records.built_keys()?))
 }
@@ -76,4 +74,27 @@ pub fn list_cloud(
     ensures { IfOk result (λ reply. reply ≡ replies.Cloud (cloud_listing machines.now disks.now)) }
 {
     Ok(Reply::Cloud(cloud_listing(alloc, machines, disks)?))
+}
+
+/// Lists what a command asks for; nothing where it asks for no list.
+pub fn list(
+    alloc: Global,
+    command: &Command,
+    records: &Records,
+    machines: &[Option<Machine>],
+    disks: &[Option<Disk>],
+) -> Result<Reply, AnswerFault>
+    ensures { IfOk result (IsListed command.now records.now machines.now disks.now) }
+{
+    match command {
+        Command::Instances { dep } => list_instances(alloc, records, dep),
+        Command::OrphanedDisks => list_orphans(alloc, records),
+        Command::Tasks => list_tasks(alloc, records),
+        Command::Task { task } => show_task(alloc, records, *task),
+        Command::Releases => list_releases(alloc, records),
+        Command::Compiled => list_compiled(records),
+        Command::Cloud => list_cloud(alloc, machines, disks),
+        Command::CloudCheck { dep } => check_cloud(alloc, dep, records, machines, disks),
+        _ => Ok(Reply::Nothing),
+    }
 }

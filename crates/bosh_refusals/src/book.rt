@@ -10,6 +10,7 @@ use std::alloc::Global;
 impl Refuses for BookFault {
     ghost told = { book_told };
 
+    // Dear to prove, since each of its many reasons is a case.
     fn refusal(&self, alloc: Global) -> Result<Refusal, ReportFault> {
         match self {
             BookFault::Stopped => refused(alloc, b"book", b"Stopped"),

@@ -10,6 +10,7 @@ use std::alloc::Global;
 impl Refuses for CfgFault {
     ghost told = { config_told };
 
+    // Dear to prove, since each of its many reasons is a case.
     fn refusal(&self, alloc: Global) -> Result<Refusal, ReportFault> {
         match self {
             CfgFault::Missing { key } => refused_with(alloc, b"config", b"Missing", key),

@@ -94,7 +94,7 @@ pub over_by_event : {I O : Type 0} (left : I → Option (List ℕ)) (read_faults
     (fault : InputFault) →
     (way : IsUnderWay left read_faults written write_faults source_before s out_before o a moves fails) →
     AreRead left read_faults source_before t b (requests_of way.turns) → b.ended ≡ Some (Stopped fault) →
-    (a.ended ≡ None) → IsSession left read_faults written write_faults source_before t out_before o (of_input fault) moves
+    (a.ended ≡ Some Whole → ⊥) → IsSession left read_faults written write_faults source_before t out_before o (of_input fault) moves
 over_by_event left read_faults written write_faults source_before s t out_before o a b moves fails fault way read over live = record {
   input = b;
   turns = way.turns;
@@ -102,7 +102,7 @@ over_by_event left read_faults written write_faults source_before s t out_before
   reads = subst (λ (requests : List request.Request). AreRead left read_faults source_before t b requests)
       (sym (append-nil (requests_of way.turns))) read;
   are_turns = way.are_turns;
-  full = elim way.full [ inl all ↦ inl all | inr whole ↦ absurd (let no : ⊥ = cc in no) ];
+  full = elim way.full [ inl all ↦ inl all | inr whole ↦ absurd (live whole) ];
   cut_off = tt;
   replies = way.replies ∙ sym (append-nil (replies_of way.turns));
   ended =

@@ -222,12 +222,14 @@ next_err T left faults old new s t None fault status is told reads event fails e
   fault = fault;
   by = told;
   stopped = ended is;
+  not_before = λ whole. absurd (let never : Some Whole ≡ None = sym whole ∙ is in cc);
   reads = stops T left faults old new s t fault is (ended is) reads (event is) (fails is);
 }
 next_err T left faults old new s t (Some how) fault status is told reads event fails ended (by, (same, still)) = record {
   fault = fault;
   by = told;
   stopped = ap (λ (v : View). v.ended) same ∙ is ∙ sym by;
+  not_before = λ whole. absurd (let never : Some (Stopped fault) ≡ Some Whole = by ∙ sym is ∙ whole in cc);
   reads = on_same left faults old new s t same still;
 }
 

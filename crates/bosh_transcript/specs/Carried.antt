@@ -51,6 +51,7 @@ pub record StopsReading {I : Type 0}
     pub fault : InputFault
     pub by : status ≡ of_input fault
     pub stopped : input_now.ended ≡ Some (Stopped fault)
+    pub not_before : input_was.ended ≡ Some Whole → ⊥
     pub reads : ReadsOn left faults input_was input_now was now []
 
 -- The next commands were read: as many, or those that were left.

@@ -22,3 +22,15 @@ pub record WritesUpTo {O : Type 0}
     (written : O → Option (List ℕ)) (faults : O → ℕ) (replies : List said.Said) (before after : O) : Type 0 where
   pub texts : (was : List ℕ) → written before ≡ Some was → WritesFront was (transcript replies) (written after)
   pub count : Rose (faults before) (faults after)
+
+-- bytes were written
+pub record WritesAll {O : Type 0} (written : O → Option (List ℕ)) (faults : O → ℕ) (bytes : List ℕ) (before after : O) :
+    Type 0 where
+  pub bytes_so : (was : List ℕ) → written before ≡ Some was → written after ≡ Some (was ++ bytes)
+  pub count : faults before ≤ faults after
+
+-- .. up to a failure of the output
+pub record WritesPart {O : Type 0} (written : O → Option (List ℕ)) (faults : O → ℕ) (bytes : List ℕ) (before after : O) :
+    Type 0 where
+  pub front : (was : List ℕ) → written before ≡ Some was → WritesFront was bytes (written after)
+  pub count : Rose (faults before) (faults after)

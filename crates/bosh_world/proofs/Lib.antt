@@ -1,0 +1,9 @@
+pub mod BookLemmas
+pub mod CallLemmas
+pub mod LoadLemmas
+pub mod PerformLemmas
+pub mod PushLemmas
+pub mod RestartLemmas
+pub mod SiteLemmas
+pub mod SiteRestartLemmas
+pub mod StopLemmas

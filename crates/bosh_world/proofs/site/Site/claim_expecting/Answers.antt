@@ -1,0 +1,55 @@
+use Rattle.bosh_book.specs.Faults.{IsClaimFault}
+use Rattle.bosh_ports.specs.Rigged.{faults_of}
+use Rattle.bosh_world.proofs.CallLemmas.{books_told, claim_refused, claims_told, follows_at, not_stopped, site_stays}
+use Rattle.bosh_world.specs.Faults.{halt_of}
+use Rattle.bosh_world.proofs.site.Site.claim_expecting.Goals as goal
+
+pub invariant_of-self : goal.invariant_of-self
+invariant_of-self g c = record {
+  is_site = site_stays (faults_of g.K.Keeper.faults) c.args.self.now.book c.claim-claimed.new.self c.claim-claimed.result
+      c.sprung.result c.args.self.now.cloud.is_stale c.args.self.now.history c.told.new.history c.entries.result.now
+      c.effects.result.now c.claim-claimed.ensures.failed c.claim-claimed.ensures.notes.adds.standing
+      (c.args.self.now.is_site.book_runs c.requires.running) (c.args.self.now.is_site.cloud_runs c.requires.running)
+      c.entries.ensures c.told.ensures.follows;
+}
+
+pub returns-clause-claims : goal.returns-clause-claims
+returns-clause-claims g c =
+    claims_told g.K.Keeper.bodies g.K.Keeper.faults c.args.self.now _ c.args.task c.args.worker c.told.result
+    c.claim-claimed.result c.sprung.result c.told.ensures.answer
+    (record {
+      running = c.requires.running;
+      is_of = c.args.self.now.is_site.is_of;
+      same_cloud = λ j. c.args.self.now.cloud;
+      same_armed = λ j. c.args.self.now.traps.items;
+      same_opening = λ j. c.args.self.now.opening;
+    })
+    c.claim-claimed.ensures.notes
+    (c.claim-claimed.ensures.claims (c.args.self.now.is_site.book_runs c.requires.running))
+    (c.claim-claimed.ensures.full (c.args.self.now.is_site.book_runs c.requires.running))
+    (follows_at c.args.self.now.history c.told.new.history c.claim-claimed.new.self.journal.entries c.entries.result.now
+    c.args.self.now.cloud.effects c.effects.result.now (halt_of c.sprung.result c.claim-claimed.result) c.entries.ensures
+    c.effects.ensures c.told.ensures.follows)
+
+pub returns-clause-refused : goal.returns-clause-refused
+returns-clause-refused g c =
+    claim_refused g.K.Keeper.bodies g.K.Keeper.faults c.args.self.now _ c.told.result c.claim-claimed.result c.sprung.result
+    c.told.ensures.answer
+    (record {
+      running = c.requires.running;
+      is_of = c.args.self.now.is_site.is_of;
+      same_cloud = λ j. c.args.self.now.cloud;
+      same_armed = λ j. c.args.self.now.traps.items;
+      same_opening = λ j. c.args.self.now.opening;
+    })
+    c.sprung.ensures c.claim-claimed.ensures.notes c.claim-claimed.ensures.failed
+    (not_stopped c.args.self.now.book (IsClaimFault c.args.self.now.book) c.claim-claimed.result
+    (c.args.self.now.is_site.book_runs c.requires.running) (λ is. is) c.claim-claimed.ensures.fault)
+    (follows_at c.args.self.now.history c.told.new.history c.claim-claimed.new.self.journal.entries c.entries.result.now
+    c.args.self.now.cloud.effects c.effects.result.now (halt_of c.sprung.result c.claim-claimed.result) c.entries.ensures
+    c.effects.ensures c.told.ensures.follows)
+
+pub returns-clause-fault : goal.returns-clause-fault
+returns-clause-fault g c =
+    books_told (IsClaimFault c.args.self.now.book) c.told.result c.claim-claimed.result c.sprung.result c.told.ensures.answer
+    c.claim-claimed.ensures.fault

@@ -1,0 +1,17 @@
+pub mod Abandons
+pub mod Anew
+pub mod Arms
+pub mod Calls
+pub mod Did
+pub mod Faults
+pub mod Holds
+pub mod Jobs
+pub mod Loads
+pub mod Performing
+pub mod Refuses
+pub mod Restarts
+pub mod Told
+pub mod Silent
+pub mod IsSite
+pub mod Steps
+pub mod Stopping

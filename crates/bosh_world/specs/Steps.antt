@@ -1,0 +1,108 @@
+-- What a call of a site has done: the entries of the book, the effects of the cloud, and the moves that tell of them.
+use Rattle.std.specs.Prelude.{◌≡◌, ◌≤◌, ◌⊎◌, ℕ, is_some, All, List, [], ◌∷◌, ◌++◌, length, map, Option, Some, None}
+use Rattle.std.specs.Prelude.{Ok}
+use Rattle.bosh_asks.specs.declared.ask.Ask.{Ask}
+use Rattle.bosh_base.specs.History.{Extends}
+use Rattle.bosh_base.specs.declared.entry.Entry.{Entry}
+use Rattle.bosh_base.specs.declared.entry.Entry.TheVariants as entries
+use Rattle.bosh_base.specs.declared.entry.TaskOpen as task_open
+use Rattle.bosh_base.specs.declared.moves.Cause.{Cause}
+use Rattle.bosh_base.specs.declared.moves.Move.{Move}
+use Rattle.bosh_base.specs.declared.moves.Move.TheVariants as moves
+use Rattle.bosh_base.specs.declared.moves.Said as said
+use Rattle.bosh_base.specs.declared.task.TaskEnd.{TaskEnd}
+use Rattle.bosh_book.specs.Adds.{Adds}
+use Rattle.bosh_book.specs.Ends.{closing, coming_end, end_of}
+use Rattle.bosh_book.specs.Opens.{IsOpening}
+use Rattle.bosh_book.specs.Claims as claims
+use Rattle.bosh_book.specs.Turns.{Gives, IsUpdate}
+use Rattle.bosh_book.specs.declared.claim.Claim.{Claim}
+use Rattle.bosh_book.specs.declared.uploads.Added.{Added}
+use Rattle.bosh_book.specs.declared.uploads.Added.TheVariants.{New, Same}
+use Rattle.bosh_ports.specs.Rigged.{RigState, faults_of}
+use Rattle.bosh_ports.specs.declared.keeper.Keeper as keeper
+use Rattle.bosh_world.specs.declared.site.Site.{Site}
+use Rattle.bosh_world.specs.Told.{story_of}
+use Rattle.bosh_moves.specs.Story.{IsTold, halts}
+
+-- the bodies of the keeper below the rigs
+abbrev pub bodies_of : {K : Type 0} → (K → Option (List (List ℕ))) → RigState K → Option (List (List ℕ))
+bodies_of bodies rigged = bodies rigged.inner
+
+-- these moves have come at the end; the moves that were told only grow
+pub record Comes {K L : Type 0} {k : keeper.Ghosts K} {l : keeper.Ghosts L} (was : Site K L k l) (more : List Move) (now : Site K L k l) : Type 0 where
+  pub grows : Extends was.history.moves now.history.moves
+  pub story : story_of now ≡ story_of was ++ more
+
+-- nothing changed but what was told
+pub record KeepsBooks {K L : Type 0} {k : keeper.Ghosts K} {l : keeper.Ghosts L} (was now : Site K L k l) : Type 0 where
+  pub same_book : now.book ≡ was.book
+  pub same_cloud : now.cloud ≡ was.cloud
+  pub same_calls : now.calls ≡ was.calls
+  pub same_armed : now.traps.items ≡ was.traps.items
+  pub same_opening : now.opening ≡ was.opening
+  pub same_halt : now.history.is_halted ≡ was.history.is_halted
+
+-- nothing changed
+pub record IsSame {K L : Type 0} {k : keeper.Ghosts K} {l : keeper.Ghosts L} (was now : Site K L k l) : Type 0 where
+  pub same_book : now.book ≡ was.book
+  pub same_cloud : now.cloud ≡ was.cloud
+  pub same_history : now.history ≡ was.history
+  pub same_calls : now.calls ≡ was.calls
+  pub same_armed : now.traps.items ≡ was.traps.items
+  pub same_opening : now.opening ≡ was.opening
+
+-- all that has happened was told, and there is a place for a move, and one for a halt
+pub record IsAllTold {K L : Type 0} {k : keeper.Ghosts K} {l : keeper.Ghosts L} (site : Site K L k l) : Type 0 where
+  pub told : IsTold site.history
+  pub entries : site.history.entries ≡ length site.book.journal.entries
+  pub free : 2 ≤ site.history.free
+
+-- a reply is noted
+pub record Says {K L : Type 0} {k : keeper.Ghosts K} {l : keeper.Ghosts L} (was : Site K L k l) (reply : said.Said) (now : Site K L k l) : Type 0 where
+  pub comes : Comes was (moves.Said reply ∷ []) now
+  pub keeps : KeepsBooks was now
+
+-- entries were noted in the book, and then the site may have halted; the cloud stays as it was
+pub record Notes {K L : Type 0} {k : keeper.Ghosts K} {l : keeper.Ghosts L}
+    (bodies : K → Option (List (List ℕ))) (faults : K → ℕ) (was : Site K L k l) (noted : List Entry)
+    (halt : Option Cause) (now : Site K L k l) : Type 0 where
+  pub book : Adds (bodies_of bodies) (faults_of faults) was.book noted now.book
+  pub comes : Comes was (map moves.Note noted ++ halts halt) now
+  pub halted : now.history.is_halted ≡ is_some halt
+  pub same_cloud : now.cloud ≡ was.cloud
+  pub same_armed : now.traps.items ≡ was.traps.items
+  pub same_opening : now.opening ≡ was.opening
+
+-- the task opens that does what is asked
+pub record OpensTask {K L : Type 0} {k : keeper.Ghosts K} {l : keeper.Ghosts L}
+    (bodies : K → Option (List (List ℕ))) (faults : K → ℕ) (was : Site K L k l) (ask : Ask) (task : ℕ)
+    (now : Site K L k l) : Type 0 where
+  pub opening : task_open.TaskOpen
+  pub is_opening : IsOpening was.book.records ask opening
+  pub notes : Notes bodies faults was (entries.TaskOpen opening ∷ []) None now
+  pub told : task ≡ opening.task
+
+-- a task that had ended is only told; one that ends, as it comes to its end now, is noted
+abbrev pub EndsTask : {K L : Type 0} {k : keeper.Ghosts K} {l : keeper.Ghosts L} → (K → Option (List (List ℕ))) → (K → ℕ) → Site K L k l → ℕ → TaskEnd →
+    Site K L k l → Type 0
+EndsTask bodies faults was task end now =
+    ((end_of was.book.records task ≡ Some end) × Notes bodies faults was [] None now × (now.book ≡ was.book))
+    ⊎ ((end_of was.book.records task ≡ None) × (coming_end was.book.records task ≡ Some end)
+    × Notes bodies faults was (closing task end ∷ []) None now)
+
+-- what is noted of an upload
+abbrev pub noted_by : Added → Entry → List Entry
+noted_by New entry = entry ∷ []
+noted_by Same entry = []
+
+-- Work of a task is claimed: updates are noted, and then what the answer says.
+pub record Claims {K L : Type 0} {k : keeper.Ghosts K} {l : keeper.Ghosts L}
+    (bodies : K → Option (List (List ℕ))) (faults : K → ℕ) (was : Site K L k l) (task worker : ℕ) (claim : Claim)
+    (now : Site K L k l) : Type 0 where
+  pub updates : List Entry
+  pub are_updates : All IsUpdate updates
+  pub last : List Entry
+  pub gives : Gives claim last
+  pub notes : Notes bodies faults was (updates ++ last) None now
+  pub by_turns : claims.Claims (bodies_of bodies) (faults_of faults) task worker was.book (Ok claim) now.book
