@@ -1,5 +1,6 @@
 -- What it gives to perform a call, or to stop in it.
-use Rattle.std.proofs.Common.{◌≡◌, ℕ, ◌+◌, Bool, true, false, not, ◌&&◌, Option, Some, None, Result, Ok, Err, List, [], ◌∷◌, ◌++◌, length, slice_get, inr, refl, sym, ◌∙◌, ap, subst, append-nil}
+use Rattle.std.proofs.Common.{◌≡◌, ℕ, ◌+◌, Bool, true, false, not, ◌&&◌, Option, Some, None, Result, Ok, Err, List, [], ◌∷◌}
+use Rattle.std.proofs.Common.{◌++◌, length, slice_get, inr, refl, sym, ◌∙◌, ap, subst, append-nil}
 use Rattle.std.proofs.lemmas.Bool.{false≢true}
 use Rattle.std.specs.BTreeMap.{BTreeMap, Updates, get}
 use Rattle.std.specs.Option.{option_and_then}
@@ -32,6 +33,7 @@ use Rattle.bosh_moves.specs.Story.{Follows, HistoryView, IsOf, story}
 use Rattle.bosh_ports.specs.declared.keeper.Keeper as keeper
 use Rattle.bosh_traps.specs.Traps.{decided, traps_after}
 use Rattle.bosh_traps.specs.declared.trap.Armed.{Armed}
+use Rattle.bosh_traps.specs.declared.trap.Firing.{Firing}
 use Rattle.bosh_world.proofs.PushLemmas.{comes_then}
 use Rattle.bosh_world.specs.Calls.{is_free, is_performable, place_of}
 use Rattle.bosh_world.specs.Did.{is_large}
@@ -39,7 +41,7 @@ use Rattle.bosh_world.specs.Faults.{stop_fault}
 use Rattle.bosh_world.specs.Holds.{HasAnswered, IsDid, IsHeld}
 use Rattle.bosh_world.specs.Performing.{Asks, HaltsInCloud, Holds, IsAsked, Performs, RefusesToPerform}
 use Rattle.bosh_world.specs.Steps.{Comes}
-use Rattle.bosh_world.specs.Stopping.{GoesOn, TakesEffects}
+use Rattle.bosh_world.specs.Stopping.{EachTakes, GoesOn, TakesEffects}
 use Rattle.bosh_world.specs.Told.{IsPerformable, story_of}
 use Rattle.bosh_world.specs.declared.fault.SiteFault.{SiteFault}
 use Rattle.bosh_world.specs.declared.fault.SiteFault.TheVariants.{Memory}
@@ -78,20 +80,33 @@ halts_in_cloud bodies faults was now cause of running goes book opening follows 
 
 -- a trap stops the director
 pub stops_as : {K L : Type 0} {k : keeper.Ghosts K} {l : keeper.Ghosts L} (bodies : L → Option (List (List ℕ)))
-    (faults : L → ℕ) (was now : Site K L k l) (permit : Granted) (cause : Cause) (fault : SiteFault) →
-    fault ≡ stop_fault cause →
-    is_some (decided (method_of permit.call) permit.owner was.traps.items) ≡ true →
-    TakesEffects bodies faults was.cloud (Some cause) now.cloud → IsOf was.history was.book.journal.entries →
-    was.history.is_halted ≡ false → now.book ≡ was.book → now.opening ≡ was.opening →
+    (faults : L → ℕ) (was now : Site K L k l) (permit : Granted) (firing : Firing) (n : ℕ) (cause : Cause) (fault : SiteFault) →
+    n ≡ permit.n → fault ≡ stop_fault cause →
+    decided (method_of permit.call) permit.owner was.traps.items ≡ Some firing →
+    TakesEffects bodies faults was.cloud (Some cause) now.cloud →
+    EachTakes bodies faults was.book.records firing n false was.calls.places.entries was.cloud (Some cause) now.cloud →
+    now.traps.items ≡ traps_after (method_of permit.call) permit.owner was.traps.items →
+    IsOf was.history was.book.journal.entries → was.history.is_halted ≡ false → now.book ≡ was.book →
+    now.opening ≡ was.opening →
     Follows was.history was.book.journal.entries now.cloud.effects (Some cause) now.history →
     RefusesToPerform bodies faults was permit fault now
-stops_as bodies faults was now permit causes.Stop fault is stopped takes of running book opening follows =
+stops_as bodies faults was now permit firing n causes.Stop fault number is stopped takes each armed of running book opening
+    follows =
     subst (λ (f : SiteFault). RefusesToPerform bodies faults was permit f now) (sym is)
-    (inr (stopped, halts_in_cloud bodies faults was now causes.Stop of running takes book opening follows))
-stops_as bodies faults was now permit causes.CloudStore fault is stopped takes of running book opening follows =
+    (inr (record {
+      firing = firing;
+      decides = stopped;
+      each = subst (λ (m : ℕ). EachTakes bodies faults was.book.records firing m false was.calls.places.entries was.cloud
+          (Some causes.Stop) now.cloud) number each;
+      armed = armed;
+      halts = halts_in_cloud bodies faults was now causes.Stop of running takes book opening follows;
+    }))
+stops_as bodies faults was now permit firing n causes.CloudStore fault number is stopped takes each armed of running book
+    opening follows =
     subst (λ (f : SiteFault). RefusesToPerform bodies faults was permit f now) (sym is)
     (halts_in_cloud bodies faults was now causes.CloudStore of running takes.0 book opening follows, takes.1)
-stops_as bodies faults was now permit causes.Store fault is stopped takes of running book opening follows =
+stops_as bodies faults was now permit firing n causes.Store fault number is stopped takes each armed of running book opening
+    follows =
     absurd takes
 
 -- ---- answers

@@ -1,23 +1,15 @@
 -- A move is told at once, where all was told before.
-use Rattle.std.proofs.Common.{◌≡◌, ◌≤◌, ℕ, Bool, false, Option, None, List, [], ◌∷◌, ◌++◌, sym, ◌∙◌, ap, subst, append-nil, append_assoc, length}
+use Rattle.std.proofs.Common.{◌≡◌, ◌≤◌, ℕ, Bool, None, List, [], ◌∷◌, ◌++◌, sym, ◌∙◌, ap, subst, append-nil, append_assoc, length}
 use Rattle.std.proofs.lemmas.List.Elements.{filter_map-append}
-use Rattle.bosh_base.specs.Call.{method_of}
-use Rattle.bosh_base.specs.declared.answer.Answer.{Answer}
 use Rattle.bosh_base.specs.declared.entry.Entry.{Entry}
-use Rattle.bosh_base.specs.declared.moves.Did as did
 use Rattle.bosh_base.specs.declared.moves.Move.{Move}
-use Rattle.bosh_base.specs.declared.moves.Move.TheVariants.{Did}
 use Rattle.bosh_base.specs.declared.moves.Said as said
-use Rattle.bosh_book.specs.declared.granted.Granted.{Granted}
-use Rattle.bosh_cloud.specs.CloudView.{CloudView}
 use Rattle.bosh_moves.proofs.StoryLemmas.{extends_more}
 use Rattle.bosh_moves.proofs.TellLemmas.{of_on, story_all, within_on}
 use Rattle.bosh_moves.specs.Replies.{replies_in, reply_of}
 use Rattle.bosh_moves.specs.Story.{HistoryView}
 use Rattle.bosh_ports.specs.declared.keeper.Keeper as keeper
-use Rattle.bosh_traps.specs.Traps.{decided, traps_after}
 use Rattle.bosh_world.specs.IsSite.{IsSite}
-use Rattle.bosh_world.specs.Performing.{Asks, Holds, IsAsked, Performs, did_of}
 use Rattle.bosh_world.specs.Steps.{Comes, IsAllTold}
 use Rattle.bosh_world.specs.Told.{story_of}
 use Rattle.bosh_world.specs.declared.site.Site.{Site}
@@ -75,52 +67,4 @@ pub comes_then : {K L : Type 0} {k : keeper.Ghosts K} {l : keeper.Ghosts L} (was
 comes_then was mid now xs ys x y = record {
   grows = extends_more was.history.moves mid.history.moves now.history.moves y.grows.0 x.grows y.grows.1;
   story = y.story ∙ ap (λ ms. ms ++ ys) x.story ∙ append_assoc (story_of was) xs ys;
-}
-
--- what the cloud does is told by no move that was told before
-pub story_still : {K L : Type 0} {k : keeper.Ghosts K} {l : keeper.Ghosts L} (was mid : Site K L k l) → IsAllTold was →
-    mid.book ≡ was.book → mid.history ≡ was.history → story_of mid ≡ story_of was
-story_still was mid told same_book same_history =
-    story_all mid.history mid.book.journal.entries mid.cloud.effects (ap (λ h. h.restart) same_history ∙ told.told.no_restart)
-    (ap (λ h. h.entries) same_history ∙ told.entries ∙ sym (ap (λ b. length b.journal.entries) same_book))
-    (ap (λ h. h.halt) same_history ∙ told.told.no_halt)
-    ∙ ap (λ h. h.moves) same_history
-    ∙ sym (story_all was.history was.book.journal.entries was.cloud.effects told.told.no_restart told.entries told.told.no_halt)
-
--- .. so a move comes after it as if nothing had been done
-pub comes_past : {K L : Type 0} {k : keeper.Ghosts K} {l : keeper.Ghosts L} (was mid now : Site K L k l) (more : List Move) →
-    IsAllTold was → mid.book ≡ was.book → mid.history ≡ was.history → Comes mid more now → Comes was more now
-comes_past was mid now more told same_book same_history comes = record {
-  grows = (comes.grows.0, comes.grows.1 ∙ ap (λ h. h.moves ++ comes.grows.0) same_history);
-  story = comes.story ∙ ap (λ ms. ms ++ more) (story_still was mid told same_book same_history);
-}
-
--- .. and all stays told
-pub told_still : {K L : Type 0} {k : keeper.Ghosts K} {l : keeper.Ghosts L} (was mid : Site K L k l) → IsAllTold was →
-    mid.book ≡ was.book → mid.history ≡ was.history → IsAllTold mid
-told_still was mid told same_book same_history = record {
-  told = record {
-    no_restart = ap (λ h. h.restart) same_history ∙ told.told.no_restart;
-    no_halt = ap (λ h. h.halt) same_history ∙ told.told.no_halt;
-  };
-  entries = ap (λ h. h.entries) same_history ∙ told.entries ∙ sym (ap (λ b. length b.journal.entries) same_book);
-  free = subst (λ (h : HistoryView). 2 ≤ h.free) (sym same_history) told.free;
-}
-
--- a call was asked of the cloud, and how it was performed was told
-pub performed : {K L : Type 0} {k : keeper.Ghosts K} {l : keeper.Ghosts L} (bodies : L → Option (List (List ℕ)))
-    (faults : L → ℕ) (was mid now : Site K L k l) (permit : Granted) (as_told : did.Did) (answer : Answer) → IsAllTold was →
-    was.history.is_halted ≡ false → decided (method_of permit.call) permit.owner was.traps.items ≡ None →
-    IsAsked bodies faults was permit as_told answer mid → Holds mid permit as_told now →
-    Performs bodies faults was permit answer now
-performed bodies faults was mid now permit as_told answer told running unstopped asked holds = record {
-  asks = subst (λ (c : CloudView _). Asks bodies faults was.cloud permit answer c) (sym holds.same_cloud) asked.asks;
-  comes = comes_past was mid now (Did (did_of was.cloud permit answer) ∷ []) told asked.same_book asked.same_history
-      (subst (λ (d : did.Did). Comes mid (Did d ∷ []) now) asked.told holds.comes);
-  running = running;
-  runs_on = holds.halted ∙ ap (λ h. h.is_halted) asked.same_history ∙ running;
-  unstopped = unstopped;
-  armed = holds.armed ∙ ap (λ items. traps_after (method_of permit.call) permit.owner items) asked.same_armed;
-  same_book = holds.same_book ∙ asked.same_book;
-  same_opening = holds.same_opening ∙ asked.same_opening;
 }

@@ -20,6 +20,7 @@ pub record GivesUp {K L : Type 0} {k : keeper.Ghosts K} {l : keeper.Ghosts L} (w
   pub same_opening : now.opening ≡ was.opening
 
 -- where the permit is not current nothing changes
-pub record Abandons {K L : Type 0} {k : keeper.Ghosts K} {l : keeper.Ghosts L} (was : Site K L k l) (permit : Granted) (now : Site K L k l) : Type 0 where
+pub record Abandons {K L : Type 0} {k : keeper.Ghosts K} {l : keeper.Ghosts L} (was : Site K L k l) (permit : Granted)
+    (now : Site K L k l) : Type 0 where
   pub current : IsCurrent was.book permit → GivesUp was now
   pub other : (¬ IsCurrent was.book permit) → IsSame was now

@@ -38,7 +38,8 @@ traps_with traps (Stop before method owner k all) =
     traps ++ record { trap = Stop before method owner k all; seen = 0 } ∷ []
 traps_with traps trap = traps
 
-pub record Arms {K L : Type 0} {k : keeper.Ghosts K} {l : keeper.Ghosts L} (was : Site K L k l) (trap : Trap) (now : Site K L k l) : Type 0 where
+pub record Arms {K L : Type 0} {k : keeper.Ghosts K} {l : keeper.Ghosts L} (was : Site K L k l) (trap : Trap)
+    (now : Site K L k l) : Type 0 where
   pub book : now.book ≡ book_with was.book trap
   pub cloud : now.cloud ≡ cloud_with was.cloud trap
   pub traps : now.traps.items ≡ traps_with was.traps.items trap

@@ -31,7 +31,8 @@ pub record Changes {K L : Type 0} {k : keeper.Ghosts K} {l : keeper.Ghosts L}
 
 -- The cloud does not change: the site has halted, the cloud's store fails in it, there is no memory, or for a cause that is
 -- told apart.
-abbrev pub RefusesJob : {K L : Type 0} {k : keeper.Ghosts K} {l : keeper.Ghosts L} → (L → Option (List (List ℕ))) → (L → ℕ) → Site K L k l → (SiteFault → Type 0) →
+abbrev pub RefusesJob : {K L : Type 0} {k : keeper.Ghosts K} {l : keeper.Ghosts L} → (L → Option (List (List ℕ))) → (L →
+    ℕ) → Site K L k l → (SiteFault → Type 0) →
     SiteFault → Site K L k l → Type 0
 RefusesJob bodies faults was May (Book book.Stopped) now = (was.history.is_halted ≡ true) × (now ≡ was)
 RefusesJob bodies faults was May CloudStore now =
@@ -42,7 +43,8 @@ RefusesJob bodies faults was May Memory now =
 RefusesJob bodies faults was May fault now = May fault × (now ≡ was)
 
 -- the cloud's store fails in it, or there is no memory
-abbrev pub FailsJob : {K L : Type 0} {k : keeper.Ghosts K} {l : keeper.Ghosts L} → (L → Option (List (List ℕ))) → (L → ℕ) → Site K L k l → SiteFault →
+abbrev pub FailsJob : {K L : Type 0} {k : keeper.Ghosts K} {l : keeper.Ghosts L} → (L → Option (List (List ℕ))) → (L →
+    ℕ) → Site K L k l → SiteFault →
     Site K L k l → Type 0
 FailsJob bodies faults was fault now = RefusesJob bodies faults was (λ other. ⊥) fault now × IsCloudsOwn fault
   where

@@ -1,7 +1,7 @@
 -- What it gives to perform a call, or to stop in it.
 use Rattle.std.specs.BTreeMap.{Updates, get}
 use Rattle.std.specs.Ordering.{nat_cmp}
-use Rattle.std.specs.Prelude.{◌≡◌, ◌⊎◌, ℕ, true, false, is_some, IsSome, List, [], ◌∷◌, ◌++◌, length, Option, Some, None, Ok}
+use Rattle.std.specs.Prelude.{◌≡◌, ◌⊎◌, ℕ, true, false, IsSome, List, [], ◌∷◌, ◌++◌, length, Option, Some, None, Ok}
 use Rattle.bosh_asks.specs.declared.fault.BookFault.TheVariants as book
 use Rattle.bosh_base.specs.Call.{method_of}
 use Rattle.bosh_base.specs.History.{Extends}
@@ -22,6 +22,8 @@ use Rattle.bosh_world.specs.declared.site.Site.{Site}
 use Rattle.bosh_world.specs.Told.{IsPerformable}
 use Rattle.bosh_world.specs.Steps.{Comes}
 use Rattle.bosh_traps.specs.Traps.{decided, traps_after}
+use Rattle.bosh_traps.specs.declared.trap.Firing.{Firing}
+use Rattle.bosh_world.specs.Stopping.{EachTakes}
 use Rattle.bosh_world.specs.declared.fault.SiteFault.{SiteFault}
 use Rattle.bosh_world.specs.declared.fault.SiteFault.TheVariants.{Book, CloudStore, Memory}
 
@@ -58,7 +60,8 @@ pub record IsAsked {K L : Type 0} {k : keeper.Ghosts K} {l : keeper.Ghosts L}
   pub same_opening : now.opening ≡ was.opening
 
 -- traps see the call of a permit, and how it was performed is told
-pub record Holds {K L : Type 0} {k : keeper.Ghosts K} {l : keeper.Ghosts L} (was : Site K L k l) (permit : Granted) (did : did.Did) (now : Site K L k l) : Type 0
+pub record Holds {K L : Type 0} {k : keeper.Ghosts K} {l : keeper.Ghosts L} (was : Site K L k l) (permit : Granted)
+    (did : did.Did) (now : Site K L k l) : Type 0
   where
     pub comes : Comes was (moves.Did did ∷ []) now
     pub moves : now.history.moves ≡ was.history.moves ++ moves.Did did ∷ []
@@ -95,14 +98,24 @@ pub record HaltsInCloud {K L : Type 0} {k : keeper.Ghosts K} {l : keeper.Ghosts 
   pub same_book : now.book ≡ was.book
   pub same_opening : now.opening ≡ was.opening
 
+-- A trap stops the director in a call: effects of open calls come as the trap says, and then the site halts.
+pub record StopsIn {K L : Type 0} {k : keeper.Ghosts K} {l : keeper.Ghosts L}
+    (bodies : L → Option (List (List ℕ))) (faults : L → ℕ) (was : Site K L k l) (permit : Granted) (now : Site K L k l) :
+    Type 0 where
+  pub firing : Firing
+  pub decides : decided (method_of permit.call) permit.owner was.traps.items ≡ Some firing
+  pub each : EachTakes bodies faults was.book.records firing permit.n false was.calls.places.entries was.cloud
+      (Some causes.Stop) now.cloud
+  pub armed : now.traps.items ≡ traps_after (method_of permit.call) permit.owner was.traps.items
+  pub halts : HaltsInCloud bodies faults was causes.Stop now
+
 -- A call is not performed: the site has halted, and nothing changes; a trap stops the director in it; the cloud's store
 -- fails in it; the permit is not for a call that can be performed; or there is no memory, and no effect.
-abbrev pub RefusesToPerform : {K L : Type 0} {k : keeper.Ghosts K} {l : keeper.Ghosts L} → (L → Option (List (List ℕ))) → (L → ℕ) → Site K L k l → Granted →
+abbrev pub RefusesToPerform : {K L : Type 0} {k : keeper.Ghosts K} {l : keeper.Ghosts L} → (L → Option (List (List ℕ))) →
+    (L → ℕ) → Site K L k l → Granted →
     SiteFault → Site K L k l → Type 0
 RefusesToPerform bodies faults was permit (Book book.Stopped) now =
-    ((was.history.is_halted ≡ true) × (now ≡ was))
-    ⊎ ((is_some (decided (method_of permit.call) permit.owner was.traps.items) ≡ true)
-    × HaltsInCloud bodies faults was causes.Stop now)
+    ((was.history.is_halted ≡ true) × (now ≡ was)) ⊎ StopsIn bodies faults was permit now
 RefusesToPerform bodies faults was permit (Book (book.Locked task)) now =
     (task ≡ permit.task) × (¬ IsPerformable was permit) × (now ≡ was)
 RefusesToPerform bodies faults was permit CloudStore now =

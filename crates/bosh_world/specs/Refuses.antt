@@ -29,7 +29,8 @@ pub record FailsInStore {K L : Type 0} {k : keeper.Ghosts K} {l : keeper.Ghosts 
 
 -- A site that has halted refuses, and nothing changes. One whose director's store fails in the call halts in it. Any other
 -- refusal leaves the entries that were noted before it, and nothing else.
-abbrev pub Refuses : {K L : Type 0} {k : keeper.Ghosts K} {l : keeper.Ghosts L} → (K → Option (List (List ℕ))) → (K → ℕ) → Site K L k l → List Entry → SiteFault →
+abbrev pub Refuses : {K L : Type 0} {k : keeper.Ghosts K} {l : keeper.Ghosts L} → (K → Option (List (List ℕ))) → (K →
+    ℕ) → Site K L k l → List Entry → SiteFault →
     Site K L k l → Type 0
 Refuses bodies faults was noted (Book book.Stopped) now =
     ((was.history.is_halted ≡ true) × (now ≡ was))
@@ -48,7 +49,8 @@ IsBooks may Memory = Unit {0}
 IsBooks may fault = ⊥
 
 -- a claim that is refused may have noted updates before
-abbrev pub RefusesClaim : {K L : Type 0} {k : keeper.Ghosts K} {l : keeper.Ghosts L} → (K → Option (List (List ℕ))) → (K → ℕ) → Site K L k l → SiteFault →
+abbrev pub RefusesClaim : {K L : Type 0} {k : keeper.Ghosts K} {l : keeper.Ghosts L} → (K → Option (List (List ℕ))) →
+    (K → ℕ) → Site K L k l → SiteFault →
     Site K L k l → Type 0
 RefusesClaim bodies faults was fault now =
     (updates : List Entry) × All IsUpdate updates × Refuses bodies faults was updates fault now

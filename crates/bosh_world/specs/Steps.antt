@@ -30,7 +30,8 @@ abbrev pub bodies_of : {K : Type 0} → (K → Option (List (List ℕ))) → Rig
 bodies_of bodies rigged = bodies rigged.inner
 
 -- these moves have come at the end; the moves that were told only grow
-pub record Comes {K L : Type 0} {k : keeper.Ghosts K} {l : keeper.Ghosts L} (was : Site K L k l) (more : List Move) (now : Site K L k l) : Type 0 where
+pub record Comes {K L : Type 0} {k : keeper.Ghosts K} {l : keeper.Ghosts L} (was : Site K L k l) (more : List Move)
+    (now : Site K L k l) : Type 0 where
   pub grows : Extends was.history.moves now.history.moves
   pub story : story_of now ≡ story_of was ++ more
 
@@ -59,7 +60,8 @@ pub record IsAllTold {K L : Type 0} {k : keeper.Ghosts K} {l : keeper.Ghosts L} 
   pub free : 2 ≤ site.history.free
 
 -- a reply is noted
-pub record Says {K L : Type 0} {k : keeper.Ghosts K} {l : keeper.Ghosts L} (was : Site K L k l) (reply : said.Said) (now : Site K L k l) : Type 0 where
+pub record Says {K L : Type 0} {k : keeper.Ghosts K} {l : keeper.Ghosts L} (was : Site K L k l) (reply : said.Said)
+    (now : Site K L k l) : Type 0 where
   pub comes : Comes was (moves.Said reply ∷ []) now
   pub keeps : KeepsBooks was now
 
@@ -84,7 +86,8 @@ pub record OpensTask {K L : Type 0} {k : keeper.Ghosts K} {l : keeper.Ghosts L}
   pub told : task ≡ opening.task
 
 -- a task that had ended is only told; one that ends, as it comes to its end now, is noted
-abbrev pub EndsTask : {K L : Type 0} {k : keeper.Ghosts K} {l : keeper.Ghosts L} → (K → Option (List (List ℕ))) → (K → ℕ) → Site K L k l → ℕ → TaskEnd →
+abbrev pub EndsTask : {K L : Type 0} {k : keeper.Ghosts K} {l : keeper.Ghosts L} → (K → Option (List (List ℕ))) → (K →
+    ℕ) → Site K L k l → ℕ → TaskEnd →
     Site K L k l → Type 0
 EndsTask bodies faults was task end now =
     ((end_of was.book.records task ≡ Some end) × Notes bodies faults was [] None now × (now.book ≡ was.book))

@@ -1,13 +1,24 @@
 -- The effects of open calls in a stop.
-use Rattle.std.specs.Prelude.{◌≡◌, ℕ, false, List, Option, Some, None, Result, Ok, Err}
+use Rattle.std.specs.Prelude.{◌≡◌, ◌⊎◌, ℕ, ◌==◌, Bool, true, false, not, List, [], ◌∷◌, Option, Some, None, option_map}
+use Rattle.std.specs.Prelude.{Result, Ok, Err}
+use Rattle.std.specs.Option.{option_and_then}
 use Rattle.bosh_base.specs.History.{Extends}
+use Rattle.bosh_base.specs.declared.entry.Begin as begin
+use Rattle.bosh_base.specs.declared.entry.Effect as effect
+use Rattle.bosh_base.specs.declared.entry.Entry.{Entry}
 use Rattle.bosh_base.specs.declared.moves.Cause.{Cause}
 use Rattle.bosh_base.specs.declared.moves.Cause.TheVariants as causes
 use Rattle.bosh_cloud.specs.CloudView.{CloudView}
+use Rattle.bosh_book.specs.Current.{dep_of}
 use Rattle.bosh_cloud.specs.Loading.{IsKept}
+use Rattle.bosh_cloud.specs.Notes.{Does}
+use Rattle.bosh_cloud.specs.Performs.{added}
 use Rattle.bosh_cloud.specs.declared.fault.CloudFault.{CloudFault}
 use Rattle.bosh_cloud.specs.declared.fault.CloudFault.TheVariants as cloud
 use Rattle.bosh_ports.specs.Faults.{NeverFalls, Rose}
+use Rattle.bosh_records.specs.Readers.{call_at}
+use Rattle.bosh_records.specs.declared.records.Records.{Records}
+use Rattle.bosh_traps.specs.declared.trap.Firing.{Firing}
 
 -- what was done to a cloud goes on, and a load finds it, as before
 pub record GoesOn {L : Type 0}
@@ -34,3 +45,47 @@ TakesEffects bodies faults was (Some causes.Stop) now = GoesOn bodies faults was
 TakesEffects bodies faults was (Some causes.CloudStore) now =
     GoesOn bodies faults was now × Rose (faults was.store) (faults now.store)
 TakesEffects bodies faults was (Some causes.Store) now = ⊥
+
+-- the effect of a call that began so, for a deployment
+abbrev pub effect_by : begin.Begin → List ℕ → effect.Effect
+effect_by begun dep = record { n = begun.n; owner = begun.owner; dep = dep; call = begun.call }
+
+-- the effect of an open call, by the records
+abbrev pub effect_of : Records → ℕ → Option effect.Effect
+effect_of records n =
+    option_and_then (λ begun. option_map (effect_by begun) (dep_of records begun.owner)) (call_at records n)
+
+-- what that adds to what was done to the cloud
+abbrev pub added_of : {L : Type 0} → CloudView L → Option effect.Effect → List Entry
+added_of cloud (Some e) = added cloud e
+added_of cloud None = []
+
+-- whether an open call has its effect in a stop: the one in which the director stops, unless it stops before it; any other,
+-- where the trap says so, that was not performed
+abbrev pub comes : Firing → Bool → Option ℕ → Bool
+comes firing true performed = not firing.before
+comes firing false (Some place) = false
+comes firing false None = firing.all
+
+-- why the director stops where there is no memory for an effect: nothing, for the first
+abbrev pub cause_by : Bool → Option Cause
+cause_by true = Some causes.Stop
+cause_by false = None
+
+-- The effects of open calls come one after the other; the store may fail in one, or there may be no memory for it, and then
+-- no more come.
+abbrev pub EachTakes : {L : Type 0} → (L → Option (List (List ℕ))) → (L → ℕ) → Records → Firing → ℕ → Bool →
+    List (ℕ × Option ℕ) → CloudView L → Option Cause → CloudView L → Type 0
+EachTakes bodies faults records firing n came [] was cause now = (cause ≡ Some causes.Stop) × (now ≡ was)
+EachTakes {L} bodies faults records firing n came (it ∷ rest) was cause now =
+    ((comes firing (it.0 == n) it.1 ≡ false) × EachTakes bodies faults records firing n came rest was cause now)
+    ⊎ (((comes firing (it.0 == n) it.1 ≡ true) × ((mid : CloudView L)
+    × (Does {T = Unit {0}} bodies faults (Ok tt) was (added_of was (effect_of records it.0)) mid
+    × EachTakes bodies faults records firing n true rest mid cause now)))
+    ⊎ ((comes firing (it.0 == n) it.1 ≡ true) × ((fault : CloudFault)
+    × (Does {T = Unit {0}} bodies faults (Err fault) was (added_of was (effect_of records it.0)) now
+    × (cause ≡ unless_memory fault came)))))
+  where
+    unless_memory : CloudFault → Bool → Option Cause
+    unless_memory cloud.Memory came = cause_by came
+    unless_memory fault came = Some causes.CloudStore

@@ -1,4 +1,5 @@
-ghost use Rattle.std.specs.Prelude.{◌≡◌, ◌↔◌, [], IfErr, IsSome, IsTrue, None, OnErr, OnOk, Some};
+ghost use Rattle.std.specs.Map.Iter.{ShowsInOrder, deref_pair};
+ghost use Rattle.std.specs.Prelude.{◌≡◌, ◌↔◌, ℕ, [], IfErr, IsSome, IsTrue, None, OnErr, OnOk, Option, Some};
 ghost use Rattle.std.specs.BTreeMap.{get, IsUnchanged, Updates};
 ghost use Rattle.std.specs.Ordering.{nat_cmp};
 ghost use Rattle.bosh_world.specs.Calls.{is_performable, place_of};
@@ -72,7 +73,10 @@ impl Calls {
     }
 
     /// The calls by number.
-    pub(crate) fn iter(&self) -> Iter<'_, u64, Option<usize>> {
+    pub(crate) fn iter(&self) -> Iter<'_, u64, Option<usize>>
+        ensures rest { result ≡ self.now.places.entries }
+        ensures runs { ShowsInOrder (deref_pair {K = ℕ} {X = Option ℕ}) }
+    {
         self.places.iter()
     }
 }

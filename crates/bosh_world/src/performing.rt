@@ -1,7 +1,7 @@
 ghost use Rattle.std.specs.Prelude.{◌≡◌, [], false, IfErr, IfOk, None, OnOk};
-ghost use Rattle.bosh_base.specs.History.{Extends};
 ghost use Rattle.bosh_asks.specs.declared.fault.BookFault.TheVariants as book;
 ghost use Rattle.bosh_base.specs.Call.{method_of};
+ghost use Rattle.bosh_base.specs.History.{Extends};
 ghost use Rattle.bosh_world.specs.Holds.{IsHeld};
 ghost use Rattle.bosh_world.specs.Performing.{Holds, IsAsked, Performs, RefusesToPerform};
 ghost use Rattle.bosh_world.specs.Told.{IsPerformable};

@@ -1,10 +1,14 @@
-ghost use Rattle.std.specs.Prelude.{◌≡◌, ◌⊎◌, false, is_some, true, IfSome, IsNone, None, Some};
-ghost use Rattle.bosh_base.specs.History.{Extends};
+ghost use Rattle.std.specs.Prelude.{◌≡◌, ◌⊎◌, false, is_some, true, IfSome, IsNone, None, Some, option_map};
+ghost use Rattle.std.specs.Option.{option_copied};
 ghost use Rattle.bosh_base.specs.Call.{method_of};
+ghost use Rattle.bosh_base.specs.History.{Extends};
 ghost use Rattle.bosh_base.specs.declared.moves.Cause.TheVariants as causes;
+ghost use Rattle.bosh_book.specs.Current.{dep_of};
+ghost use Rattle.bosh_cloud.specs.Notes.{Does};
+ghost use Rattle.bosh_cloud.specs.Performs.{added};
 ghost use Rattle.bosh_cloud.specs.declared.fault.CloudFault.TheVariants as cloud;
 ghost use Rattle.bosh_world.specs.Performing.{RefusesToPerform};
-ghost use Rattle.bosh_world.specs.Stopping.{TakesEffect, TakesEffects};
+ghost use Rattle.bosh_world.specs.Stopping.{EachTakes, TakesEffect, TakesEffects, added_of, comes, effect_by, effect_of};
 ghost use Rattle.bosh_traps.specs.Traps.{decided};
 ghost use Rattle.bosh_world.specs.Silent.{IsSilent, moves_of};
 
@@ -23,7 +27,7 @@ impl<K: Keeper, L: Keeper> Site<K, L> {
     /// memory before the first of them nothing happens.
     pub(crate) fn stop_in(&mut self, permit: &Permit, firing: Firing) -> SiteFault
         requires running { self.old.history.is_halted ≡ false }
-        requires stopped { is_some (decided (method_of permit.now.call) permit.now.owner self.old.traps.items) ≡ true }
+        requires stopped { decided (method_of permit.now.call) permit.now.owner self.old.traps.items ≡ Some firing }
         ensures refused { RefusesToPerform L.bodies L.faults self.old permit.now result self.new }
         ensures grows { Extends (moves_of self.old) (moves_of self.new) }
         ensures silent { IsSilent self.old self.new }
@@ -55,7 +59,9 @@ fn take_effects<K: Keeper, L: Keeper>(
     firing: Firing,
 ) -> Option<Cause>
     requires { cloud.old.is_stale ≡ false }
-    ensures { TakesEffects L.bodies L.faults cloud.old result cloud.new }
+    ensures takes { TakesEffects L.bodies L.faults cloud.old result cloud.new }
+    ensures each { EachTakes L.bodies L.faults book.now.records firing n false calls.now.places.entries cloud.old result
+        cloud.new }
 {
     let mut came = false;
     for (call, performed) in calls.iter() {
@@ -73,7 +79,9 @@ fn take_effects<K: Keeper, L: Keeper>(
 }
 
 // Whether an open call has its effect in a stop.
-fn comes(firing: Firing, is_stopped: bool, performed: Option<usize>) -> bool {
+fn comes(firing: Firing, is_stopped: bool, performed: Option<usize>) -> bool
+    ensures { result ≡ comes firing is_stopped performed }
+{
     if is_stopped {
         return !firing.before;
     }
@@ -87,7 +95,9 @@ fn take_effect<K: Keeper, L: Keeper>(
     n: u64,
 ) -> Result<(), CloudFault>
     requires { cloud.old.is_stale ≡ false }
-    ensures { TakesEffect L.bodies L.faults cloud.old result cloud.new }
+    ensures takes { TakesEffect L.bodies L.faults cloud.old result cloud.new }
+    ensures does { Does L.bodies L.faults result cloud.old
+        (added_of cloud.old (effect_of book.now.records n)) cloud.new }
 {
     let records = book.records();
     match records.call(n) {
@@ -102,7 +112,9 @@ fn perform_begun<L: Keeper>(
     begin: &Begin,
 ) -> Result<(), CloudFault>
     requires { cloud.old.is_stale ≡ false }
-    ensures { TakesEffect L.bodies L.faults cloud.old result cloud.new }
+    ensures takes { TakesEffect L.bodies L.faults cloud.old result cloud.new }
+    ensures does { Does L.bodies L.faults result cloud.old
+        (added_of cloud.old (option_map (effect_by begin.now) (dep_of records.now begin.now.owner))) cloud.new }
 {
     match dep_of(records, &begin.owner) {
         Some(dep) => perform_for(cloud, begin, dep),
@@ -116,7 +128,9 @@ fn perform_for<L: Keeper>(
     dep: &Name,
 ) -> Result<(), CloudFault>
     requires { cloud.old.is_stale ≡ false }
-    ensures { TakesEffect L.bodies L.faults cloud.old result cloud.new }
+    ensures takes { TakesEffect L.bodies L.faults cloud.old result cloud.new }
+    ensures does { Does L.bodies L.faults result cloud.old
+        (added cloud.old (effect_by begin.now dep.now)) cloud.new }
 {
     match cloud.perform(begin.n, &begin.owner, dep, &begin.call) {
         Ok(answer) => {
@@ -129,7 +143,9 @@ fn perform_for<L: Keeper>(
 
 // The deployment that what is done for an owner is for: that of an instance, that of the task of a compile machine, or
 // that of the instance that had an orphaned disk.
-fn dep_of<'a>(records: &'a Records, owner: &'a Owner) -> Option<&'a Name> {
+fn dep_of<'a>(records: &'a Records, owner: &'a Owner) -> Option<&'a Name>
+    ensures { option_copied result ≡ dep_of records.now owner.now }
+{
     match owner {
         Owner::Instance(inst) => Some(&inst.dep),
         Owner::Compile(task, _) => records.task(*task)?.dep.as_ref(),

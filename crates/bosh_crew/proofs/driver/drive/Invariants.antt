@@ -1,0 +1,10 @@
+use Rattle.bosh_base.specs.History.{Extends}
+use Rattle.bosh_world.specs.Silent.{IsSilent, moves_of}
+use Rattle.bosh_crew.proofs.driver.drive.Given as goal
+
+-- the moves went on, and no reply was noted
+abbrev pub invariant-loop : goal.invariant-loop
+invariant-loop g l = record {
+  goes : Extends (moves_of l.fn.site) (moves_of l.site);
+  silent : IsSilent l.fn.site l.site;
+}

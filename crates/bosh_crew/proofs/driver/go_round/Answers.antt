@@ -1,0 +1,31 @@
+use Rattle.std.proofs.Common.{◌≡◌, ◌∙◌, ◌<◌, ◌≤◌, ℕ, List, arith, length, slice_index_or, subst, sym, take}
+use Rattle.std.specs.Prelude.{All}
+use Rattle.std.proofs.lemmas.List.{take_all}
+use Rattle.std.proofs.lemmas.List.Elements.{All-more}
+use Rattle.bosh_crew.specs.Driven.{IsEnded}
+use Rattle.bosh_moves.proofs.StoryLemmas.{extends_more}
+use Rattle.bosh_records.specs.declared.records.Records.{Records}
+use Rattle.bosh_world.specs.Silent.{moves_of}
+use Rattle.bosh_crew.proofs.driver.go_round.Goals as goal
+
+pub loop-task-preserved : goal.loop-task-preserved
+loop-task-preserved g c =
+    let within : c.loop-task.task-index < length c.args.tasks.now = let t = c.loop-task-test.true in omega (arith, t) in
+    record {
+      goes = extends_more (moves_of c.args.site.now) (moves_of c.loop-task.site) (moves_of c.attend.new.site)
+          c.attend.ensures.goes.0 c.loop-task.invariant.goes c.attend.ensures.goes.1;
+      silent = c.attend.ensures.silent ∙ c.loop-task.invariant.silent;
+      ended = λ is.
+          let stood = c.in_ok-round.ensures.ended is in
+          All-more (IsEnded c.attend.new.site.book.records) c.args.tasks.now c.loop-task.task-index 0 within
+          (subst (λ (r : Records). All (IsEnded r) (take c.loop-task.task-index c.args.tasks.now)) (sym stood.1)
+          (c.loop-task.invariant.ended stood.0))
+          (subst (λ (r : Records). IsEnded r (slice_index_or c.args.tasks.now c.loop-task.task-index 0)) (sym stood.1) stood.2);
+    }
+
+pub returns-clause-ended : goal.returns-clause-ended
+returns-clause-ended g c = λ is.
+    let past : length c.args.tasks.now ≤ c.loop-task.task-index = let t = c.loop-task-test.false in omega (arith, t) in
+    subst (λ (tasks : List ℕ). All (IsEnded c.loop-task.site.book.records) tasks)
+    (take_all c.loop-task.task-index c.args.tasks.now past)
+    (c.loop-task.invariant.ended is)

@@ -1,0 +1,165 @@
+ghost use Rattle.std.specs.Prelude.{◌≡◌, ◌≢◌, ◌↔◌, All, Contains, IfErr, IfOk, IsTrue, OnOk};
+ghost use Rattle.bosh_asks.specs.declared.fault.BookFault.TheVariants as book;
+ghost use Rattle.bosh_crew.specs.Driven.{AreEnded, Goes, IsEnded, IsStuck};
+ghost use Rattle.bosh_crew.specs.declared.driver.Round.TheVariants.{Ended};
+ghost use Rattle.bosh_world.specs.Silent.{IsSilent};
+ghost use Rattle.bosh_world.specs.declared.fault.SiteFault.TheVariants.{Book};
+
+use bosh_book::{BookFault, Claim, Permit};
+use bosh_ports::Keeper;
+use bosh_records::Records;
+use bosh_world::{HeldCall, Site, SiteFault};
+
+/// Who makes the calls.
+const WORKER: u8 = 0;
+
+/// How a round over tasks came out.
+#[derive(Clone, Copy, Debug, PartialEq, Eq)]
+enum Round {
+    /// Each task has its end.
+    Ended,
+    /// A call was made, or a task ended.
+    Moved,
+    /// Nothing could be done, and what is left of this task waits for calls that others have open.
+    Waits(u64),
+}
+
+/// Carries tasks to their ends, by one worker that goes round them in order: at each it makes one call, or ends it. It
+/// never waits: where all that is left is under calls that others have open, that is refused as `Locked`.
+pub fn drive<K: Keeper, L: Keeper>(site: &mut Site<K, L>, tasks: &[u64]) -> Result<(), SiteFault>
+    ensures ended { OnOk result (AreEnded site.new tasks.now) }
+    ensures goes { Goes site.old site.new }
+    ensures silent { IsSilent site.old site.new }
+    ensures stuck { IfErr result (IsStuck site.new) }
+{
+    for _ in 0..u64::MAX {
+        match go_round(site, tasks)? {
+            Round::Ended => return Ok(()),
+            Round::Moved => {}
+            Round::Waits(task) => return Err(locked(task)),
+        }
+    }
+    Err(SiteFault::Memory)
+}
+
+fn locked(task: u64) -> SiteFault
+    ensures { result ≡ Book (book.Locked task) }
+{
+    SiteFault::Book(BookFault::Locked { task })
+}
+
+// Takes a step of each task that has no end.
+fn go_round<K: Keeper, L: Keeper>(site: &mut Site<K, L>, tasks: &[u64]) -> Result<Round, SiteFault>
+    ensures ended { IfOk result (λ round. round ≡ Ended → AreEnded site.new tasks.now) }
+    ensures goes { Goes site.old site.new }
+    ensures silent { IsSilent site.old site.new }
+    ensures stuck { IfErr result (IsStuck site.new) }
+{
+    let mut round = Round::Ended;
+    for task in tasks {
+        round = attend(site, round, *task)?;
+    }
+    Ok(round)
+}
+
+// Takes a step of a task that has no end.
+fn attend<K: Keeper, L: Keeper>(
+    site: &mut Site<K, L>,
+    round: Round,
+    task: u64,
+) -> Result<Round, SiteFault>
+    ensures ended { IfOk result (λ now. now ≡ Ended → (round ≡ Ended)
+        × (site.new.book.records ≡ site.old.book.records) × IsEnded site.old.book.records task) }
+    ensures goes { Goes site.old site.new }
+    ensures silent { IsSilent site.old site.new }
+    ensures stuck { IfErr result (IsStuck site.new) }
+{
+    if has_ended(site.book().records(), task) {
+        return Ok(round);
+    }
+    match take_step(site, task) {
+        Ok(step) => Ok(both(round, step)),
+        Err(fault) => Err(fault),
+    }
+}
+
+// A round in which something was done for one task goes on, and else the first that waits is told.
+fn both(round: Round, step: Round) -> Round
+    requires { step ≢ Ended }
+    ensures { result ≢ Ended }
+{
+    match (round, step) {
+        (Round::Ended, step) => step,
+        (_, Round::Moved) => Round::Moved,
+        (round, _) => round,
+    }
+}
+
+fn has_ended(records: &Records, task: u64) -> bool
+    ensures { IsTrue result ↔ IsEnded records.now task }
+{
+    match records.task(task) {
+        Some(row) => row.end.is_some(),
+        None => false,
+    }
+}
+
+// Makes the next call of a task, or ends it.
+fn take_step<K: Keeper, L: Keeper>(site: &mut Site<K, L>, task: u64) -> Result<Round, SiteFault>
+    ensures moved { IfOk result (λ round. round ≢ Ended) }
+    ensures goes { Goes site.old site.new }
+    ensures silent { IsSilent site.old site.new }
+    ensures stuck { IfErr result (IsStuck site.new) }
+{
+    match site.claim(task, WORKER)? {
+        Claim::Work(permit) => make_call(site, permit),
+        Claim::Over => end(site, task),
+        Claim::Wait => Ok(Round::Waits(task)),
+    }
+}
+
+fn end<K: Keeper, L: Keeper>(site: &mut Site<K, L>, task: u64) -> Result<Round, SiteFault>
+    ensures moved { IfOk result (λ round. round ≢ Ended) }
+    ensures goes { Goes site.old site.new }
+    ensures silent { IsSilent site.old site.new }
+    ensures stuck { IfErr result (IsStuck site.new) }
+{
+    match site.end_task(task) {
+        Ok(_) => Ok(Round::Moved),
+        Err(fault) => Err(fault),
+    }
+}
+
+// Makes the call of a permit. Where that is refused, the call is given up.
+fn make_call<K: Keeper, L: Keeper>(
+    site: &mut Site<K, L>,
+    permit: Permit,
+) -> Result<Round, SiteFault>
+    ensures moved { IfOk result (λ round. round ≢ Ended) }
+    ensures goes { Goes site.old site.new }
+    ensures silent { IsSilent site.old site.new }
+    ensures stuck { IfErr result (IsStuck site.new) }
+{
+    match site.perform(permit) {
+        Ok(call) => settle(site, call),
+        Err((permit, fault)) => {
+            site.abandon(permit);
+            Err(fault)
+        }
+    }
+}
+
+fn settle<K: Keeper, L: Keeper>(site: &mut Site<K, L>, call: HeldCall) -> Result<Round, SiteFault>
+    ensures moved { IfOk result (λ round. round ≢ Ended) }
+    ensures goes { Goes site.old site.new }
+    ensures silent { IsSilent site.old site.new }
+    ensures stuck { IfErr result (IsStuck site.new) }
+{
+    match site.settle(call) {
+        Ok(()) => Ok(Round::Moved),
+        Err((call, fault)) => {
+            site.abandon_held(call);
+            Err(fault)
+        }
+    }
+}
