@@ -11,14 +11,14 @@ use Rattle.bosh_traps.specs.declared.trap.Trap.TheVariants.{Fail, Store, Stop}
 
 -- which of its kind meets it
 abbrev pub count_of : Trap → ℕ
-count_of (Fail method owner k fate) = k
+count_of (Fail method owner k outcome) = k
 count_of (Store k how) = k
 count_of (Stop before method owner k all) = k
 
 -- a fate more waits in the cloud
 abbrev pub cloud_with : {L : Type 0} → CloudView L → Trap → CloudView L
-cloud_with cloud (Fail method owner k fate) =
-    record cloud { dooms = cloud.dooms ++ record { method = method; owner = owner; calls = k; fate = fate } ∷ [] }
+cloud_with cloud (Fail method owner k outcome) =
+    record cloud { dooms = cloud.dooms ++ record { method = method; owner = owner; calls = k; fate = outcome } ∷ [] }
 cloud_with cloud trap = cloud
 
 -- a rig more waits in the director's store
