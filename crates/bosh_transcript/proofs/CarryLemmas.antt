@@ -157,7 +157,7 @@ carries_alone left read_faults written write_faults kind number input s a b o p 
   tells = x.tells;
 }
 
-broken_event : {O : Type 0} (written : O → Option (List ℕ)) (faults : O → ℕ) (status : Status) (input : View)
+pub broken_event : {O : Type 0} (written : O → Option (List ℕ)) (faults : O → ℕ) (status : Status) (input : View)
     (replies : List said.Said) (o p : O) → IsBroken written faults status replies o p →
     IsEvent written faults status input replies o p
 broken_event written faults Memory input replies o p broken = broken
