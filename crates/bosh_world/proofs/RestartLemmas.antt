@@ -90,23 +90,32 @@ halts_silent was told halt now entries effects before comes after =
     ∙ ap replies_in (same_moves told.is_halted told halt refl comes)
     ∙ tells_silent was told entries effects before
 
--- a restart was told, or there was no memory for it
-pub anew : {T F : Type 0} (result : Result T F) (was now : HistoryView) (entries effects : List Entry) (kept : Bool)
-    (halt : Option Cause) → was.is_halted ≡ true → IsTold was → (kept ≡ true → was.entries < length entries) →
-    OnOk result (now ≡ record was {
+-- the history where a restart was told
+abbrev pub IsAnew : HistoryView → List Entry → List Entry → Bool → Option Cause → HistoryView → Type 0
+IsAnew was entries effects kept halt now =
+    now ≡ record was {
       moves = was.moves ++ Stop (stop_of (kept_at kept entries was.entries) (drop was.effects effects)) ∷ [];
       free = now.free;
       entries = min was.entries (length entries) + kept_by (Some kept);
       effects = length effects;
       halt = halt;
       is_halted = is_some halt;
-    }) →
-    OnErr result (now ≡ record was {
+    }
+
+-- .. and where there was no memory for it
+abbrev pub IsOwed : HistoryView → List Entry → Bool → Option Cause → HistoryView → Type 0
+IsOwed was entries kept halt now =
+    now ≡ record was {
       free = now.free;
       entries = min was.entries (length entries);
       restart = Some kept;
       halt = Some (chosen halt causes.Stop);
-    }) →
+    }
+
+-- a restart was told, or there was no memory for it
+pub anew : {T F : Type 0} (result : Result T F) (was now : HistoryView) (entries effects : List Entry) (kept : Bool)
+    (halt : Option Cause) → was.is_halted ≡ true → IsTold was → (kept ≡ true → was.entries < length entries) →
+    OnOk result (IsAnew was entries effects kept halt now) → OnErr result (IsOwed was entries kept halt now) →
     IsRestarted was entries effects kept (halt_after result halt) now
 anew (Ok value) was now entries effects kept halt halted told there ok not =
     told_anew was now entries effects kept halt told there ok
@@ -115,20 +124,7 @@ anew (Err fault) was now entries effects kept halt halted told there ok not =
 
 pub anew_silent : {T F : Type 0} (result : Result T F) (was now : HistoryView) (entries effects : List Entry)
     (kept : Bool) (halt : Option Cause) →
-    OnOk result (now ≡ record was {
-      moves = was.moves ++ Stop (stop_of (kept_at kept entries was.entries) (drop was.effects effects)) ∷ [];
-      free = now.free;
-      entries = min was.entries (length entries) + kept_by (Some kept);
-      effects = length effects;
-      halt = halt;
-      is_halted = is_some halt;
-    }) →
-    OnErr result (now ≡ record was {
-      free = now.free;
-      entries = min was.entries (length entries);
-      restart = Some kept;
-      halt = Some (chosen halt causes.Stop);
-    }) →
+    OnOk result (IsAnew was entries effects kept halt now) → OnErr result (IsOwed was entries kept halt now) →
     replies_in now.moves ≡ replies_in was.moves
 anew_silent (Ok value) was now entries effects kept halt ok not =
     ap (λ h. replies_in h.moves) ok
