@@ -1,6 +1,6 @@
 # run: the program on the first session.  build: proves and builds the program.  test: the gate.  trials: wrong bodies
-# that the gate does not try.  tables: the cases of all tables.  sessions: every session of sessions/ through the built
-# program.  bench: how times grow, of sessions, of the order of compilation, of texts read, of entries, of releases,
+# that the gate does not try.  tables: the cases of all tables.  sessions: every session of sessions/ itself through the
+# built program.  bench: how times grow, of sessions, of the order of compilation, of texts read, of entries, of releases,
 # of cloud configs and addresses, of goals, of calls on a cloud, of entering a lock.  fmt: lays out all sources.
 .PHONY: run build test trials tables sessions bench kills fmt
 

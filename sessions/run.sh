@@ -1,7 +1,8 @@
 #!/usr/bin/env bash
 # Runs every session of this folder through the program, which is built anew where it is older than a source, and
 # compares its output and status.
-# What stands in whole/ is for the program with all commands, which does not stand yet: it is not run.
+# What stands in whole/ is for the program with all commands, which does not stand yet: it is not run. There NAME.first
+# and NAME.second are two runs in one folder, the second of which finds the stores of the first.
 # A session is a file NAME with NAME.stdout and, where the status is not 0, NAME.status. A folder NAME.shelf
 # holds the files that lie where it runs.
 set -u
