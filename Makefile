@@ -1,18 +1,22 @@
 # run: the program on the first session.  build: proves and builds the program.  test: the gate.  trials: wrong bodies
-# that the gate does not try.  tables: the cases of all tables.  sessions: every session of sessions/ itself through the
-# built program.  bench: how times grow, of sessions, of the order of compilation, of texts read, of entries, of releases,
-# of cloud configs and addresses, of goals, of calls on a cloud, of entering a lock.  fmt: lays out all sources.
-.PHONY: run build test trials tables sessions bench kills fmt
+# that the gate does not try.  tables: the cases of all tables.  sessions: every session of sessions/ through the built
+# program.  stops: the director is stopped at each call of some sessions.  kills: what keeps stores, and the program, are
+# killed at random moments.  examples: what each example prints.  bench: how times grow, of sessions, of the order of
+# compilation, of texts read, of entries, of releases, of cloud configs and addresses, of goals, of calls on a cloud, of
+# entering a lock.  fmt: lays out all sources.
+.PHONY: run build test trials tables sessions stops kills examples bench fmt
 
 PROGRAM := crates/boshd/out/boshd
 
 run:
-	@if [ -x $(PROGRAM) ]; then \
-		$(PROGRAM) < sessions/first; \
+	@folder=$$(mktemp -d); \
+	if [ -x $(PROGRAM) ]; then \
+		(cd $$folder && $(CURDIR)/$(PROGRAM) < $(CURDIR)/sessions/first); \
 	else \
 		(cd crates/boshd && rt try < ../../sessions/first) && \
 		echo "this ran before its proof: make build proves the program and builds it" >&2; \
-	fi
+	fi; \
+	rm -rf $$folder crates/boshd/director.db* crates/boshd/cloud.db*
 
 build:
 	@cd crates/boshd && rt run < /dev/null > /dev/null
@@ -42,12 +46,21 @@ bench: build
 	@cd crates/bosh_lock_bench && rt run < /dev/null > /dev/null
 	@cd crates/bosh_book_bench && rt run < /dev/null > /dev/null
 	@cd crates/bosh_keep_bench && rt run < /dev/null > /dev/null
+	@cd crates/bosh_session_bench && rt run < /dev/null > /dev/null
+	@bash bench/sessions.sh
 	@bash bench/run.sh
 	@bash bench/keep.sh
 
-kills:
+stops: build
+	@bash stops/run.sh
+
+kills: build
 	@cd crates/bosh_keep_bench && rt run < /dev/null > /dev/null
 	@bash kills/run.sh
+	@bash kills/program.sh
+
+examples: build
+	@bash examples/shop/run.sh | diff examples/shop/stdout -
 
 fmt:
 	@for crate in crates/*/; do (cd "$$crate" && rt fmt) || exit 1; done

@@ -1,16 +1,16 @@
 #!/usr/bin/env bash
-# Prints how long sessions take, and how the times grow: deploys of 16, 64 and 256 machines, and 1, 4 and 8 MiB of
-# comment lines. And how long it takes to put 64, 128 and 256 works in order of compilation, where each needs the one
-# before it and where each needs all before it. And how long it takes to read texts of 64 KiB, 256 KiB and 1 MiB of one
-# form, and to look up each key of a mapping; and to read a MiB of each form, beside other readers. Then how fast the
-# body of a large entry is written and read, beside a plain copy of its bytes; and how long it takes to collect releases
-# of 64, 128 and 256 packages, each of which needs all before it. And how long it takes to check cloud configs of 8 and 16
-# networks, and to assign 512 addresses of which none, 16,384 and 32,768 are held; and the goals of 64, 256 and 512 instances,
-# each of one job, and of 64 jobs with 200 properties each. And how long ten calls take on each of
-# 5,000 and 10,000 machines of a cloud, and a load of what they leave; and to enter a lock and leave it 1,000,000 times, in
-# one thread alone and in each of two, beside a mutex. And how long a deploy of 64, 256 and 512 instances takes from its
-# opening to its end by claims and ends of calls, each of which is done at once, and the fold of its entries. Each time
-# is the least of five runs; only the ratios within one run say something.
+# Prints how long sessions of 1, 4 and 8 MiB of comment lines take, and how the times grow. And how long it takes to
+# put 64, 128 and 256 works in order of compilation, where each needs the one before it and where each needs all
+# before it. And how long it takes to read texts of 64 KiB, 256 KiB and 1 MiB of one form, and to look up each key of
+# a mapping; and to read a MiB of each form, beside other readers. Then how fast the body of a large entry is written
+# and read, beside a plain copy of its bytes; and how long it takes to collect releases of 64, 128 and 256 packages,
+# each of which needs all before it. And how long it takes to check cloud configs of 8 and 16 networks, and to assign
+# 512 addresses of which none, 16,384 and 32,768 are held; and the goals of 64, 256 and 512 instances, each of one
+# job, and of 64 jobs with 200 properties each. And how long ten calls take on each of 5,000 and 10,000 machines of a
+# cloud, and a load of what they leave; and to enter a lock and leave it 1,000,000 times, in one thread alone and in
+# each of two, beside a mutex. And how long a deploy of 64, 256 and 512 instances takes from its opening to its end by
+# claims and ends of calls, each of which is done at once, and the fold of its entries. Each time is the least of
+# five runs; only the ratios within one run say something.
 set -u
 here=$(cd "$(dirname "$0")" && pwd)
 top=$(dirname "$here")
@@ -27,26 +27,21 @@ book=$top/crates/bosh_book_bench/out/bosh_book_bench
 folder=$(mktemp -d)
 trap 'rm -rf "$folder"' EXIT
 
-# A session that deploys so many machines and lists them.
-machines() {
-    printf 'file m.json\n'
-    printf '|{"name":"dep","instance_groups":[{"name":"web","instances":%d,"azs":["z1","z2"],"vm_type":"small"}]}\n' "$1"
-    printf -- '-d dep deploy m.json\n!cloud\n'
-}
-
 # So many MiB of comment lines, each of 64 bytes.
 comments() {
     yes "# $(printf 'x%.0s' {1..61})" | head -c $(($1 * 1048576))
 }
 
-# The least time of five runs of a command, in microseconds. The first word is the file that it reads.
+# The least time of five runs of a command in an empty folder, in microseconds. The first word is the file that it reads.
 least() {
     local best= input=$1
     shift
     for _ in 1 2 3 4 5; do
         local begun ended took
+        rm -rf "$folder/here"
+        mkdir "$folder/here"
         begun=$(date +%s%N)
-        "$@" < "$input" > /dev/null
+        (cd "$folder/here" && "$@" < "$input" > /dev/null)
         ended=$(date +%s%N)
         took=$(((ended - begun) / 1000))
         if [ -z "$best" ] || [ "$took" -lt "$best" ]; then
@@ -137,7 +132,6 @@ doors() {
     done
 }
 
-table machines machines 16 64 256
 table "MiB of comment lines" comments 1 4 8
 table_of "$levels" chain "works, each on the one before" "the first" 64 128 256
 table_of "$levels" all "works, each on all before" "the first" 64 128 256

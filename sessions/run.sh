@@ -1,42 +1,64 @@
 #!/usr/bin/env bash
-# Runs every session of this folder through the program, which is built anew where it is older than a source, and
-# compares its output and status.
-# What stands in whole/ is for the program with all commands, which does not stand yet: it is not run. There NAME.first
-# and NAME.second are two runs in one folder, the second of which finds the stores of the first.
+# Runs every session of the given folders, or of this one, through the program, which is built anew where it is older
+# than a source, and compares its output and status. PROGRAM may name another program, which is taken as it is.
 # A session is a file NAME with NAME.stdout and, where the status is not 0, NAME.status. A folder NAME.shelf
-# holds the files that lie where it runs.
+# holds the files that lie where it runs. Two sessions NAME.first and NAME.second are two runs in one folder: the second
+# finds the stores that the first one left.
 set -u
 here=$(cd "$(dirname "$0")" && pwd)
 top=$(dirname "$here")
-if [ ! -d "$top/crates/boshd" ]; then
+[ "$#" -gt 0 ] || set -- "$here"
+
+# Builds the program where it is older than a source.
+build() {
+    local newer=()
+    [ -x "$program" ] && newer=(-newer "$program")
+    if [ -n "$(find "$top/crates" -name out -prune -o \( -name '*.rt' -o -name '*.antt' \) "${newer[@]}" -print -quit)" ]; then
+        make --no-print-directory -C "$top" build || exit 1
+    fi
+}
+
+if [ -n "${PROGRAM:-}" ]; then
+    program=$(realpath "$PROGRAM")
+elif [ -d "$top/crates/boshd" ]; then
+    program=$top/crates/boshd/out/boshd
+    build
+else
     echo "there is no program yet: sessions are skipped"
     exit 0
 fi
-program=$top/crates/boshd/out/boshd
-newer=()
-[ -x "$program" ] && newer=(-newer "$program")
-if [ -n "$(find "$top/crates" -name out -prune -o \( -name '*.rt' -o -name '*.antt' \) "${newer[@]}" -print -quit)" ]; then
-    make --no-print-directory -C "$top" build || exit 1
-fi
 passed=0
 failed=0
-for wanted in "$here"/*.stdout; do
-    [ -e "$wanted" ] || continue
-    session=${wanted%.stdout}
-    folder=$(mktemp -d)
+
+# Runs a session in a folder.
+run() {
+    local session=$1 folder=$2 status=0 ended
     [ -d "$session.shelf" ] && cp -R "$session.shelf/." "$folder"
-    status=0
     [ -e "$session.status" ] && status=$(cat "$session.status")
     (cd "$folder" && timeout 120 "$program" < "$session" > "$folder.out" 2> "$folder.err")
     ended=$?
-    if [ "$ended" = "$status" ] && cmp -s "$folder.out" "$wanted" && [ ! -s "$folder.err" ]; then
+    if [ "$ended" = "$status" ] && cmp -s "$folder.out" "$session.stdout" && [ ! -s "$folder.err" ]; then
         passed=$((passed + 1))
     else
         failed=$((failed + 1))
         echo "FAILED $(basename "$session"): status $ended, wanted $status"
-        diff "$wanted" "$folder.out" | head -20
+        diff "$session.stdout" "$folder.out" | head -20
     fi
-    rm -rf "$folder" "$folder.out" "$folder.err"
+}
+
+for sessions in "$@"; do
+    sessions=$(cd "$sessions" && pwd)
+    for wanted in "$sessions"/*.stdout; do
+        [ -e "$wanted" ] || continue
+        session=${wanted%.stdout}
+        folder=$(mktemp -d)
+        case $session in
+            *.second) ;;
+            *.first) run "$session" "$folder" && run "${session%.first}.second" "$folder" ;;
+            *) run "$session" "$folder" ;;
+        esac
+        rm -rf "$folder" "$folder.out" "$folder.err"
+    done
 done
 echo "$passed passed, $failed failed"
 [ "$failed" = 0 ]

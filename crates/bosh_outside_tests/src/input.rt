@@ -1,8 +1,8 @@
 //! Inputs in pieces, at their limits, and that fail.
 use crate::repeated::followed;
+use bosh_input::{Input, InputFault};
+use bosh_lines::{Command, LineFault};
 use bosh_ports::MemSource;
-use first_input::{Input, InputFault};
-use first_lines::Command;
 use std::alloc::Global;
 use std::process::Abort;
 
@@ -41,12 +41,12 @@ fn read_all(
 }
 
 // The word of a command, none for a line that is no command.
-fn word_of(asked: &Option<Command>) -> &'static [u8] {
+fn word_of(asked: &Result<Command, LineFault>) -> &'static [u8] {
     match asked {
-        None => b"",
-        Some(Command::File { .. }) => b"file",
-        Some(Command::Deploy { .. }) => b"deploy",
-        Some(Command::Cloud) => b"cloud",
+        Ok(Command::File { .. }) => b"file",
+        Ok(Command::Deploy(_)) => b"deploy",
+        Ok(Command::Cloud) => b"cloud",
+        _ => b"",
     }
 }
 

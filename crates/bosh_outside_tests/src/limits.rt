@@ -41,7 +41,7 @@ fn deploy_of(rt: &impl Abort, alloc: Global, size: usize) -> Vec<u8> {
 fn a_file_has_at_most_a_mebibyte(rt: HostRuntime) {
     let alloc = rt.alloc();
     for (size, wanted) in [
-        (1_048_575, b"error: session NotYet manifest\n".as_slice()),
+        (1_048_575, b"error: manifest Missing name\n".as_slice()),
         (1_048_576, b"error: yaml TooLarge\n"),
     ] {
         let session = deploy_of(&rt, alloc, size);

@@ -26,14 +26,14 @@ fn pieces_do_not_matter(rt: HostRuntime) {
 #[test]
 fn a_failed_input_ends_the_session_after_the_settled_commands(rt: HostRuntime) {
     let alloc = rt.alloc();
-    let done = b"task 1 done\n".as_slice();
-    // The deploy's line ends with byte 134 and the listing's with byte 141, the last.
+    let done = b"stemcell jammy/1.1\n".as_slice();
+    // The first line ends with byte 26, and the last with byte 62.
     let cases = [
         (1, b"".as_slice()),
-        (134, b""),
-        (135, done),
-        (141, done),
-        (142, FIRST_OUTPUT),
+        (26, b""),
+        (27, done),
+        (62, done),
+        (63, FIRST_OUTPUT),
     ];
     for (call, wanted) in cases {
         let input = Device {
@@ -49,12 +49,12 @@ fn a_failed_input_ends_the_session_after_the_settled_commands(rt: HostRuntime) {
 #[test]
 fn a_failed_output_ends_the_session_with_a_front(rt: HostRuntime) {
     let alloc = rt.alloc();
-    // The first reply takes three calls of five bytes.
+    // The first reply takes four calls of five bytes.
     let cases = [
         (1, b"".as_slice()),
-        (2, b"task "),
-        (3, b"task 1 don"),
-        (4, b"task 1 done\n"),
+        (2, b"stemc"),
+        (4, b"stemcell jammy/"),
+        (5, b"stemcell jammy/1.1\n"),
     ];
     for (call, wanted) in cases {
         let output = Device {

@@ -1,17 +1,16 @@
 //! A session in memory, and what it came to.
 use bosh_base::Text;
 use bosh_ports::{MemKeeper, MemShelf, MemSink, MemSource, OpenGate};
-use first_session::run;
+use bosh_program::run;
 use std::alloc::Global;
 use std::process::Abort;
 
-/// A deploy of two machines, and what is there then.
+/// A stemcell is uploaded, a file is kept, and the stemcell is uploaded again.
 pub(crate) const FIRST: &[u8] =
-    b"file m.json\n|{\"name\":\"dep\",\"instance_groups\":[{\"name\":\"web\",\"instances\":2,\"azs\":[\"z1\",\"z2\"],\"vm_type\":\"small\"}]}\n-d dep deploy m.json\n!cloud\n";
+    b"upload-stemcell jammy 1.1\nfile a\n|x\nupload-stemcell jammy 1.1\n";
 
 /// What it prints.
-pub(crate) const FIRST_OUTPUT: &[u8] =
-    b"task 1 done\nvm-1 dep/web/0 z1 - stopped -\nvm-2 dep/web/1 z2 - stopped -\n";
+pub(crate) const FIRST_OUTPUT: &[u8] = b"stemcell jammy/1.1\nstemcell jammy/1.1 already there\n";
 
 /// How the input or the output gives and takes: so many bytes at most a call, and which call fails.
 #[derive(Clone, Copy)]

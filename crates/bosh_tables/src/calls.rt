@@ -1,5 +1,5 @@
 //! The calls by their names.
-use crate::{addresses, lines, lists, manifests, names, templates, texts};
+use crate::{addresses, lists, names, templates, texts};
 use bosh_cases::{Calls, CaseFault, Outcome};
 use bosh_yaml::Node;
 use std::alloc::Global;
@@ -16,9 +16,6 @@ impl Calls for TextCalls {
         given: &Node,
     ) -> Result<Outcome, CaseFault> {
         match call {
-            "goal.bare" => manifests::goal(alloc, given),
-            "lines.parse" => lines::command(alloc, given),
-            "manifest.bare" => manifests::bare(alloc, given),
             "template.render" => templates::text(alloc, setting, given),
             "vars.fill" => texts::filled(alloc, setting, given),
             "yaml.canon" => texts::canonical(alloc, given),

@@ -4,9 +4,7 @@
 
 mod addresses;
 mod calls;
-mod lines;
 mod lists;
-mod manifests;
 mod names;
 mod templates;
 mod texts;

@@ -92,7 +92,10 @@ impl<K: Keeper, L: Keeper> Site<K, L> {
                 self.history.push(Move::Said(Said { command, reply }));
                 Ok(())
             }
-            Err(fault) => Err(fault),
+            Err(fault) => {
+                drop(reply);
+                Err(fault)
+            }
         }
     }
 

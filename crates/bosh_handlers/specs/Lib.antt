@@ -1,0 +1,2 @@
+pub mod SiteFaults
+pub mod Tasks

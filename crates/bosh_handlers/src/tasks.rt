@@ -1,0 +1,109 @@
+//! Tasks are carried to their ends, and told.
+ghost use Rattle.std.specs.Option.{option_map_or};
+ghost use Rattle.std.specs.Prelude.{◌≡◌, IfOk};
+ghost use Rattle.bosh_answers.specs.Ends.{end_of, told_end};
+ghost use Rattle.bosh_director.specs.Left.{told_left};
+ghost use Rattle.bosh_handlers.specs.Tasks.{cause_of};
+ghost use Rattle.bosh_world.specs.Silent.{IsSilent};
+
+use crate::ends::{halted_by, stopped};
+use bosh_answers::{AnswerFault, end_of, refused, told_end};
+use bosh_base::{Cause, Reply};
+use bosh_book::BookFault;
+use bosh_crew::drive;
+use bosh_director::{Left, Opened};
+use bosh_ports::Keeper;
+use bosh_records::Records;
+use bosh_world::{Site, SiteFault};
+use std::alloc::Global;
+
+/// Carries tasks to their ends.
+pub fn carry_out<K: Keeper, L: Keeper>(
+    tasks: &[u64],
+    site: &mut Site<K, L>,
+) -> Result<Left, AnswerFault>
+    ensures silent { IsSilent site.old site.new }
+{
+    let driven = drive(site, tasks);
+    let left = left_by(&driven);
+    drop(driven);
+    left
+}
+
+/// Why a site halted, by the fault that told it.
+pub(crate) fn cause_of(fault: &SiteFault) -> Option<Cause>
+    ensures { result ≡ cause_of fault.now }
+{
+    match fault {
+        SiteFault::Book(BookFault::Stopped) => Some(Cause::Stop),
+        SiteFault::Book(BookFault::StoreFault) => Some(Cause::Store),
+        SiteFault::CloudStore => Some(Cause::CloudStore),
+        _ => None,
+    }
+}
+
+fn left_by(driven: &Result<(), SiteFault>) -> Result<Left, AnswerFault> {
+    match driven {
+        Ok(()) => Ok(Left::Nothing),
+        Err(fault) => left_after(fault),
+    }
+}
+
+// What a fault left of a task.
+fn left_after(fault: &SiteFault) -> Result<Left, AnswerFault> {
+    match fault {
+        SiteFault::Book(BookFault::Full) => Ok(Left::Full),
+        SiteFault::Book(BookFault::Locked { task }) => Ok(Left::Waits(*task)),
+        _ => match cause_of(fault) {
+            Some(cause) => Ok(Left::Halted(cause)),
+            None => Err(AnswerFault::Memory),
+        },
+    }
+}
+
+/// Carries out the task that was opened, where one was, and tells how it ended.
+pub fn finish<K: Keeper, L: Keeper>(
+    alloc: Global,
+    opened: Opened,
+    site: &mut Site<K, L>,
+) -> Result<Reply, AnswerFault>
+    ensures silent { IsSilent site.old site.new }
+{
+    match opened {
+        Opened::Refused(reply) => Ok(reply),
+        Opened::Task(task) => finish_task(alloc, task, site),
+    }
+}
+
+fn finish_task<K: Keeper, L: Keeper>(
+    alloc: Global,
+    task: u64,
+    site: &mut Site<K, L>,
+) -> Result<Reply, AnswerFault>
+    ensures silent { IsSilent site.old site.new }
+{
+    let left = carry_out(&[task], site)?;
+    told(alloc, task, site.book().records(), left)
+}
+
+/// How a task ended, or why it has no end.
+pub fn told(alloc: Global, task: u64, records: &Records, left: Left) -> Result<Reply, AnswerFault>
+    ensures { IfOk result (λ reply. reply ≡ option_map_or (told_end task) (end_of records.now task) (told_left left)) }
+{
+    match end_of(records, task) {
+        Some(end) => told_end(alloc, task, end),
+        None => told_left(alloc, left),
+    }
+}
+
+/// How a task is told that has no end.
+fn told_left(alloc: Global, left: Left) -> Result<Reply, AnswerFault>
+    ensures { IfOk result (λ reply. reply ≡ told_left left) }
+{
+    match left {
+        Left::Halted(cause) => halted_by(alloc, cause),
+        Left::Full => refused(alloc, BookFault::Full),
+        Left::Waits(task) => refused(alloc, BookFault::Locked { task }),
+        Left::Nothing => stopped(alloc),
+    }
+}

@@ -1,0 +1,105 @@
+ghost use Rattle.std.specs.Prelude.{◌≡◌, IfOk, IfSome, None, OnErr, OnOk, Some};
+ghost use Rattle.bosh_base.specs.declared.reply.Refusal.{Refusal};
+ghost use Rattle.bosh_handlers.specs.SiteFaults.{site_told};
+ghost use Rattle.bosh_program.specs.Ends.{IsLineWritten, IsPlain};
+ghost use Rattle.bosh_report.specs.Refusal.{refusal_line};
+ghost use Rattle.bosh_transcript.specs.declared.status.Status.TheVariants as statuses;
+
+use crate::Directing;
+use bosh_answers::AnswerFault;
+use bosh_base::Reply;
+use bosh_handlers::refusal_of;
+use bosh_ports::{Keeper, Shelf, Sink, Source};
+use bosh_report::say;
+use bosh_session::carry_out_all;
+use bosh_transcript::{Status, write_all};
+use bosh_world::{Site, SiteFault, Unloaded};
+use std::alloc::Global;
+
+/// How a session ended, and what it leaves.
+#[derive(Drop)]
+pub struct Ended<K: Keeper, L: Keeper> {
+    pub status: Status,
+    /// The site as the session left it, where it was loaded.
+    pub site: Option<Site<K, L>>,
+    /// The keepers that were not loaded, with status `Unloaded`.
+    pub refused: Option<Unloaded<K, L>>,
+}
+
+/// Carries out the commands of an input, one after the other, over two keepers, and writes what each is answered.
+pub fn session_plain<I: Source, O: Sink, F: Shelf, K: Keeper + Drop, L: Keeper + Drop>(
+    alloc: Global,
+    input: &mut I,
+    out: &mut O,
+    shelf: &mut F,
+    store: K,
+    cloud: L,
+) -> Ended<K, L>
+    ensures { IsPlain I.left I.faults O.written O.faults K.bodies K.faults K.is_broken L.bodies L.faults
+        input.old input.new out.old out.new store cloud result }
+{
+    match Site::load(alloc, store, cloud) {
+        Ok(site) => {
+            let mut directing = Directing { site };
+            let status = carry_out_all(alloc, input, out, shelf, &mut directing);
+            Ended {
+                status,
+                site: Some(directing.site),
+                refused: None,
+            }
+        }
+        Err(unloaded) => not_loaded(alloc, out, unloaded),
+    }
+}
+
+// The end of a session over keepers that were not loaded.
+fn not_loaded<O: Sink, K: Keeper + Drop, L: Keeper + Drop>(
+    alloc: Global,
+    out: &mut O,
+    unloaded: Unloaded<K, L>,
+) -> Ended<K, L>
+    ensures no_site { result.site ≡ None }
+    ensures refused { IfSome result.refused (λ back. (back ≡ unloaded) × (result.status ≡ statuses.Unloaded)
+        × IsLineWritten O.written O.faults unloaded.fault out.old out.new) }
+    ensures memory { result.refused ≡ None → (result.status ≡ statuses.Memory) × (out.new ≡ out.old) }
+{
+    match tell_fault(alloc, out, &unloaded.fault) {
+        Ok(()) => Ended {
+            status: Status::Unloaded,
+            site: None,
+            refused: Some(unloaded),
+        },
+        Err(AnswerFault::Memory) => {
+            drop(unloaded);
+            Ended {
+                status: Status::Memory,
+                site: None,
+                refused: None,
+            }
+        }
+    }
+}
+
+/// Writes the line of a fault, as far as the output takes it.
+pub(crate) fn tell_fault<O: Sink>(
+    alloc: Global,
+    out: &mut O,
+    fault: &SiteFault,
+) -> Result<(), AnswerFault>
+    ensures line { OnOk result (IsLineWritten O.written O.faults fault.now out.old out.new) }
+    ensures memory { OnErr result (out.new ≡ out.old) }
+{
+    let text = line_of(alloc, fault)?;
+    let _ = write_all(out, text.as_slice());
+    Ok(())
+}
+
+fn line_of(alloc: Global, fault: &SiteFault) -> Result<Vec<u8>, AnswerFault>
+    ensures line { IfOk result (λ line. (told : Refusal) × (site_told fault.now ≡ Some told)
+        × (line.items ≡ refusal_line told)) }
+{
+    let reply = Reply::Refused(refusal_of(alloc, fault)?);
+    let line = say(alloc, &reply);
+    drop(reply);
+    Ok(line?)
+}

@@ -1,8 +1,0 @@
-pub mod CallLemmas
-pub mod ClaimLemmas
-pub mod CurrentLemmas
-pub mod LeftLemmas
-pub mod NoteLemmas
-pub mod StepLemmas
-pub mod TurnLemmas
-pub mod WaitLemmas

@@ -1,4 +1,0 @@
-pub mod CloudView
-pub mod NewMachine
-pub mod Orderly
-pub mod Unused

@@ -1,6 +1,0 @@
-//! Carries tasks to their ends.
-#![tactic(auto)]
-
-mod driver;
-
-pub use driver::drive;

@@ -1,9 +1,0 @@
-pub mod BlockLemmas
-pub mod CommandLemmas
-pub mod FaultLemmas
-pub mod FrontLemmas
-pub mod LineLemmas
-pub mod NextLemmas
-pub mod PassedLemmas
-pub mod ReadsLemmas
-pub mod SeenLemmas

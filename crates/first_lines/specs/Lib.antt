@@ -1,5 +1,0 @@
-pub mod Command
-pub mod Fault
-pub mod Path
-pub mod Variable
-pub mod Words
