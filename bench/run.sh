@@ -9,8 +9,9 @@
 # job, and of 64 jobs with 200 properties each. And how long ten calls take on each of 5,000 and 10,000 machines of a
 # cloud, and a load of what they leave; and to enter a lock and leave it 1,000,000 times, in one thread alone and in
 # each of two, beside a mutex. And how long a deploy of 64, 256 and 512 instances takes from its opening to its end by
-# claims and ends of calls, each of which is done at once, and the fold of its entries. Each time is the least of
-# five runs; only the ratios within one run say something.
+# claims and ends of calls, each of which is done at once, and the fold of its entries; and how long it takes where
+# each call is performed by a cloud. Each time is the least of five runs; only the ratios within one run say
+# something.
 set -u
 here=$(cd "$(dirname "$0")" && pwd)
 top=$(dirname "$here")
@@ -24,6 +25,7 @@ cloud=$top/crates/bosh_cloud_bench/out/bosh_cloud_bench
 lock=$top/crates/bosh_lock_bench/out/bosh_lock_bench
 goals=$top/crates/bosh_goal_bench/out/bosh_goal_bench
 book=$top/crates/bosh_book_bench/out/bosh_book_bench
+crew=$top/crates/bosh_crew_bench/out/bosh_crew_bench
 folder=$(mktemp -d)
 trap 'rm -rf "$folder"' EXIT
 
@@ -153,5 +155,6 @@ table_of "$cloud" load "machines with ten calls, loaded" "the first" 5000 10000
 doors 1000
 table_of "$book" drive "instances, by claims and ends of calls" "the first" 64 256 512
 table_of "$book" fold "instances, their entries folded" "the first" 64 256 512
+table_of "$crew" drive "instances, driven on a site" "the first" 64 256 512
 table_of "$goals" plain "instances of one job, their goal" "the first" 64 256 512
 table_of "$goals" full "instances of 64 jobs, their goal" "the first" 64 256 512

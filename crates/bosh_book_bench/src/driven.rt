@@ -1,7 +1,9 @@
 //! A task that is carried out to its end.
-use bosh_base::{Answer, Call, TaskEnd};
+use bosh_base::{Answer, Call, Name, TaskEnd};
+use bosh_bench_deploys::CONFIG;
 use bosh_book::{Ask, Book, Claim, Permit};
 use bosh_ports::MemKeeper;
+use std::alloc::Global;
 
 /// How many calls a task may make.
 const MOST_CALLS: usize = 10_000;
@@ -63,4 +65,21 @@ pub(crate) fn is_driven(book: &mut Book<MemKeeper>, ask: &Ask) -> bool {
         }
     }
     is_done(book, task)
+}
+
+/// A new book.
+pub(crate) fn new_book(alloc: Global) -> Option<Book<MemKeeper>> {
+    Book::load(alloc, MemKeeper::new(alloc)).ok()
+}
+
+fn is_told_of(book: &mut Book<MemKeeper>, os: &Name) -> bool {
+    book.set_config(CONFIG.as_bytes()).ok().is_some() && book.add_stemcell(os, b"1").ok().is_some()
+}
+
+/// Whether the book knows the cloud config and the stemcell now.
+pub(crate) fn is_told(book: &mut Book<MemKeeper>, alloc: Global) -> bool {
+    match Name::of(alloc, b"jammy").ok() {
+        Some(os) => is_told_of(book, &os),
+        None => false,
+    }
 }

@@ -3,12 +3,11 @@
 //! Without words it does nothing.
 #![tactic(auto)]
 
-mod deploy;
 mod driven;
 
-use crate::deploy::{ask_of, is_told, new_book};
-use crate::driven::is_driven;
+use crate::driven::{is_driven, is_told, new_book};
 use bosh_base::Entry;
+use bosh_bench_deploys::{MOST, ask_of, both, timed, took};
 use bosh_book::{Ask, Book};
 use bosh_fold::apply;
 use bosh_ports::MemKeeper;
@@ -16,11 +15,8 @@ use bosh_records::Records;
 use std::alloc::Global;
 use std::process::ExitCode;
 use std::rt::Clock;
-use std::time::{Duration, Instant};
+use std::time::Duration;
 use std::{env, io};
-
-/// How many instances there may be.
-const MOST: u32 = 512;
 
 /// What is timed.
 #[derive(Clone, Copy, Debug, PartialEq, Eq)]
@@ -50,32 +46,7 @@ fn time_for(clock: &impl Clock, alloc: Global, form: Form, count: u32) -> Option
 /// A book, and what it is asked.
 type Asked = (Book<MemKeeper>, Ask);
 
-// These are generic, since a book and what it is asked are dear to prove where they are let go.
-fn both<A: Drop, B: Drop>(one: Option<A>, other: Option<B>) -> Option<(A, B)> {
-    let one = one?;
-    Some((one, other?))
-}
-
-fn took<T: Drop>(timed: Option<(T, Duration)>) -> Option<Duration> {
-    let (_value, took) = timed?;
-    Some(took)
-}
-
-// What is done to a value, and how long that took, where it was done.
-fn timed<T: Drop, F: FnOnce(&mut T) -> bool + Drop>(
-    clock: &impl Clock,
-    value: Option<T>,
-    run: F,
-) -> Option<(T, Duration)>
-    requires { F.IsAlwaysCallable run }
-{
-    let mut value = value?;
-    let start = Instant::now(clock).ok()?;
-    let is_done = run(&mut value);
-    let took = start.elapsed(clock).ok()?;
-    if is_done { Some((value, took)) } else { None }
-}
-
+// Generic, since a book is dear to prove where it is let go.
 fn untimed<T: Drop>(timed: Option<(T, Duration)>) -> Option<T> {
     let (value, _took) = timed?;
     Some(value)

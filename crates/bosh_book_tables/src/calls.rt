@@ -1,6 +1,6 @@
 //! The calls by their names.
 use crate::stand::Stand;
-use crate::steps::take_steps;
+use bosh_book_words::take_steps;
 use bosh_cases::{Calls, CaseFault, Outcome};
 use bosh_yaml::Node;
 use std::alloc::Global;

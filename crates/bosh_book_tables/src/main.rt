@@ -2,22 +2,13 @@
 //! that comes out otherwise than it states.
 #![tactic(auto)]
 
-mod asks;
 mod calls;
-mod claims;
-mod entries;
-mod faults;
 mod foldings;
-mod openings;
-mod permits;
 mod running;
 mod stand;
 mod steps;
 mod store;
-mod told;
 mod versions;
-mod words;
-mod written;
 
 use crate::calls::BookCalls;
 use bosh_case_runner::run_tables;

@@ -1,15 +1,15 @@
 //! A book, and the permits that it gave.
-use crate::permits::Permits;
 use crate::store::{Store, new_store};
 use bosh_base::{Answer, Copyable, Owner, Spec};
 use bosh_book::{Book, BookFault, Claim, Permit};
+use bosh_book_words::Places;
 use bosh_cases::CaseFault;
 use std::alloc::Global;
 
 /// A book over its store, with the permits that were given and not spent.
 pub(crate) struct Running {
     pub(crate) book: Book<Store>,
-    permits: Permits,
+    permits: Places<Permit>,
 }
 
 /// What a claim was answered; the permit is kept.
@@ -32,7 +32,7 @@ impl Running {
     pub(crate) fn of(book: Book<Store>) -> Running {
         Running {
             book,
-            permits: Permits::none(),
+            permits: Places::none(),
         }
     }
 
@@ -65,7 +65,7 @@ impl Running {
     // A permit for which there is no place is given up.
     fn keep(&mut self, permit: Permit) -> Result<Claimed, BookFault> {
         let n = permit.n();
-        match self.permits.keep(permit) {
+        match self.permits.keep(n, permit) {
             Ok(()) => Ok(Claimed::Work(n)),
             Err(permit) => {
                 self.book.abandon(permit);
@@ -85,13 +85,19 @@ impl Running {
         };
         match self.book.settle(permit, answer) {
             Ok(()) => Ok(Ok(())),
-            Err((permit, answer, fault)) => Ok(self.keep_after(permit, answer, fault)),
+            Err((permit, answer, fault)) => Ok(self.keep_after(n, permit, answer, fault)),
         }
     }
 
     // Generic, since an answer and a refusal that are let go are dear to prove.
-    fn keep_after<A: Drop, E>(&mut self, permit: Permit, _answer: A, fault: E) -> Result<(), E> {
-        match self.permits.keep(permit) {
+    fn keep_after<A: Drop, E>(
+        &mut self,
+        n: u64,
+        permit: Permit,
+        _answer: A,
+        fault: E,
+    ) -> Result<(), E> {
+        match self.permits.keep(n, permit) {
             Ok(()) => {}
             Err(permit) => self.book.abandon(permit),
         }

@@ -1,13 +1,11 @@
 //! The book that a case works on.
-use crate::claims::push_permit;
-use crate::entries::push_entries;
 use crate::foldings::folds_again;
 use crate::running::{Claimed, Running};
 use crate::store::{Store, spoiled, store_at};
-use crate::told::Told;
 use crate::versions::{first_refused, may_stand, refused_in};
 use bosh_base::{Answer, Entry};
 use bosh_book::{Book, Permit};
+use bosh_book_texts::{Told, push_entries, push_permit};
 use bosh_case_texts::push_count;
 use bosh_cases::{CaseFault, Outcome, push_parts};
 use bosh_cloud::SimCloud;

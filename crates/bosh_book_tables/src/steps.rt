@@ -1,47 +1,19 @@
 //! The steps of a case.
-use crate::asks::{asked, deploy};
 use crate::stand::Stand;
-use crate::told::Opened;
-use crate::written::entry;
 use bosh_base::{Answer, Name, Text};
 use bosh_book::Ask;
+use bosh_book_texts::Opened;
+use bosh_book_words::{Steps, asked, deploy, over, with};
 use bosh_case_files::release;
 use bosh_case_words::{Worded, number, word};
 use bosh_cases::{CaseFault, Given, characters};
+use bosh_entry_words::entry;
 use bosh_ports::Rig;
 use bosh_yaml::Node;
 use std::str::SplitWhitespace;
 
-// Generic, since what is asked for is let go after it, which is dear to prove where it has many kinds.
-fn with<T: Drop, F: FnOnce(&mut Stand, T) -> Result<(), CaseFault> + Drop>(
-    stand: &mut Stand,
-    given: Result<T, CaseFault>,
-    ask: F,
-) -> Result<(), CaseFault>
-    requires { F.IsAlwaysCallable ask }
-{
-    match given {
-        Ok(given) => ask(stand, given),
-        Err(fault) => Err(fault),
-    }
-}
-
-// The same with what is looked at and let go.
-fn over<T: Drop, F: FnOnce(&mut Stand, &T) -> Result<(), CaseFault> + Drop>(
-    stand: &mut Stand,
-    given: Result<T, CaseFault>,
-    ask: F,
-) -> Result<(), CaseFault>
-    requires { F.IsAlwaysCallable ask }
-{
-    match given {
-        Ok(given) => ask(stand, &given),
-        Err(fault) => Err(fault),
-    }
-}
-
-fn begin(stand: &mut Stand, ask: Ask) -> Result<(), CaseFault> {
-    let task = stand.book()?.begin_task(&ask);
+fn begin(stand: &mut Stand, ask: &Ask) -> Result<(), CaseFault> {
+    let task = stand.book()?.begin_task(ask);
     stand.tell_answer(task.map(Opened))
 }
 
@@ -108,7 +80,8 @@ fn rig_step(stand: &mut Stand, words: &mut SplitWhitespace<'_>) -> Result<(), Ca
 // An entry in words.
 fn entry_step(stand: &mut Stand, text: &str) -> Result<(), CaseFault> {
     let alloc = stand.alloc();
-    let entry = entry(alloc, stand.book()?, text);
+    let book = stand.book()?;
+    let entry = entry(alloc, book.records(), book.entries(), text);
     over(stand, entry, |stand, entry| stand.ask(entry))
 }
 
@@ -119,10 +92,14 @@ fn ask_step(
     words: &mut SplitWhitespace<'_>,
 ) -> Result<(), CaseFault> {
     let ask = asked(stand.alloc(), verb, words);
-    with(stand, ask, |stand, ask| match ask {
-        Some(ask) => begin(stand, ask),
-        None => Err(CaseFault::Form),
-    })
+    over(
+        stand,
+        ask,
+        |stand: &mut Stand, ask: &Option<Ask>| match ask {
+            Some(ask) => begin(stand, ask),
+            None => Err(CaseFault::Form),
+        },
+    )
 }
 
 fn take_words(stand: &mut Stand, text: &str) -> Result<(), CaseFault> {
@@ -171,36 +148,21 @@ fn take_map(stand: &mut Stand, node: &Node) -> Result<(), CaseFault> {
         return stand.ask_version(parts.as_slice());
     }
     match node.find(b"deploy") {
-        Some(_) => with(stand, deploy(alloc, node), begin),
+        Some(_) => over(stand, deploy(alloc, node), begin),
         None => Err(CaseFault::Form),
     }
 }
 
-// A step is words, a map, or a word after an `@` under which the setting has one.
-fn take_step(stand: &mut Stand, setting: &Node, node: &Node) -> Result<(), CaseFault> {
-    match node {
-        Node::Text(text) => take_named(stand, setting, characters(text)?),
-        _ => take_map(stand, node),
+impl Steps for Stand {
+    fn take_words(&mut self, text: &str) -> Result<(), CaseFault> {
+        take_words(self, text)
     }
-}
 
-fn take_named(stand: &mut Stand, setting: &Node, text: &str) -> Result<(), CaseFault> {
-    match text.strip_prefix('@') {
-        None => take_words(stand, text),
-        Some(key) => match setting.find(key.as_bytes()) {
-            Some(node) => take_map(stand, node),
-            None => Err(CaseFault::Form),
-        },
+    fn take_map(&mut self, node: &Node) -> Result<(), CaseFault> {
+        take_map(self, node)
     }
-}
 
-/// Takes the steps of a list, one after the other.
-pub(crate) fn take_steps(stand: &mut Stand, setting: &Node, given: &Node) -> Result<(), CaseFault> {
-    let Node::List(steps) = given else {
-        return Err(CaseFault::Form);
-    };
-    for step in steps.as_slice() {
-        take_step(stand, setting, step)?;
+    fn end_step(&mut self) -> Result<(), CaseFault> {
+        Ok(())
     }
-    Ok(())
 }

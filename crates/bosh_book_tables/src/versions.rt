@@ -1,11 +1,11 @@
 //! Other lists of entries than a book's, and which of their entries may stand.
 use crate::store::Store;
-use crate::written::entry;
 use bosh_base::{Copyable, Entry};
 use bosh_book::Book;
 use bosh_case_words::number_of;
 use bosh_cases::{CaseFault, characters};
 use bosh_claim::is_allowed;
+use bosh_entry_words::entry;
 use bosh_fold::apply;
 use bosh_owned::after;
 use bosh_records::Records;
@@ -97,7 +97,7 @@ fn push_part(
         Some(first) if first.is_ascii_digit() => {
             push_run(alloc, version, book.entries(), run_of(text)?)
         }
-        _ => push(version, entry(alloc, book, text)),
+        _ => push(version, entry(alloc, book.records(), book.entries(), text)),
     }
 }
 

@@ -1,7 +1,7 @@
 //! Entries in words, one a line.
-use crate::claims::{push_answer, push_call};
+use crate::calls::{push_answer, push_call};
 use bosh_base::{
-    Begin, End, Entry, Failure, Inst, Snapshot, TaskError, TaskKind, TaskOpen, Update,
+    Begin, End, Entry, Failure, Inst, Loss, Snapshot, TaskError, TaskKind, TaskOpen, Update, Write,
 };
 use bosh_case_texts::{push_count, push_inst, push_owner};
 use bosh_cases::push_parts;
@@ -100,7 +100,23 @@ fn push_snapshot(text: &mut Vec<u8>, snapshot: &Snapshot) -> Result<(), AllocErr
     push_count(text, b" tasks ", snapshot.tasks.len() as u64)
 }
 
-fn push_entry(text: &mut Vec<u8>, entry: &Entry) -> Result<(), AllocError> {
+fn push_write(text: &mut Vec<u8>, write: &Write) -> Result<(), AllocError> {
+    push_count(text, b"Write ", write.disk)?;
+    push_parts(text, &[b" ", write.text.as_slice()])
+}
+
+/// Adds a machine that is lost, as `Lost 1 whole`.
+pub fn push_loss(text: &mut Vec<u8>, loss: &Loss) -> Result<(), AllocError> {
+    push_count(text, b"Lost ", loss.vm)?;
+    if loss.whole {
+        push_parts(text, &[b" whole"])
+    } else {
+        push_parts(text, &[b" silent"])
+    }
+}
+
+/// Adds an entry, as `UpdBegin 1 dep/web/0`.
+pub fn push_entry(text: &mut Vec<u8>, entry: &Entry) -> Result<(), AllocError> {
     match entry {
         Entry::Release(release) => push_parts(
             text,
@@ -130,12 +146,14 @@ fn push_entry(text: &mut Vec<u8>, entry: &Entry) -> Result<(), AllocError> {
         Entry::TaskDone(task) => push_count(text, b"TaskDone ", *task),
         Entry::TaskError(error) => push_error(text, error),
         Entry::Snapshot(snapshot) => push_snapshot(text, snapshot),
-        Entry::Effect(_) | Entry::Write(_) | Entry::Lost(_) => push_parts(text, &[b"other"]),
+        Entry::Effect(effect) => push_count(text, b"Effect ", effect.n),
+        Entry::Write(write) => push_write(text, write),
+        Entry::Lost(loss) => push_loss(text, loss),
     }
 }
 
 /// Adds entries, each on a line.
-pub(crate) fn push_entries(text: &mut Vec<u8>, entries: &[Entry]) -> Result<(), AllocError> {
+pub fn push_entries(text: &mut Vec<u8>, entries: &[Entry]) -> Result<(), AllocError> {
     for entry in entries {
         push_entry(text, entry)?;
         text.push(b'\n')?;

@@ -4,6 +4,7 @@ use bosh_book::BookFault;
 use bosh_case_texts::{push_count, push_inst, push_joint};
 use bosh_cases::{CaseFault, push_parts};
 use bosh_uses::GoalFault;
+use std::alloc::AllocError;
 
 fn goal_word(fault: &GoalFault) -> &'static [u8] {
     match fault {
@@ -33,24 +34,23 @@ impl Told for BookFault {
     fn push_to(&self, text: &mut Vec<u8>) -> Result<(), CaseFault> {
         match self {
             BookFault::Memory => Err(CaseFault::Memory),
-            fault => push_fault(text, fault),
+            fault => Ok(push_fault(text, fault)?),
         }
     }
 }
 
 // Adds a refusal, with what it names.
-fn push_fault(text: &mut Vec<u8>, fault: &BookFault) -> Result<(), CaseFault> {
+fn push_fault(text: &mut Vec<u8>, fault: &BookFault) -> Result<(), AllocError> {
     match fault {
-        BookFault::Damaged { position } => push_count(text, b"Damaged ", *position)?,
-        BookFault::Locked { task } => push_count(text, b"Locked ", *task)?,
-        BookFault::NoDisk { disk } => push_count(text, b"NoDisk ", *disk)?,
-        BookFault::NotOrphaned { disk } => push_count(text, b"NotOrphaned ", *disk)?,
-        BookFault::Differs { name } => push_parts(text, &[b"Differs ", name.as_slice()])?,
-        BookFault::NoDeployment { name } => push_parts(text, &[b"NoDeployment ", name.as_bytes()])?,
-        BookFault::NoInstance { inst } => push_inst(text, b"NoInstance ", inst)?,
-        BookFault::Consumed { by } => push_joint(text, b"Consumed ", by)?,
-        BookFault::Goal(fault) => push_parts(text, &[goal_word(fault)])?,
-        fault => push_parts(text, &[word(fault)])?,
+        BookFault::Damaged { position } => push_count(text, b"Damaged ", *position),
+        BookFault::Locked { task } => push_count(text, b"Locked ", *task),
+        BookFault::NoDisk { disk } => push_count(text, b"NoDisk ", *disk),
+        BookFault::NotOrphaned { disk } => push_count(text, b"NotOrphaned ", *disk),
+        BookFault::Differs { name } => push_parts(text, &[b"Differs ", name.as_slice()]),
+        BookFault::NoDeployment { name } => push_parts(text, &[b"NoDeployment ", name.as_bytes()]),
+        BookFault::NoInstance { inst } => push_inst(text, b"NoInstance ", inst),
+        BookFault::Consumed { by } => push_joint(text, b"Consumed ", by),
+        BookFault::Goal(fault) => push_parts(text, &[goal_word(fault)]),
+        fault => push_parts(text, &[word(fault)]),
     }
-    Ok(())
 }

@@ -1,16 +1,18 @@
 //! A deploy of instances in eight groups.
+use bosh_asks::{Ask, Deploy};
 use bosh_base::{Digest, Name};
-use bosh_book::{Ask, Book, Deploy};
 use bosh_manifest::Manifest;
-use bosh_ports::MemKeeper;
 use bosh_yaml::read;
 use std::alloc::{AllocError, Global};
 
 /// How many groups the instances stand in.
 const GROUPS: u32 = 8;
 
+/// How many instances there may be.
+pub const MOST: u32 = 512;
+
 /// The text of the cloud config.
-const CONFIG: &str = "azs: [{name: z1}]
+pub const CONFIG: &str = "azs: [{name: z1}]
 networks:
 - name: net
   subnets: [{range: 10.64.0.0/16, gateway: 10.64.0.1, az: z1}]
@@ -58,8 +60,8 @@ fn manifest_of(alloc: Global, instances: u32) -> Option<Manifest> {
     checked(alloc, &dep, text.as_str())
 }
 
-/// The task that deploys so many instances.
-pub(crate) fn ask_of(alloc: Global, instances: u32) -> Option<Ask> {
+/// The task that deploys so many instances, of the stemcell `jammy`.
+pub fn ask_of(alloc: Global, instances: u32) -> Option<Ask> {
     let manifest = manifest_of(alloc, instances)?;
     Some(Ask::Deploy(Deploy {
         manifest,
@@ -67,21 +69,4 @@ pub(crate) fn ask_of(alloc: Global, instances: u32) -> Option<Ask> {
         fix: false,
         source: Digest([0; 32]),
     }))
-}
-
-/// A new book.
-pub(crate) fn new_book(alloc: Global) -> Option<Book<MemKeeper>> {
-    Book::load(alloc, MemKeeper::new(alloc)).ok()
-}
-
-fn is_told_of(book: &mut Book<MemKeeper>, os: &Name) -> bool {
-    book.set_config(CONFIG.as_bytes()).ok().is_some() && book.add_stemcell(os, b"1").ok().is_some()
-}
-
-/// Whether the book knows the cloud config and the stemcell now.
-pub(crate) fn is_told(book: &mut Book<MemKeeper>, alloc: Global) -> bool {
-    match Name::of(alloc, b"jammy").ok() {
-        Some(os) => is_told_of(book, &os),
-        None => false,
-    }
 }

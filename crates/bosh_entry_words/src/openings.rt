@@ -1,6 +1,6 @@
 //! Openings of tasks that cases write in words.
-use crate::words::{next, written};
 use bosh_base::{Copyable, Digest, Entry, Goal, Inst, Seq, TaskKind, TaskOpen};
+use bosh_book_words::{next, written};
 use bosh_case_words::{number, number_of, word};
 use bosh_cases::CaseFault;
 use std::alloc::Global;
@@ -189,7 +189,7 @@ fn filled<T: Drop>(value: T, done: Result<(), CaseFault>) -> Result<T, CaseFault
 
 /// As `1 deploy of dep changed dep/web/0 goal 3`: the goal is that of the entry at a place, counted from 1. A deploy has
 /// a source where it is not `without source`.
-pub(crate) fn opening(
+pub fn opening(
     alloc: Global,
     entries: &[Entry],
     words: &mut SplitWhitespace<'_>,

@@ -13,8 +13,8 @@ fn push_properties(text: &mut Vec<u8>, properties: &[u8]) -> Result<(), AllocErr
     push_parts(text, &[b" ", properties])
 }
 
-// As `z1 10.0.0.10`: the zone, the cloud properties and the addresses.
-fn push_make(text: &mut Vec<u8>, make: &Make) -> Result<(), AllocError> {
+/// Adds what a machine is made from, as ` z1 10.0.0.10`: the zone, the cloud properties and the addresses.
+pub fn push_make(text: &mut Vec<u8>, make: &Make) -> Result<(), AllocError> {
     push_parts(text, &[b" ", make.az.as_bytes()])?;
     push_properties(text, make.vm.as_slice())?;
     for net in make.nets.iter() {
@@ -79,8 +79,8 @@ fn push_given(text: &mut Vec<u8>, call: &Call) -> Result<(), AllocError> {
     }
 }
 
-// The jobs of a spec, or `-` where it has none.
-fn push_spec(text: &mut Vec<u8>, spec: &Spec) -> Result<(), AllocError> {
+/// Adds the jobs of a spec, each after a blank, or ` -` where it has none.
+pub fn push_spec(text: &mut Vec<u8>, spec: &Spec) -> Result<(), AllocError> {
     if spec.jobs.is_empty() {
         return push_parts(text, &[b" -"]);
     }
@@ -96,14 +96,14 @@ fn push_creation(text: &mut Vec<u8>, make: &Make, disks: &Seq<u64>) -> Result<()
 }
 
 /// Adds a call, as `apply 1 web` or `create_vm z1 10.0.0.10`.
-pub(crate) fn push_call(text: &mut Vec<u8>, call: &Call) -> Result<(), AllocError> {
+pub fn push_call(text: &mut Vec<u8>, call: &Call) -> Result<(), AllocError> {
     push_parts(text, &[call.method().name().as_bytes()])?;
     push_named(text, call)?;
     push_given(text, call)
 }
 
 /// Adds a call that is permitted: its number, its owner and what is asked.
-pub(crate) fn push_permit(text: &mut Vec<u8>, permit: &Permit) -> Result<(), AllocError> {
+pub fn push_permit(text: &mut Vec<u8>, permit: &Permit) -> Result<(), AllocError> {
     push_count(text, b"call ", permit.n())?;
     push_owner(text, b" ", permit.owner())?;
     text.push(b' ')?;
@@ -128,7 +128,8 @@ fn push_found(text: &mut Vec<u8>, found: Option<u64>) -> Result<(), AllocError> 
     }
 }
 
-fn push_flag(text: &mut Vec<u8>, word: &[u8], flag: bool) -> Result<(), AllocError> {
+/// Adds a word where something is so.
+pub fn push_flag(text: &mut Vec<u8>, word: &[u8], flag: bool) -> Result<(), AllocError> {
     if flag {
         push_parts(text, &[word])
     } else {
@@ -152,7 +153,7 @@ fn push_facts(
 }
 
 /// Adds an answer, as `done`, `cid 1`, `found none`, `disks 1 2` or `facts web running`.
-pub(crate) fn push_answer(text: &mut Vec<u8>, answer: &Answer) -> Result<(), AllocError> {
+pub fn push_answer(text: &mut Vec<u8>, answer: &Answer) -> Result<(), AllocError> {
     match answer {
         Answer::Cid(number) => push_count(text, b"cid ", *number),
         Answer::Found(found) => push_found(text, *found),

@@ -5,8 +5,8 @@ use bosh_case_texts::push_count;
 use bosh_cases::{CaseFault, push_parts};
 
 /// An answer or a refusal.
-pub(crate) trait Told: Drop {
-    /// Adds it in words. Want of memory is none of a book's answers.
+pub trait Told: Drop {
+    /// Adds it in words. Want of memory is no answer.
     fn push_to(&self, text: &mut Vec<u8>) -> Result<(), CaseFault>;
 }
 
@@ -29,7 +29,7 @@ impl Told for Added {
 
 /// The number of a task that was opened.
 #[derive(Clone, Copy, Debug, PartialEq, Eq)]
-pub(crate) struct Opened(pub(crate) u64);
+pub struct Opened(pub u64);
 
 impl Told for Opened {
     fn push_to(&self, text: &mut Vec<u8>) -> Result<(), CaseFault> {

@@ -1,14 +1,13 @@
-//! Entries that cases write in words, as the book's are told.
+//! Entries that cases write in words, as those of a book are told.
 use crate::openings::opening;
-use crate::store::Store;
-use crate::words::{next, written};
 use bosh_base::{
     Answer, Begin, Call, Digest, DiskWant, End, Entry, Failure, Key, KeyWork, Make, NetAddr, Owner,
     Release, Seq, Spec, TaskError, Text, Update,
 };
-use bosh_book::Book;
+use bosh_book_words::{next, written};
 use bosh_case_words::{Worded, number, number_after, number_of, text_of, word};
 use bosh_cases::{CaseFault, both};
+use bosh_records::Records;
 use std::alloc::Global;
 use std::str::SplitWhitespace;
 
@@ -236,9 +235,9 @@ fn error(words: &mut SplitWhitespace<'_>) -> Result<Entry, CaseFault> {
     Ok(Entry::TaskError(TaskError { task, cause }))
 }
 
-// The config that a book has.
-fn config(alloc: Global, book: &Book<Store>) -> Result<Entry, CaseFault> {
-    match book.records().config() {
+// The config that is recorded.
+fn config(alloc: Global, records: &Records) -> Result<Entry, CaseFault> {
+    match records.config() {
         Some(file) => Ok(Entry::Config(Text::from(Vec::from_slice(alloc, file)?))),
         None => Err(CaseFault::Form),
     }
@@ -246,13 +245,14 @@ fn config(alloc: Global, book: &Book<Store>) -> Result<Entry, CaseFault> {
 
 fn entry_of(
     alloc: Global,
-    book: &Book<Store>,
+    records: &Records,
+    entries: &[Entry],
     words: &mut SplitWhitespace<'_>,
 ) -> Result<Entry, CaseFault> {
     match word(words)? {
-        "Config" => config(alloc, book),
-        "TaskOpen" => opening(alloc, book.entries(), words),
-        "Begin" => begin(alloc, book.records().releases(), words),
+        "Config" => config(alloc, records),
+        "TaskOpen" => opening(alloc, entries, words),
+        "Begin" => begin(alloc, records.releases(), words),
         "End" => end(alloc, words),
         "UpdBegin" => begun(alloc, words),
         "UpdDone" => done(alloc, words),
@@ -271,9 +271,14 @@ fn at_end<T: Drop>(value: T, words: &mut SplitWhitespace<'_>) -> Result<T, CaseF
     }
 }
 
-/// The entry that a text writes, beside the entries and releases of a book.
-pub(crate) fn entry(alloc: Global, book: &Book<Store>, text: &str) -> Result<Entry, CaseFault> {
+/// The entry that a text writes, beside what is recorded and the entries before it.
+pub fn entry(
+    alloc: Global,
+    records: &Records,
+    entries: &[Entry],
+    text: &str,
+) -> Result<Entry, CaseFault> {
     let mut words = text.split_whitespace();
-    let entry = entry_of(alloc, book, &mut words)?;
+    let entry = entry_of(alloc, records, entries, &mut words)?;
     at_end(entry, &mut words)
 }

@@ -1,7 +1,7 @@
 //! What a step asks for.
 use crate::words::next;
+use bosh_asks::{Ask, Deploy};
 use bosh_base::{Digest, Name, Text};
-use bosh_book::{Ask, Deploy};
 use bosh_case_files::manifest;
 use bosh_case_words::number;
 use bosh_cases::{CaseFault, Given, both, field};
@@ -14,7 +14,7 @@ fn flag(node: &Node, key: &[u8]) -> bool {
 }
 
 /// `{"deploy": MANIFEST, "dep": NAME, "recreate": true, "fix": true}`, the last two only where they are asked for.
-pub(crate) fn deploy(alloc: Global, node: &Node) -> Result<Ask, CaseFault> {
+pub fn deploy(alloc: Global, node: &Node) -> Result<Ask, CaseFault> {
     let given: Result<(Name, Text), CaseFault> = both(
         field(alloc, node, "dep"),
         field(alloc, node, "deploy"),
@@ -37,7 +37,7 @@ fn halt(alloc: Global, words: &mut SplitWhitespace<'_>, hard: bool) -> Result<As
 }
 
 /// What a word asks for, with what it names; nothing where it is no word of an ask.
-pub(crate) fn asked(
+pub fn asked(
     alloc: Global,
     verb: &str,
     words: &mut SplitWhitespace<'_>,
