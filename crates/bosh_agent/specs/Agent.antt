@@ -40,24 +40,24 @@ abbrev pub can_act : Machine → Call → Bool
 can_act machine call = not machine.silent && has_disks machine call
 
 -- what a call that it can do answers; `built` is what a compilation gives
-abbrev pub told : (KeyWork → List Digest → Digest) → Machine → Call → Answer
-told built machine (GetState vm) = answers.Facts machine.spec machine.running machine.drained
-told built machine (ListDisk vm) = answers.Disks machine.mounted
-told built machine (CompilePackage vm work deps) = answers.Built (built work deps)
-told built machine call = answers.Done
+abbrev pub answer_by_call : (KeyWork → List Digest → Digest) → Machine → Call → Answer
+answer_by_call built machine (GetState vm) = answers.Facts machine.spec machine.running machine.drained
+answer_by_call built machine (ListDisk vm) = answers.Disks machine.mounted
+answer_by_call built machine (CompilePackage vm work deps) = answers.Built (built work deps)
+answer_by_call built machine call = answers.Done
 
 abbrev pub agent_answer : (KeyWork → List Digest → Digest) → Machine → Call → Answer
-agent_answer built machine call = unless_gone (can_act machine call) (told built machine call)
+agent_answer built machine call = unless_gone (can_act machine call) (answer_by_call built machine call)
 
 -- the machine after a call that the agent did
-abbrev pub acted : Machine → Call → Machine
-acted machine (Apply vm spec) = record machine { spec = Some spec }
-acted machine (Start vm) = record machine { running = true; drained = false }
-acted machine (Drain vm) = record machine { drained = true }
-acted machine (Stop vm) = record machine { running = false }
-acted machine (MountDisk vm disk) = record machine { mounted = with_number disk machine.mounted }
-acted machine (UnmountDisk vm disk) = record machine { mounted = without_number disk machine.mounted }
-acted machine call = machine
+abbrev pub machine_by_call : Machine → Call → Machine
+machine_by_call machine (Apply vm spec) = record machine { spec = Some spec }
+machine_by_call machine (Start vm) = record machine { running = true; drained = false }
+machine_by_call machine (Drain vm) = record machine { drained = true }
+machine_by_call machine (Stop vm) = record machine { running = false }
+machine_by_call machine (MountDisk vm disk) = record machine { mounted = with_number disk machine.mounted }
+machine_by_call machine (UnmountDisk vm disk) = record machine { mounted = without_number disk machine.mounted }
+machine_by_call machine call = machine
 
 -- the contents of a disk, empty where it is not there
 abbrev pub contents_in : List (Option Disk) → ℕ → List ℕ
@@ -76,16 +76,16 @@ abbrev pub with_contents : List (Option Disk) → ℕ → List ℕ → List (Opt
 with_contents disks number text = with_slot disks number (option_map (filled text) (at disks number))
 
 -- the disks after a call that the agent did: a migration gives one disk the contents of another
-abbrev pub disks_acted : List (Option Disk) → Call → List (Option Disk)
-disks_acted disks (MigrateDisk vm from to) = with_contents disks to (contents_in disks from)
-disks_acted disks call = disks
+abbrev pub disks_by_call : List (Option Disk) → Call → List (Option Disk)
+disks_by_call disks (MigrateDisk vm from to) = with_contents disks to (contents_in disks from)
+disks_by_call disks call = disks
 
 -- the machine and the disks after a call: nothing changes where the agent cannot do it
 abbrev pub machine_after : Machine → Call → Machine
-machine_after machine call = if can_act machine call then acted machine call else machine
+machine_after machine call = if can_act machine call then machine_by_call machine call else machine
 
 abbrev pub disks_after : Machine → List (Option Disk) → Call → List (Option Disk)
-disks_after machine disks call = if can_act machine call then disks_acted disks call else disks
+disks_after machine disks call = if can_act machine call then disks_by_call disks call else disks
 
 -- the call is one to the agent of this machine
 abbrev pub IsFor : Machine → Call → Type 0

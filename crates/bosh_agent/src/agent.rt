@@ -1,7 +1,7 @@
 ghost use Rattle.std.specs.Prelude.{◌≡◌, IfOk, IfErr, IsTrue};
-ghost use Rattle.bosh_agent.specs.Agent.{acted, agent_answer, can_act, contents_in, disks_acted, disks_after, has_disks, machine_after, told, vm_of, HasDisks, IsFor};
+ghost use Rattle.bosh_agent.specs.Agent.{machine_by_call, agent_answer, can_act, contents_in, disks_by_call, disks_after, has_disks, machine_after, answer_by_call, vm_of, HasDisks, IsFor};
 ghost use Rattle.bosh_agent.specs.Change.{disks_changed, machine_changed, IsIn};
-ghost use Rattle.bosh_agent.specs.Compiled.{compiled};
+ghost use Rattle.bosh_agent.specs.Compiled.{compiled_digest};
 ghost use Rattle.bosh_agent.specs.Numbers.{with_number, without_number};
 
 use crate::{AgentFault, Change, Disks, has, with_number, without_number};
@@ -21,7 +21,7 @@ pub fn act(
 ) -> Result<Answer, AgentFault>
     requires call { IsFor machine.old call.now }
     requires disks { HasDisks machine.old disks.old }
-    ensures answer { IfOk result (λ answer. answer ≡ agent_answer compiled machine.old call.now) }
+    ensures answer { IfOk result (λ answer. answer ≡ agent_answer compiled_digest machine.old call.now) }
     ensures machine { IfOk result (λ _. machine.new ≡ machine_after machine.old call.now) }
     ensures disks { IfOk result (λ _. disks.new ≡ disks_after machine.old disks.old call.now) }
     ensures refused { IfErr result (λ fault. (machine.new ≡ machine.old) × (disks.new ≡ disks.old)) }
@@ -78,7 +78,7 @@ fn has_disks(machine: &Machine, call: &Call) -> bool
 
 /// What a call that the agent can do answers.
 pub fn told(alloc: Global, machine: &Machine, call: &Call) -> Result<Answer, AgentFault>
-    ensures { IfOk result (λ answer. answer ≡ told compiled machine.now call.now) }
+    ensures { IfOk result (λ answer. answer ≡ answer_by_call compiled_digest machine.now call.now) }
 {
     match call {
         Call::GetState { .. } => facts(alloc, machine),
@@ -113,8 +113,8 @@ pub fn change_of(
 ) -> Result<Change, AgentFault>
     requires can { IsTrue (can_act machine.now call.now) }
     requires disks { HasDisks machine.now disks.now }
-    ensures machine { IfOk result (λ change. machine_changed machine.now change ≡ acted machine.now call.now) }
-    ensures disks { IfOk result (λ change. disks_changed disks.now change ≡ disks_acted disks.now call.now) }
+    ensures machine { IfOk result (λ change. machine_changed machine.now change ≡ machine_by_call machine.now call.now) }
+    ensures disks { IfOk result (λ change. disks_changed disks.now change ≡ disks_by_call disks.now call.now) }
     ensures made { IfOk result (λ change. IsIn change disks.now) }
 {
     match call {

@@ -15,7 +15,7 @@ use Rattle.bosh_records.specs.Readers.{deployment_of}
 use Rattle.bosh_records.specs.declared.instances.Instance.{Instance}
 use Rattle.bosh_records.specs.declared.orphans.LooseDisk.{LooseDisk}
 use Rattle.bosh_records.specs.declared.records.Records.{Records}
-use Rattle.bosh_refusals.specs.Refused.{refused_with}
+use Rattle.bosh_refusals.specs.Refused.{refusal_with}
 use Rattle.bosh_shown.specs.Instances.{row_in}
 
 -- the recorded instances of a deployment
@@ -33,17 +33,17 @@ orphans_of dep [] = []
 orphans_of dep (it ∷ others) = option_to_list (orphan_in dep it.1) ++ orphans_of dep others
 
 abbrev pub no_deployment : List ℕ → Reply
-no_deployment dep = Refused (refused_with (codes "book") (codes "NoDeployment") dep)
+no_deployment dep = Refused (refusal_with (codes "book") (codes "NoDeployment") dep)
 
-abbrev pub examined : List ℕ → Records → List (Option Machine) → List (Option Disk) → Reply
-examined dep records machines disks =
+abbrev pub problems_reply : List ℕ → Records → List (Option Machine) → List (Option Disk) → Reply
+problems_reply dep records machines disks =
     Problems (problems dep (rows_of dep records.instances.by_inst.entries) (orphans_of dep records.orphans.places.entries)
     (all_there machines) (all_there disks))
 
 -- what is told of a deployment, where it is recorded
-abbrev pub checked : List ℕ → Records → List (Option Machine) → List (Option Disk) → Reply
-checked dep records machines disks =
-    if is_some (deployment_of records dep) then examined dep records machines disks else no_deployment dep
+abbrev pub check_reply : List ℕ → Records → List (Option Machine) → List (Option Disk) → Reply
+check_reply dep records machines disks =
+    if is_some (deployment_of records dep) then problems_reply dep records machines disks else no_deployment dep
 
 -- nothing differs, by what is told
 abbrev pub tells_none : Reply → Bool

@@ -14,7 +14,7 @@ use Rattle.bosh_asks.specs.declared.ask.Ask.{Ask}
 use Rattle.bosh_asks.specs.declared.ask.Ask.TheVariants.{Deploy}
 use Rattle.bosh_base.specs.declared.digest.Digest.{Digest}
 use Rattle.bosh_lines.specs.declared.variable.Variable.{Variable}
-use Rattle.bosh_manifest.specs.Check.{checked}
+use Rattle.bosh_manifest.specs.Check.{manifest_of}
 use Rattle.bosh_vars.specs.Filled.{Values, filled, value_if}
 use Rattle.bosh_vars.specs.declared.var.Var.{Var}
 use Rattle.bosh_yaml.specs.Canon.{canon_text}
@@ -60,7 +60,7 @@ abbrev pub deploy_in : List ℕ → How → Tree → Result Ask TextFault
 deploy_in dep how t =
     result_map_both
     (λ manifest. Deploy (record { manifest = manifest; recreate = how.recreate; fix = how.fix; source = digest_of t }))
-    Unfit (checked dep t)
+    Unfit (manifest_of dep t)
 
 -- what a deploy of a text asks for: faults of its spelling come first, then those of its placeholders, then those of the
 -- manifest

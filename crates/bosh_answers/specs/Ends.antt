@@ -7,11 +7,11 @@ use Rattle.bosh_base.specs.declared.task.TaskEnd.{TaskEnd}
 use Rattle.bosh_base.specs.declared.task.TaskEnd.TheVariants as ends
 use Rattle.bosh_records.specs.Readers.{task_at}
 use Rattle.bosh_records.specs.declared.records.Records.{Records}
-use Rattle.bosh_refusals.specs.Refused.{refused}
+use Rattle.bosh_refusals.specs.Refused.{bare_refusal}
 
 -- the refusal of a director that has stopped
-abbrev pub stopped : Reply
-stopped = Refused (refused (codes "book") (codes "Stopped"))
+abbrev pub stopped_reply : Reply
+stopped_reply = Refused (bare_refusal (codes "book") (codes "Stopped"))
 
 -- the end of a task
 abbrev pub end_of : Records → ℕ → Option TaskEnd
@@ -19,6 +19,6 @@ end_of records task = option_and_then (λ row. row.end) (task_at records task)
 
 abbrev pub told_end : ℕ → TaskEnd → Reply
 told_end task ends.Finished = TaskFinished task
-told_end task ends.Interrupted = stopped
+told_end task ends.Interrupted = stopped_reply
 told_end task (ends.Fault n method owner) = TaskFailed (record { task = task; n = n; method = method; owner = owner })
 told_end task (ends.Gone n method owner) = TaskGone (record { task = task; n = n; method = method; owner = owner })

@@ -1,6 +1,6 @@
 -- What is listed of what is recorded, and of what is there in the cloud (this project's profile).
 use Rattle.std.specs.Prelude.{◌≡◌, ℕ, List, codes, decimal, map, IsPermutation, Option, None, Some}
-use Rattle.bosh_answers.specs.Checks.{checked}
+use Rattle.bosh_answers.specs.Checks.{check_reply}
 use Rattle.bosh_base.specs.declared.machine.Disk.{Disk}
 use Rattle.bosh_base.specs.declared.machine.Machine.{Machine}
 use Rattle.bosh_base.specs.declared.reply.Reply.{Reply}
@@ -12,7 +12,7 @@ use Rattle.bosh_lines.specs.declared.command.Command.TheVariants as commands
 use Rattle.bosh_records.specs.Keys.{built_of}
 use Rattle.bosh_records.specs.Readers.{task_at}
 use Rattle.bosh_records.specs.declared.records.Records.{Records}
-use Rattle.bosh_refusals.specs.Refused.{refused_with}
+use Rattle.bosh_refusals.specs.Refused.{refusal_with}
 use Rattle.bosh_shown.specs.Cloud.{cloud_listing}
 use Rattle.bosh_shown.specs.Instances.{instance_lines}
 use Rattle.bosh_shown.specs.Orphans.{orphan_lines}
@@ -22,7 +22,7 @@ use Rattle.bosh_shown.specs.Tasks.{task_detail, task_lines}
 -- what is shown of a task
 abbrev pub shown_task : ℕ → Option TaskRow → Reply
 shown_task task (Some row) = replies.Task (task_detail row)
-shown_task task None = replies.Refused (refused_with (codes "session") (codes "NoTask") (decimal task))
+shown_task task None = replies.Refused (refusal_with (codes "session") (codes "NoTask") (decimal task))
 
 -- the compiled packages are told, in some order
 abbrev pub TellsCompiled : Records → Reply → Type 0
@@ -40,5 +40,5 @@ IsListed (commands.Task task) records machines disks reply = reply ≡ shown_tas
 IsListed commands.Releases records machines disks reply = reply ≡ replies.Releases (map release_line records.releases.items)
 IsListed commands.Compiled records machines disks reply = TellsCompiled records reply
 IsListed commands.Cloud records machines disks reply = reply ≡ replies.Cloud (cloud_listing machines disks)
-IsListed (commands.CloudCheck dep) records machines disks reply = reply ≡ checked dep records machines disks
+IsListed (commands.CloudCheck dep) records machines disks reply = reply ≡ check_reply dep records machines disks
 IsListed command records machines disks reply = reply ≡ replies.Nothing

@@ -11,7 +11,7 @@ use Rattle.bosh_base.specs.declared.reply.Reply.{Reply}
 use Rattle.bosh_base.specs.declared.reply.Reply.TheVariants.{Contents, Refused}
 use Rattle.bosh_base.specs.declared.spec.Placed.{Placed}
 use Rattle.bosh_base.specs.declared.spec.Spec.{Spec}
-use Rattle.bosh_refusals.specs.Refused.{refused_with}
+use Rattle.bosh_refusals.specs.Refused.{refusal_with}
 
 abbrev pub placed : List ℕ → Option Spec → Option Placed
 placed path spec = option_and_then (λ it. find (λ file. bytes_eq file.path path) it.files) spec
@@ -36,4 +36,4 @@ first_placed inst path (slot ∷ slots) = option_or (placed_in inst path slot) (
 -- it is shown, or that there is none
 abbrev pub shown_file : List ℕ → Option Placed → Reply
 shown_file path (Some file) = Contents file.text
-shown_file path None = Refused (refused_with (codes "session") (codes "NoFile") path)
+shown_file path None = Refused (refusal_with (codes "session") (codes "NoFile") path)

@@ -1,7 +1,7 @@
 //! Where the records of a deployment and the cloud differ.
 ghost use Rattle.std.specs.Prelude.{◌≡◌, ◌++◌, IfOk, OnOk};
 ghost use Rattle.std.specs.Option.{option_copied, option_to_list};
-ghost use Rattle.bosh_answers.specs.Checks.{all_stand, checked, examined, no_deployment, orphan_in, orphans_of, rows_of, tells_none};
+ghost use Rattle.bosh_answers.specs.Checks.{all_stand, check_reply, no_deployment, orphan_in, orphans_of, problems_reply, rows_of, tells_none};
 ghost use Rattle.bosh_cck.specs.Problems.{AreApart, all_agree};
 ghost use Rattle.bosh_cck.specs.Tables.{all_there};
 ghost use Rattle.bosh_shown.specs.Instances.{row_in};
@@ -30,7 +30,7 @@ pub fn check_cloud(
     machines: &[Option<Machine>],
     disks: &[Option<Disk>],
 ) -> Result<Reply, AnswerFault>
-    ensures listed { IfOk result (λ reply. reply ≡ checked dep.now records.now machines.now disks.now) }
+    ensures listed { IfOk result (λ reply. reply ≡ check_reply dep.now records.now machines.now disks.now) }
     ensures none { AreApart (all_there machines.now) → IfOk result (λ reply.
         tells_none reply ≡ all_stand dep.now records.now machines.now disks.now) }
 {
@@ -48,7 +48,7 @@ fn examined(
     machines: &[Option<Machine>],
     disks: &[Option<Disk>],
 ) -> Result<Reply, AnswerFault>
-    ensures listed { IfOk result (λ reply. reply ≡ examined dep.now records.now machines.now disks.now) }
+    ensures listed { IfOk result (λ reply. reply ≡ problems_reply dep.now records.now machines.now disks.now) }
     ensures none { AreApart (all_there machines.now) → IfOk result (λ reply. tells_none reply
         ≡ all_agree dep.now (rows_of dep.now records.now.instances.by_inst.entries)
         (orphans_of dep.now records.now.orphans.places.entries) (all_there machines.now) (all_there disks.now)) }

@@ -7,7 +7,7 @@ use Rattle.bosh_base.specs.declared.inst.Inst.{Inst}
 use Rattle.bosh_base.specs.declared.release.Release.{Release}
 use Rattle.bosh_base.specs.declared.stemcell.Stemcell.{Stemcell}
 use Rattle.bosh_base.specs.declared.view.View.{View}
-use Rattle.bosh_cloudcfg.specs.Check.{configured}
+use Rattle.bosh_cloudcfg.specs.Check.{config_of_tree}
 use Rattle.bosh_cloudcfg.specs.declared.config.Config.{Config}
 use Rattle.bosh_cloudcfg.specs.declared.fault.CfgFault.{CfgFault}
 use Rattle.bosh_cloudcfg.specs.declared.fault.CfgFault.TheVariants.{Memory}
@@ -30,7 +30,7 @@ if_checked (Ok value) = Some value
 if_checked (Err fault) = None
 
 abbrev pub if_read : Result Tree ReadFault → Option Config
-if_read (Ok tree) = if_checked (configured tree)
+if_read (Ok tree) = if_checked (config_of_tree tree)
 if_read (Err fault) = None
 
 abbrev pub is_memory : Result Config CfgFault → Bool

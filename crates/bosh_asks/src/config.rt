@@ -3,7 +3,7 @@ ghost use Rattle.std.specs.Result.{result_ok};
 ghost use Rattle.std.specs.Option.{option_copied};
 ghost use Rattle.bosh_asks.specs.Goals.{config_in, if_checked, is_memory, recorded_config};
 ghost use Rattle.bosh_asks.specs.declared.fault.BookFault.TheVariants.{Memory};
-ghost use Rattle.bosh_cloudcfg.specs.Check.{configured};
+ghost use Rattle.bosh_cloudcfg.specs.Check.{config_of_tree};
 ghost use Rattle.bosh_yaml.specs.View.{tree_of};
 
 use crate::BookFault;
@@ -33,7 +33,7 @@ fn lacks_memory(answer: &Result<Config, CfgFault>) -> bool
 }
 
 fn checked(alloc: Global, node: &Node) -> Result<Option<Config>, BookFault>
-    ensures config { IfOk result (λ config. config ≡ if_checked (configured (tree_of node.now))) }
+    ensures config { IfOk result (λ config. config ≡ if_checked (config_of_tree (tree_of node.now))) }
     ensures err { IfErr result (λ fault. fault ≡ Memory) }
 {
     let answer = check(alloc, node);

@@ -157,17 +157,17 @@ is_disk_mounted entries d = latest (by_call (mounts d)) false entries
 
 -- the contents of each disk after an entry: a write gives those of its disk, and a migration those of the
 -- disk that it comes from
-abbrev pub moved : (ℕ → List ℕ) → Call → ℕ → List ℕ
-moved contents (MigrateDisk vm from to) = λ d. if d == to then contents from else contents d
-moved contents call = contents
+abbrev pub contents_after_call : (ℕ → List ℕ) → Call → ℕ → List ℕ
+contents_after_call contents (MigrateDisk vm from to) = λ d. if d == to then contents from else contents d
+contents_after_call contents call = contents
 
-abbrev pub written : (ℕ → List ℕ) → Entry → ℕ → List ℕ
-written contents (Effect e) = moved contents e.call
-written contents (Write w) = λ d. if d == w.disk then w.text else contents d
-written contents entry = contents
+abbrev pub contents_after : (ℕ → List ℕ) → Entry → ℕ → List ℕ
+contents_after contents (Effect e) = contents_after_call contents e.call
+contents_after contents (Write w) = λ d. if d == w.disk then w.text else contents d
+contents_after contents entry = contents
 
 abbrev pub contents_of : List Entry → ℕ → List ℕ
-contents_of entries = fold written (λ d. []) entries
+contents_of entries = fold contents_after (λ d. []) entries
 
 -- ---- what is there
 

@@ -9,9 +9,9 @@ use Rattle.bosh_base.specs.declared.entry.Begin as begin
 use Rattle.bosh_base.specs.declared.entry.Entry.{Entry}
 use Rattle.bosh_base.specs.declared.entry.Entry.TheVariants.{Begin}
 use Rattle.bosh_base.specs.declared.entry.Entry.TheVariants as entries
-use Rattle.bosh_book.specs.Adds.{Adds, came_by}
-use Rattle.bosh_fold.specs.CameWith.{came_with}
-use Rattle.bosh_records.specs.Came.{Came, came}
+use Rattle.bosh_book.specs.Adds.{Adds, arrivals_by}
+use Rattle.bosh_fold.specs.ArrivalsWith.{arrivals_with}
+use Rattle.bosh_records.specs.Arrivals.{Arrivals, arrivals}
 use Rattle.bosh_book.specs.declared.book.Book.{Book}
 use Rattle.bosh_book.specs.Starts.{Finishes, Interrupts, IsInterruption, Starts, Takes}
 use Rattle.bosh_book.specs.Claims.{Turn, Turns}
@@ -33,9 +33,9 @@ nothing_added bodies faults book = record {
   mended = refl;
 }
 
-pub came_after : (one other : List Entry) (before : Came) → came_by (one ++ other) before ≡ came_by other (came_by one before)
+pub came_after : (one other : List Entry) (before : Arrivals) → arrivals_by (one ++ other) before ≡ arrivals_by other (arrivals_by one before)
 came_after [] other before = refl
-came_after (entry ∷ entries) other before = came_after entries other (came_with entry before)
+came_after (entry ∷ entries) other before = came_after entries other (arrivals_with entry before)
 
 pub more_added : {K : Type 0} (bodies : K → Option (List (List ℕ))) (faults : K → ℕ) (first mid last : Book K)
     (one other : List Entry) → Adds bodies faults first one mid → Adds bodies faults mid other last →
@@ -43,7 +43,7 @@ pub more_added : {K : Type 0} (bodies : K → Option (List (List ℕ))) (faults 
 more_added bodies faults first mid last one other was now = record {
   entries = now.entries ∙ ap (λ all. all ++ other) was.entries ∙ append_assoc first.journal.entries one other;
   recorded =
-      now.recorded ∙ ap (came_by other) was.recorded ∙ sym (came_after one other (came first.records));
+      now.recorded ∙ ap (arrivals_by other) was.recorded ∙ sym (came_after one other (arrivals first.records));
   kept = λ kept. now.kept (was.kept kept);
   count = le_trans was.count now.count;
   standing = now.standing ∙ was.standing;
@@ -201,7 +201,7 @@ pub one_less : (turns taken : ℕ) → taken < turns → turns - taken ≡ suc (
 one_less turns taken more = omega arith
 
 -- an interruption brings no upload, and no task and no call
-interrupted_same : (entry : Entry) (before : Came) → IsInterruption entry → came_with entry before ≡ before
+interrupted_same : (entry : Entry) (before : Arrivals) → IsInterruption entry → arrivals_with entry before ≡ before
 interrupted_same (entries.TaskError error) before is = refl
 interrupted_same (entries.Release it) before is = absurd is
 interrupted_same (entries.Stemcell it) before is = absurd is
@@ -234,7 +234,7 @@ one_ended bodies faults was now entry is adds = record {
   ended = entry ∷ [];
   are_ended = All-cons IsInterruption entry [] is (All-nil IsInterruption);
   adds = adds;
-  same_came = adds.recorded ∙ interrupted_same entry (came was.records) is;
+  same_came = adds.recorded ∙ interrupted_same entry (arrivals was.records) is;
 }
 
 pub refused_ended : {K : Type 0} (bodies : K → Option (List (List ℕ))) (faults : K → ℕ) (was now : Book K) →

@@ -15,7 +15,7 @@ use Rattle.bosh_journal.specs.Kept.{IsKept}
 use Rattle.bosh_journal.specs.Reads.{Reads}
 use Rattle.bosh_journal.specs.declared.fault.JournalFault.{JournalFault}
 use Rattle.bosh_ports.specs.Faults.{NeverFalls}
-use Rattle.bosh_records.specs.Came.{came}
+use Rattle.bosh_records.specs.Arrivals.{arrivals}
 
 abbrev pub IsInterruption : Entry → Type 0
 IsInterruption (TaskError error) = error.cause ≡ Interrupted
@@ -41,7 +41,7 @@ pub record Interrupts {K : Type 0}
   pub ended : List Entry
   pub are_ended : All IsInterruption ended
   pub adds : Adds bodies faults was ended now
-  pub same_came : came now.records ≡ came was.records
+  pub same_came : arrivals now.records ≡ arrivals was.records
 
 -- .. and their number is told, and how many entries there are now
 pub record Finishes {K : Type 0}

@@ -1,8 +1,8 @@
 ghost use Rattle.std.specs.Prelude.{◌≡◌, ◌≤◌, ◌<◌, Err, IfErr, IfOk, OnOk, is_ok, length, take, true};
 ghost use Rattle.bosh_asks.specs.declared.fault.BookFault.TheVariants as faults;
-ghost use Rattle.bosh_book.specs.Adds.{IsRecorded, came_by};
+ghost use Rattle.bosh_book.specs.Adds.{IsRecorded, arrivals_by};
 ghost use Rattle.bosh_book.specs.Faults.{IsQuiet, IsStartFault};
-ghost use Rattle.bosh_records.specs.Came.{came};
+ghost use Rattle.bosh_records.specs.Arrivals.{arrivals};
 
 use bosh_asks::{BookFault, config_in};
 use bosh_base::{Entry, Release};
@@ -37,7 +37,7 @@ fn where_taken<T: Drop>(value: T, taken: Result<(), BookFault>) -> Result<T, Boo
 }
 
 fn take_all(alloc: Global, records: &mut Records, entries: &[Entry]) -> Result<(), BookFault>
-    ensures came { OnOk result (came records.new ≡ came_by entries.now (came records.old)) }
+    ensures came { OnOk result (arrivals records.new ≡ arrivals_by entries.now (arrivals records.old)) }
     ensures fault { IfErr result (IsStartFault (length entries.now)) }
     ensures quiet { IfErr result IsQuiet }
 {
@@ -51,7 +51,7 @@ fn take_all(alloc: Global, records: &mut Records, entries: &[Entry]) -> Result<(
 // Takes entries into records up to the first that may not stand there, and answers how many.
 fn fold(alloc: Global, records: &mut Records, entries: &[Entry]) -> Result<usize, BookFault>
     ensures count { IfOk result (λ count. count ≤ length entries.now) }
-    ensures came { IfOk result (λ count. came records.new ≡ came_by (take count entries.now) (came records.old)) }
+    ensures came { IfOk result (λ count. arrivals records.new ≡ arrivals_by (take count entries.now) (arrivals records.old)) }
     ensures memory { IfErr result (λ fault. fault ≡ faults.Memory) }
 {
     for (place, entry) in entries.iter().enumerate() {

@@ -8,7 +8,7 @@ ghost use Rattle.bosh_book.specs.Starts.{StartsFrom, Takes, standing_after};
 ghost use Rattle.bosh_book.specs.declared.standing.Standing.TheVariants.{Unread};
 ghost use Rattle.bosh_journal.specs.Director.{is_snapshot};
 ghost use Rattle.bosh_journal.specs.Kept.{IsKept};
-ghost use Rattle.bosh_records.specs.Came.{came};
+ghost use Rattle.bosh_records.specs.Arrivals.{arrivals};
 
 use crate::Book;
 use crate::faults::of_journal;
@@ -88,7 +88,7 @@ impl<K: Keeper> Book<K> {
         requires { OnOk taken (self.old.journal.is_broken ≡ false) }
         ensures finishes { Finishes K.bodies K.faults self.old self.new }
         ensures taken { OnOk result (is_ok taken ≡ true) }
-        ensures came { came self.new.records ≡ came self.old.records }
+        ensures came { arrivals self.new.records ≡ arrivals self.old.records }
         ensures comes_out { ComesOut K.faults taken self.old result self.new }
     {
         let before = self.entries().len();

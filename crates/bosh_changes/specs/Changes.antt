@@ -17,19 +17,19 @@ abbrev pub silenced : Machine → Machine
 silenced machine = record machine { silent = true }
 
 -- the tables after it
-abbrev pub changed : Tables → Change → Tables
-changed tables (NoVm vm) = record tables { vms = with_slot tables.vms vm None }
-changed tables (NoDisk disk) = record tables { disks = with_slot tables.disks disk None }
-changed tables (Moved vm disk holder attached) = record tables {
+abbrev pub tables_after : Tables → Change → Tables
+tables_after tables (NoVm vm) = record tables { vms = with_slot tables.vms vm None }
+tables_after tables (NoDisk disk) = record tables { disks = with_slot tables.disks disk None }
+tables_after tables (Moved vm disk holder attached) = record tables {
   vms = with_slot tables.vms vm (option_map (holding attached) (at tables.vms vm));
   holders = with_slot tables.holders disk holder;
 }
-changed tables (Acted vm change) = record tables {
+tables_after tables (Acted vm change) = record tables {
   vms = with_slot tables.vms vm (option_map (λ machine. machine_changed machine change) (at tables.vms vm));
   disks = disks_changed tables.disks change;
 }
-changed tables (Silent vm) = record tables { vms = with_slot tables.vms vm (option_map silenced (at tables.vms vm)) }
-changed tables (Written disk text) = record tables { disks = with_contents tables.disks disk text }
+tables_after tables (Silent vm) = record tables { vms = with_slot tables.vms vm (option_map silenced (at tables.vms vm)) }
+tables_after tables (Written disk text) = record tables { disks = with_contents tables.disks disk text }
 
 -- the machines and disks that it changes were made, and the machine is there
 abbrev pub IsThere : {T : Type 0} → List (Option T) → ℕ → Type 0

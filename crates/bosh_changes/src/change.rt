@@ -3,7 +3,7 @@ ghost use Rattle.std.specs.Option.{option_map};
 ghost use Rattle.bosh_agent.specs.Agent.{with_contents};
 ghost use Rattle.bosh_agent.specs.Change.{disks_changed, IsIn, IsMade, machine_changed};
 ghost use Rattle.bosh_agent.specs.Slots.{at, with_slot};
-ghost use Rattle.bosh_changes.specs.Changes.{changed, holding, IsFitting, IsThere, silenced};
+ghost use Rattle.bosh_changes.specs.Changes.{tables_after, holding, IsFitting, IsThere, silenced};
 
 use crate::{Register, Tables};
 use bosh_agent::{Change as AgentChange, put_contents};
@@ -41,7 +41,7 @@ impl Change {
     /// Makes the change. It takes no memory.
     pub fn carry(self, tables: &mut Tables)
         requires { IsFitting self tables.old }
-        ensures { tables.new ≡ changed tables.old self }
+        ensures { tables.new ≡ tables_after tables.old self }
     {
         match self {
             Change::NoVm(vm) => tables.vms.remove(vm),
@@ -61,7 +61,7 @@ impl Change {
 
 fn move_disk(tables: &mut Tables, vm: u64, disk: u64, holder: Option<u64>, attached: Seq<u64>)
     requires { IsFitting (Change.Moved vm disk holder attached) tables.old }
-    ensures { tables.new ≡ changed tables.old (Change.Moved vm disk holder attached) }
+    ensures { tables.new ≡ tables_after tables.old (Change.Moved vm disk holder attached) }
 {
     tables.holders.set(disk, holder);
     hold(&mut tables.vms, vm, attached);

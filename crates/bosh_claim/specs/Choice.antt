@@ -8,11 +8,11 @@ use Rattle.bosh_base.specs.declared.task.TaskEnd.{TaskEnd}
 use Rattle.bosh_records.specs.Readers.{work_at}
 use Rattle.bosh_records.specs.declared.records.Records.{Records}
 use Rattle.bosh_work.specs.declared.work.Work.{Work}
-use Rattle.bosh_claim.specs.Noted.{beginning, gone, ping}
+use Rattle.bosh_claim.specs.Noted.{beginning, leaving_entry, ping}
 use Rattle.bosh_claim.specs.Phase.{present}
 use Rattle.bosh_claim.specs.Slot.{slot_call}
 use Rattle.bosh_claim.specs.Sweep.{disk_call, sweep_call}
-use Rattle.bosh_claim.specs.Updated.{updated}
+use Rattle.bosh_claim.specs.Updated.{update_entry}
 use Rattle.bosh_claim.specs.declared.choice.Choice.{Choice}
 use Rattle.bosh_claim.specs.declared.choice.Choice.TheVariants.{Noted, Waits, Over}
 use Rattle.bosh_claim.specs.declared.phase.Phase.{Phase}
@@ -28,8 +28,8 @@ item_of records work worker Ask = ping records work worker
 item_of records work worker DeleteDisks = begun_by records work worker (disk_call records work)
 item_of records work worker Sweep = begun_by records work worker (sweep_call records work)
 item_of records work worker Compile = begun_by records work worker (slot_call records work)
-item_of records work worker Leave = gone records work worker
-item_of records work worker (Update stage) = updated records work worker stage
+item_of records work worker Leave = leaving_entry records work worker
+item_of records work worker (Update stage) = update_entry records work worker stage
 
 -- what is noted, or else the worker waits
 abbrev pub or_waits : Option Entry → Choice

@@ -54,6 +54,6 @@ leaving records work worker inst (Some call) = beginning records work worker (ow
 leaving records work worker inst None = entries.Gone (update_of work inst)
 
 -- the next call of the first obsolete instance, or that it has nothing left
-abbrev pub gone : Records → Work → ℕ → Option Entry
-gone records work worker =
+abbrev pub leaving_entry : Records → Work → ℕ → Option Entry
+leaving_entry records work worker =
     option_map (λ inst. leaving records work worker inst (step_of records None inst)) (first_of work.obsolete)

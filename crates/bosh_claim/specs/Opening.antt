@@ -50,12 +50,12 @@ opens_on records opening =
 -- ---- tasks of a deployment
 
 -- the instance that a task of one instance names
-abbrev pub named : TaskKind → Option Inst
-named (Recreate inst) = Some inst
-named (Start inst) = Some inst
-named (Stop inst) = Some inst
-named (Resolve inst) = Some inst
-named kind = None
+abbrev pub named_instance : TaskKind → Option Inst
+named_instance (Recreate inst) = Some inst
+named_instance (Start inst) = Some inst
+named_instance (Stop inst) = Some inst
+named_instance (Resolve inst) = Some inst
+named_instance kind = None
 
 abbrev pub is_in : Goal → Inst → Bool
 is_in goal inst = list_any (λ want. same_inst want.inst inst) goal.rows
@@ -68,7 +68,7 @@ has_named current None = true
 -- wanted
 abbrev pub names_what_is_there : Records → TaskKind → Goal → Bool
 names_what_is_there records kind goal =
-    deploys kind || option_map_or (λ current. has_named current (named kind)) (goal_of records goal.dep) false
+    deploys kind || option_map_or (λ current. has_named current (named_instance kind)) (goal_of records goal.dep) false
 
 -- what is recorded of an instance is not as it is wanted
 abbrev pub does_not_stand : Records → GoalRow → Bool
@@ -91,7 +91,7 @@ are_changed records opening goal None =
     pointwise same_inst opening.changed (changed_in records (is_fix opening.kind) goal.rows)
 
 abbrev pub changes : Records → TaskOpen → Goal → Bool
-changes records opening goal = are_changed records opening goal (named opening.kind)
+changes records opening goal = are_changed records opening goal (named_instance opening.kind)
 
 -- a recorded instance of the deployment that the goal has not
 abbrev pub is_obsolete : Goal → Inst × Instance → Bool
@@ -107,7 +107,7 @@ are_obsolete records opening goal None =
     pointwise same_inst opening.obsolete (obsolete_in goal records.instances.by_inst.entries)
 
 abbrev pub deletes : Records → TaskOpen → Goal → Bool
-deletes records opening goal = are_obsolete records opening goal (named opening.kind)
+deletes records opening goal = are_obsolete records opening goal (named_instance opening.kind)
 
 -- an offer is of the link that a tie is to
 abbrev pub is_of : Offer → Tie → Bool

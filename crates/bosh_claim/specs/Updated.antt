@@ -69,5 +69,5 @@ noted_of records work worker it =
     if is_waiting work it.0 then first_word work it.1 (is_some (step_of records (want_of records it.1) it.1))
     else going_on records work worker it.1 (step_of records (want_of records it.1) it.1)
 
-abbrev pub updated : Records → Work → ℕ → ℕ → Option Entry
-updated records work worker stage = option_map (noted_of records work worker) (first_changed work stage)
+abbrev pub update_entry : Records → Work → ℕ → ℕ → Option Entry
+update_entry records work worker stage = option_map (noted_of records work worker) (first_changed work stage)

@@ -2,7 +2,7 @@ ghost use Rattle.std.specs.Prelude.{◌≡◌, IfOk, None};
 ghost use Rattle.std.specs.Option.{option_copied};
 ghost use Rattle.bosh_base.specs.declared.owner.Owner.TheVariants as owners;
 ghost use Rattle.bosh_records.specs.Readers.{want_of};
-ghost use Rattle.bosh_claim.specs.Noted.{beginning, first_of, gone, leaving, ping, update_of, vm_of};
+ghost use Rattle.bosh_claim.specs.Noted.{beginning, first_of, leaving, leaving_entry, ping, update_of, vm_of};
 ghost use Rattle.bosh_claim.specs.Step.{step_of, step_on};
 
 use crate::ClaimFault;
@@ -52,7 +52,7 @@ pub(crate) fn gone(
     work: &Work,
     worker: u8,
 ) -> Result<Option<Entry>, ClaimFault>
-    ensures { IfOk result (λ entry. entry ≡ gone records.now work.now worker) }
+    ensures { IfOk result (λ entry. entry ≡ leaving_entry records.now work.now worker) }
 {
     let Some(inst) = first_obsolete(work) else {
         return Ok(None);

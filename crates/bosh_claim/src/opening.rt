@@ -8,7 +8,7 @@ ghost use Rattle.bosh_records.specs.Kinds.{deploys};
 ghost use Rattle.bosh_records.specs.Readers.{orphan_at};
 ghost use Rattle.bosh_claim.specs.Opening.{changed_in, changes, deletes, does_its_kind, does_not_stand, has_lock};
 ghost use Rattle.bosh_claim.specs.Opening.{has_named, is_fix, is_free, is_in, is_obsolete, is_of, is_offered_still};
-ghost use Rattle.bosh_claim.specs.Opening.{keeps, named, names_what_is_there, obsolete_in, opens, opens_on};
+ghost use Rattle.bosh_claim.specs.Opening.{keeps, named_instance, names_what_is_there, obsolete_in, opens, opens_on};
 ghost use Rattle.bosh_claim.specs.Opening.{opens_with, same_dep, withdraws_nothing};
 
 use crate::number::is_next;
@@ -128,7 +128,7 @@ fn opens_with(records: &Records, opening: &TaskOpen, goal: &Goal) -> bool
 
 /// The instance that a task of one instance names.
 fn named(kind: &TaskKind) -> Option<&Inst>
-    ensures { option_copied result ≡ named kind.now }
+    ensures { option_copied result ≡ named_instance kind.now }
 {
     match kind {
         TaskKind::Recreate(inst)

@@ -1,6 +1,6 @@
 ghost use Rattle.std.specs.Prelude.{◌≡◌, IfOk, option_map};
 ghost use Rattle.bosh_claim.specs.Updated.{claimable, earlier, first_changed, first_place, first_word, is_waiting};
-ghost use Rattle.bosh_claim.specs.Updated.{noted_of, updated, with_claimable};
+ghost use Rattle.bosh_claim.specs.Updated.{noted_of, update_entry, with_claimable};
 
 use crate::ClaimFault;
 use crate::instance::{begun, update, wanted_step};
@@ -19,7 +19,7 @@ pub(crate) fn updated(
     worker: u8,
     stage: u32,
 ) -> Result<Option<Entry>, ClaimFault>
-    ensures { IfOk result (λ entry. entry ≡ updated records.now work.now worker stage) }
+    ensures { IfOk result (λ entry. entry ≡ update_entry records.now work.now worker stage) }
 {
     let Some((change, inst)) = first(work, stage) else {
         return Ok(None);

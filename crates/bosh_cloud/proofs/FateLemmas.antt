@@ -4,7 +4,7 @@ use Rattle.bosh_base.specs.declared.entry.Entry.{Entry}
 use Rattle.bosh_base.specs.declared.method.Method.{Method}
 use Rattle.bosh_base.specs.declared.owner.Owner.{Owner}
 use Rattle.bosh_cloud.specs.CloudView.{CloudView}
-use Rattle.bosh_fates.specs.Fates.{fates_after, met}
+use Rattle.bosh_fates.specs.Fates.{due_count, fates_after}
 use Rattle.bosh_cloud.specs.Notes.{Does, SameFates}
 use Rattle.bosh_cloud.specs.Performs.{lacked_memory, MeetsFates, Spends}
 use Rattle.bosh_cloud.specs.declared.fault.CloudFault.{CloudFault}
@@ -16,8 +16,8 @@ spends_after : {L : Type 0} (method : Method) (owner : Owner) (was mid now : Clo
     Spends method owner mid now → Spends method owner was now
 spends_after method owner was mid now same spends = record {
   dooms = spends.dooms ∙ ap (fates_after method owner) same.0;
-  fired = spends.fired ∙ ap (λ dooms. count_with mid.fired (met method owner dooms)) same.0
-      ∙ ap (λ fired. count_with fired (met method owner was.dooms)) same.1;
+  fired = spends.fired ∙ ap (λ dooms. count_with mid.fired (due_count method owner dooms)) same.0
+      ∙ ap (λ fired. count_with fired (due_count method owner was.dooms)) same.1;
 }
 
 -- a call that did something or nothing, and did not lack memory, meets them

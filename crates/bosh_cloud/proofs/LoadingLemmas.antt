@@ -4,7 +4,7 @@ use Rattle.std.specs.Prelude.{◌⊎◌, IfSome, if◌then◌else◌}
 use Rattle.std.specs.Option.{option_and_then}
 use Rattle.std.proofs.lemmas.List.Sums.{fold-append}
 use Rattle.bosh_base.specs.declared.entry.Entry.{Entry}
-use Rattle.bosh_cloud.specs.Loading.{done_with, happening, loaded, Tell, TellsAll, with_body}
+use Rattle.bosh_cloud.specs.Loading.{done_with, happening, effects_in, Tell, TellsAll, with_body}
 use Rattle.bosh_entry.proofs.BodyLemmas.{whole_again}
 use Rattle.bosh_entry.specs.Body.{entry_of, spelling}
 use Rattle.bosh_entry.specs.declared.format.Format.TheVariants.{Present}
@@ -19,13 +19,13 @@ happening-spelled before entry follows =
     ∙ ap (λ t. if t then Some entry else None) follows.happens
 
 -- one body more
-pub loaded-more : (bodies : List (List ℕ)) (before : List Entry) (body : List ℕ) → loaded bodies ≡ Ok before →
-    loaded (bodies ++ body ∷ []) ≡ with_body (Ok before) body
+pub loaded-more : (bodies : List (List ℕ)) (before : List Entry) (body : List ℕ) → effects_in bodies ≡ Ok before →
+    effects_in (bodies ++ body ∷ []) ≡ with_body (Ok before) body
 loaded-more bodies before body is =
     fold-append with_body (Ok []) bodies (body ∷ []) ∙ ap (λ found. with_body found body) is
 
-pub loaded-spelled : (bodies : List (List ℕ)) (before : List Entry) (entry : Entry) → loaded bodies ≡ Ok before →
-    MayFollow before entry → loaded (bodies ++ spelling entry ∷ []) ≡ Ok (before ++ entry ∷ [])
+pub loaded-spelled : (bodies : List (List ℕ)) (before : List Entry) (entry : Entry) → effects_in bodies ≡ Ok before →
+    MayFollow before entry → effects_in (bodies ++ spelling entry ∷ []) ≡ Ok (before ++ entry ∷ [])
 loaded-spelled bodies before entry is follows =
     loaded-more bodies before (spelling entry) is ∙ ap (done_with before) (happening-spelled before entry follows)
 
@@ -46,10 +46,10 @@ pub TellsAll-more : (told later : Option (List (List ℕ))) (was is : Bool) (eff
     TellsAll told was effects → TellsAll later is after
 TellsAll-more None later was is effects after entry whole stays grown list follows kept = absurd kept
 TellsAll-more (Some bodies) later was is effects after entry whole stays grown list follows kept =
-    let found : loaded bodies ≡ Ok effects = subst (λ (it : Bool). Tell bodies it effects) whole kept in
+    let found : effects_in bodies ≡ Ok effects = subst (λ (it : Bool). Tell bodies it effects) whole kept in
     subst (λ (it : Option (List (List ℕ))). TellsAll it is after) (sym list)
     (subst (λ (it : Bool). Tell (bodies ++ spelling entry ∷ []) it after) (sym stays)
-    (subst (λ (it : List Entry). loaded (bodies ++ spelling entry ∷ []) ≡ Ok it) (sym grown)
+    (subst (λ (it : List Entry). effects_in (bodies ++ spelling entry ∷ []) ≡ Ok it) (sym grown)
     (loaded-spelled bodies effects entry found follows)))
 
 -- one that failed
@@ -59,10 +59,10 @@ pub TellsAll-failed : (told later : Option (List (List ℕ))) (was is : Bool) (e
     MayFollow effects entry → TellsAll told was effects → TellsAll later is after
 TellsAll-failed None later was is effects after entry whole fails same list follows kept = absurd kept
 TellsAll-failed (Some bodies) later was is effects after entry whole fails same list follows kept =
-    let found : loaded bodies ≡ Ok effects = subst (λ (it : Bool). Tell bodies it effects) whole kept in
-    let either : (loaded bodies ≡ Ok after) × (loaded (bodies ++ spelling entry ∷ []) ≡ Ok (after ++ entry ∷ [])) =
-    subst (λ (it : List Entry). (loaded bodies ≡ Ok it)
-    × (loaded (bodies ++ spelling entry ∷ []) ≡ Ok (it ++ entry ∷ []))) (sym same)
+    let found : effects_in bodies ≡ Ok effects = subst (λ (it : Bool). Tell bodies it effects) whole kept in
+    let either : (effects_in bodies ≡ Ok after) × (effects_in (bodies ++ spelling entry ∷ []) ≡ Ok (after ++ entry ∷ [])) =
+    subst (λ (it : List Entry). (effects_in bodies ≡ Ok it)
+    × (effects_in (bodies ++ spelling entry ∷ []) ≡ Ok (it ++ entry ∷ []))) (sym same)
     (found, loaded-spelled bodies effects entry found follows) in
     subst (λ (it : Bool). TellsAll later it after) (sym fails) (elim list [
       | inl lost ↦ subst (λ (it : Option (List (List ℕ))). TellsAll it true after) (sym lost) (inl either.0)

@@ -6,7 +6,7 @@ use Rattle.std.proofs.lemmas.List.Folds.{fold_stuck}
 use Rattle.std.proofs.lemmas.List.Sums.{fold_more}
 use Rattle.std.proofs.lemmas.Option.{slice_get-get_or}
 use Rattle.bosh_base.specs.declared.entry.Entry.{Entry}
-use Rattle.bosh_cloud.specs.Loading.{loaded, with_body}
+use Rattle.bosh_cloud.specs.Loading.{effects_in, with_body}
 use Rattle.bosh_cloud.specs.Reads.{FailsByRise, Reads, ReadsOne, Says, with_effects}
 use Rattle.bosh_cloud.specs.declared.fault.CloudFault.{CloudFault}
 use Rattle.bosh_cloud.specs.declared.fault.CloudFault.TheVariants.{StoreFault, Damaged, Broken, Memory}
@@ -18,13 +18,13 @@ pub record SoFar {L : Type 0} (bodies : L → Option (List (List ℕ))) (faults 
   pub count : NeverFalls (faults first) (faults now)
   pub list : IfSome (bodies first) (λ list. bodies now ≡ Some list)
   pub size : IfSome (bodies first) (λ list. last ≡ length list)
-  pub found : IfSome (bodies first) (λ list. loaded (take place list) ≡ Ok effects)
+  pub found : IfSome (bodies first) (λ list. effects_in (take place list) ≡ Ok effects)
 
 -- the next body, by its place
 body_at : (list : List (List ℕ)) (place : ℕ) (found : Result (List Entry) CloudFault) (before : List Entry) →
-    place < length list → loaded (take place list) ≡ Ok before →
+    place < length list → effects_in (take place list) ≡ Ok before →
     IfSome (slice_get list place) (λ body. Says found (with_body (Ok before) body)) →
-    Says found (loaded (take (place + 1) list))
+    Says found (effects_in (take (place + 1) list))
 body_at list place found before within is says =
     let read : Says found (with_body (Ok before) (get_or list place [])) =
     subst (λ (it : Option (List ℕ)). IfSome it (λ body. Says found (with_body (Ok before) body)))
@@ -34,9 +34,9 @@ body_at list place found before within is says =
 
 found_more : (told later : Option (List (List ℕ))) (place last : ℕ) (before after : List Entry) → place < last →
     IfSome told (λ list. later ≡ Some list) → IfSome told (λ list. last ≡ length list) →
-    IfSome told (λ list. loaded (take place list) ≡ Ok before) →
+    IfSome told (λ list. effects_in (take place list) ≡ Ok before) →
     IfSome later (λ list. IfSome (slice_get list place) (λ body. Says (Ok after) (with_body (Ok before) body))) →
-    IfSome told (λ list. loaded (take (place + 1) list) ≡ Ok after)
+    IfSome told (λ list. effects_in (take (place + 1) list) ≡ Ok after)
 found_more None later place last before after within list size found says = tt
 found_more (Some bodies) later place last before after within list size found says =
     body_at bodies place (Ok after) before (omega (arith, size, within)) found
@@ -65,9 +65,9 @@ stuck : (place : ℕ) (body : List ℕ) → with_body (Err place) body ≡ Err p
 stuck place body = refl
 
 first_faulty : (list : List (List ℕ)) (place : ℕ) (fault : CloudFault) (before : List Entry) → place < length list →
-    loaded (take place list) ≡ Ok before →
+    effects_in (take place list) ≡ Ok before →
     IfSome (slice_get list place) (λ body. Says (Err fault) (with_body (Ok before) body)) →
-    Says (Err fault) (loaded list)
+    Says (Err fault) (effects_in list)
 first_faulty list place StoreFault before within is says = tt
 first_faulty list place (Damaged position) before within is says =
     let read : with_body (Ok before) (get_or list place []) ≡ Err position =
@@ -80,9 +80,9 @@ first_faulty list place Memory before within is says = tt
 
 says_faulty : (told later : Option (List (List ℕ))) (place last : ℕ) (before : List Entry) (fault : CloudFault) →
     place < last → IfSome told (λ list. later ≡ Some list) → IfSome told (λ list. last ≡ length list) →
-    IfSome told (λ list. loaded (take place list) ≡ Ok before) →
+    IfSome told (λ list. effects_in (take place list) ≡ Ok before) →
     IfSome later (λ list. IfSome (slice_get list place) (λ body. Says (Err fault) (with_body (Ok before) body))) →
-    IfSome told (λ list. Says (Err fault) (loaded list))
+    IfSome told (λ list. Says (Err fault) (effects_in list))
 says_faulty None later place last before fault within list size found says = tt
 says_faulty (Some bodies) later place last before fault within list size found says =
     first_faulty bodies place fault before (omega (arith, size, within)) found
@@ -113,11 +113,11 @@ Reads-refused bodies faults first mid now place last before fault within far rea
 
 -- all bodies were read
 found_all : (told : Option (List (List ℕ))) (place last : ℕ) (effects : List Entry) → last ≤ place →
-    IfSome told (λ list. last ≡ length list) → IfSome told (λ list. loaded (take place list) ≡ Ok effects) →
-    IfSome told (λ list. loaded list ≡ Ok effects)
+    IfSome told (λ list. last ≡ length list) → IfSome told (λ list. effects_in (take place list) ≡ Ok effects) →
+    IfSome told (λ list. effects_in list ≡ Ok effects)
 found_all None place last effects past size found = tt
 found_all (Some bodies) place last effects past size found =
-    ap loaded (sym (take_all place bodies (omega (arith, size, past)))) ∙ found
+    ap effects_in (sym (take_all place bodies (omega (arith, size, past)))) ∙ found
 
 pub Reads-all : {L : Type 0} (bodies : L → Option (List (List ℕ))) (faults : L → ℕ) (first now : L) (place last : ℕ)
     (effects : List Entry) → last ≤ place → SoFar bodies faults first now place last effects →
@@ -130,7 +130,7 @@ Reads-all bodies faults first now place last effects past far = record {
 }
 
 -- nothing was read yet
-found_none : (told : Option (List (List ℕ))) → IfSome told (λ list. loaded (take 0 list) ≡ Ok [])
+found_none : (told : Option (List (List ℕ))) → IfSome told (λ list. effects_in (take 0 list) ≡ Ok [])
 found_none None = tt
 found_none (Some list) = refl
 
@@ -151,11 +151,11 @@ SoFar-none {L} bodies faults first last effects none size =
 
 -- a store that was reloaded before
 says_after : (told later : Option (List (List ℕ))) (found : Result (List Entry) CloudFault) →
-    IfSome told (λ list. later ≡ Some list) → IfSome later (λ list. Says found (loaded list)) →
-    IfSome told (λ list. Says found (loaded list))
+    IfSome told (λ list. later ≡ Some list) → IfSome later (λ list. Says found (effects_in list)) →
+    IfSome told (λ list. Says found (effects_in list))
 says_after None later found list says = tt
 says_after (Some bodies) later found list says =
-    subst (λ (it : Option (List (List ℕ))). IfSome it (λ list. Says found (loaded list))) list says
+    subst (λ (it : Option (List (List ℕ))). IfSome it (λ list. Says found (effects_in list))) list says
 
 pub Reads-after : {L : Type 0} (bodies : L → Option (List (List ℕ))) (faults : L → ℕ) (first mid now : L)
     (found : Result (List Entry) CloudFault) → IfSome (bodies first) (λ list. bodies mid ≡ Some list) →

@@ -3,7 +3,7 @@ use Rattle.std.proofs.Common.{◌≡◌, ℕ, Bool, false, Option, Some, None, O
 use Rattle.std.specs.Prelude.{IfSome}
 use Rattle.bosh_base.specs.declared.entry.Entry.{Entry}
 use Rattle.bosh_cloud.specs.CloudView.{CloudView}
-use Rattle.bosh_cloud.specs.Loading.{IsKept, loaded, Tell, TellsAll}
+use Rattle.bosh_cloud.specs.Loading.{IsKept, effects_in, Tell, TellsAll}
 use Rattle.bosh_cloud.specs.Reads.{Reads}
 use Rattle.bosh_cloud.specs.Runs.{after_run, AllKeep}
 
@@ -13,10 +13,10 @@ kept_after bodies first [] kept all = kept
 kept_after bodies first (next ∷ run) kept all = kept_after bodies next run (all.0 kept) all.1
 
 same_found : (told : Option (List (List ℕ))) (is_stale : Bool) (done effects : List Entry) → is_stale ≡ false →
-    TellsAll told is_stale done → IfSome told (λ list. loaded list ≡ Ok effects) → effects ≡ done
+    TellsAll told is_stale done → IfSome told (λ list. effects_in list ≡ Ok effects) → effects ≡ done
 same_found None is_stale done effects whole kept found = absurd kept
 same_found (Some list) is_stale done effects whole kept found =
-    let told : loaded list ≡ Ok done = subst (λ (it : Bool). Tell list it done) whole kept in
+    let told : effects_in list ≡ Ok done = subst (λ (it : Bool). Tell list it done) whole kept in
     let same : Ok effects ≡ Ok done = sym found ∙ told in cc
 
 pub found_after : {L : Type 0} (bodies : L → Option (List (List ℕ))) (faults : L → ℕ) (first : CloudView L)

@@ -21,14 +21,14 @@ with_body (Ok before) body = done_with before (happening before body)
 with_body (Err place) body = Err place
 
 -- what the bodies say that was done, in order; or the place of the first that says nothing, counted from 0
-abbrev pub loaded : List (List ℕ) → Result (List Entry) ℕ
-loaded bodies = fold with_body (Ok []) bodies
+abbrev pub effects_in : List (List ℕ) → Result (List Entry) ℕ
+effects_in bodies = fold with_body (Ok []) bodies
 
 -- the bodies say that this was done; where the store has failed since, they may say one thing more
 abbrev pub Tell : List (List ℕ) → Bool → List Entry → Type 0
-Tell bodies false effects = loaded bodies ≡ Ok effects
+Tell bodies false effects = effects_in bodies ≡ Ok effects
 Tell bodies true effects =
-    (loaded bodies ≡ Ok effects) ⊎ ((entry : Entry) × (loaded bodies ≡ Ok (effects ++ entry ∷ [])))
+    (effects_in bodies ≡ Ok effects) ⊎ ((entry : Entry) × (effects_in bodies ≡ Ok (effects ++ entry ∷ [])))
 
 -- the store tells its bodies, and they say what was done
 abbrev pub TellsAll : Option (List (List ℕ)) → Bool → List Entry → Type 0

@@ -1,7 +1,7 @@
 -- What it gives to read a store.
 use Rattle.std.specs.Prelude.{◌≡◌, ℕ, Bool, true, false, List, slice_get, Option, Some, IfSome, Result, Ok, Err}
 use Rattle.bosh_base.specs.declared.entry.Entry.{Entry}
-use Rattle.bosh_cloud.specs.Loading.{loaded, with_body}
+use Rattle.bosh_cloud.specs.Loading.{effects_in, with_body}
 use Rattle.bosh_cloud.specs.declared.fault.CloudFault.{CloudFault}
 use Rattle.bosh_cloud.specs.declared.fault.CloudFault.TheVariants.{StoreFault, Damaged, Broken, Memory}
 use Rattle.bosh_ports.specs.Faults.{NeverFalls, Rose}
@@ -27,7 +27,7 @@ FailsByRise answer before after = Unit {0}
 pub record Reads {L : Type 0}
     (bodies : L → Option (List (List ℕ))) (faults : L → ℕ) (was : L) (result : Result (List Entry) CloudFault)
     (now : L) : Type 0 where
-  pub says : IfSome (bodies was) (λ list. Says result (loaded list))
+  pub says : IfSome (bodies was) (λ list. Says result (effects_in list))
   pub list : IfSome (bodies was) (λ list. bodies now ≡ Some list)
   pub failed : FailsByRise result (faults was) (faults now)
   pub count : NeverFalls (faults was) (faults now)

@@ -1,7 +1,7 @@
 ghost use Rattle.std.specs.Prelude.{◌≡◌, ℕ, List, map, All, false};
 ghost use Rattle.bosh_base.specs.declared.entry.Entry.{Entry};
 ghost use Rattle.bosh_cloud.specs.CloudView.{CloudView};
-ghost use Rattle.bosh_cloud.specs.Loading.{IsKept, loaded};
+ghost use Rattle.bosh_cloud.specs.Loading.{IsKept, effects_in};
 ghost use Rattle.bosh_cloud.specs.Reads.{Reads};
 ghost use Rattle.bosh_cloud.specs.Runs.{after_run, AllKeep};
 ghost use Rattle.bosh_entry.specs.Body.{spelling};
@@ -12,16 +12,16 @@ use bosh_ports::Keeper;
 
 /// What was done in turn is found again in its bodies.
 pub fn what_is_kept_is_loaded()
-    ensures { (effects : List Entry) → AllFollow effects → loaded (map spelling effects) ≡ Ok effects }
+    ensures { (effects : List Entry) → AllFollow effects → effects_in (map spelling effects) ≡ Ok effects }
 {}
 
 /// The bodies of which a cloud is loaded are those that it keeps of what was done, and each of that followed what was
 /// done before it.
 pub fn what_is_loaded_is_kept()
     ensures bodies { (bodies : List (List ℕ)) (effects : List Entry) →
-        All IsBytes bodies → loaded bodies ≡ Ok effects → bodies ≡ map spelling effects }
+        All IsBytes bodies → effects_in bodies ≡ Ok effects → bodies ≡ map spelling effects }
     ensures follows { (bodies : List (List ℕ)) (effects : List Entry) →
-        All IsBytes bodies → loaded bodies ≡ Ok effects → AllFollow effects }
+        All IsBytes bodies → effects_in bodies ≡ Ok effects → AllFollow effects }
 {}
 
 /// What a load reads of the store of a cloud is what was done to the cloud, however many calls came between.

@@ -1,5 +1,5 @@
 ghost use Rattle.std.specs.Prelude.{◌≡◌, [], ◌∷◌, false, IfErr, IfOk, IsTrue, OnOk};
-ghost use Rattle.bosh_agent.specs.Compiled.{compiled};
+ghost use Rattle.bosh_agent.specs.Compiled.{compiled_digest};
 ghost use Rattle.bosh_base.specs.CallStep.{takes_effect};
 ghost use Rattle.bosh_base.specs.Cloud.{is_disk_there, is_vm_there};
 ghost use Rattle.bosh_cloud.specs.Notes.{Does, SameFates};
@@ -59,7 +59,7 @@ impl<L: Keeper> SimCloud<L> {
         call: &Call,
     ) -> Result<(), CloudFault>
         requires whole { self.old.is_stale ≡ false }
-        requires effect { IsTrue (takes_effect compiled self.old.effects call.now) }
+        requires effect { IsTrue (takes_effect compiled_digest self.old.effects call.now) }
         ensures does { Does L.bodies L.faults result self.old
             (Entry.Effect (record { n = n; owner = owner.now; dep = dep.now; call = call.now }) ∷ [])
             self.new }

@@ -1,9 +1,9 @@
 ghost use Rattle.std.specs.Prelude.{◌≡◌, false, IfOk, None, Some};
-ghost use Rattle.bosh_agent.specs.Compiled.{compiled};
+ghost use Rattle.bosh_agent.specs.Compiled.{compiled_digest};
 ghost use Rattle.bosh_base.specs.Call.{method_of};
 ghost use Rattle.bosh_base.specs.CallStep.{CallStep};
 ghost use Rattle.bosh_cloud.specs.Notes.{Does, SameFates};
-ghost use Rattle.bosh_cloud.specs.Performs.{added, added_by, answer_under, fate_of, has_effect, lacked_memory, MeetsFates, Spends};
+ghost use Rattle.bosh_cloud.specs.Performs.{new_effects, effects_if, answer_under, fate_of, has_effect, lacked_memory, MeetsFates, Spends};
 
 use crate::{CloudFault, SimCloud};
 use bosh_base::{Answer, Call, Method, Name, Owner};
@@ -26,10 +26,10 @@ impl<L: Keeper> SimCloud<L> {
         ensures answer { IfOk result (λ answer.
             answer ≡ answer_under (fate_of self.old owner.now call.now) self.old.effects call.now) }
         ensures step { IfOk result (λ answer.
-            CallStep compiled self.old.effects call.now
+            CallStep compiled_digest self.old.effects call.now
             (has_effect (fate_of self.old owner.now call.now) self.old.effects call.now) answer) }
         ensures does { Does L.bodies L.faults result self.old
-            (added self.old (record { n = n; owner = owner.now; dep = dep.now; call = call.now })) self.new }
+            (new_effects self.old (record { n = n; owner = owner.now; dep = dep.now; call = call.now })) self.new }
         ensures fates { MeetsFates result (method_of call.now) owner.now self.old self.new }
     {
         if self.is_stale {
@@ -66,7 +66,7 @@ impl<L: Keeper> SimCloud<L> {
         requires { self.old.is_stale ≡ false }
         ensures answer { IfOk result (λ answer. answer ≡ answer_under fate self.old.effects call.now) }
         ensures does { Does L.bodies L.faults result self.old
-            (added_by (has_effect fate self.old.effects call.now)
+            (effects_if (has_effect fate self.old.effects call.now)
             (record { n = n; owner = owner.now; dep = dep.now; call = call.now })) self.new }
         ensures fates { SameFates self.old self.new }
     {
@@ -88,7 +88,7 @@ impl<L: Keeper> SimCloud<L> {
         requires { self.old.is_stale ≡ false }
         ensures answer { IfOk result (λ answer. answer ≡ Answer.Failed) }
         ensures does { Does L.bodies L.faults result self.old
-            (added_by (has_effect (Some Fate.Late) self.old.effects call.now)
+            (effects_if (has_effect (Some Fate.Late) self.old.effects call.now)
             (record { n = n; owner = owner.now; dep = dep.now; call = call.now })) self.new }
         ensures fates { SameFates self.old self.new }
     {
@@ -108,7 +108,7 @@ impl<L: Keeper> SimCloud<L> {
         requires { self.old.is_stale ≡ false }
         ensures answer { IfOk result (λ answer. answer ≡ answer_under None self.old.effects call.now) }
         ensures does { Does L.bodies L.faults result self.old
-            (added_by (has_effect None self.old.effects call.now)
+            (effects_if (has_effect None self.old.effects call.now)
             (record { n = n; owner = owner.now; dep = dep.now; call = call.now })) self.new }
         ensures fates { SameFates self.old self.new }
     {

@@ -12,7 +12,7 @@ use Rattle.bosh_bands.specs.Apart.{AreApart}
 use Rattle.bosh_bands.specs.Least.{first_of}
 use Rattle.bosh_fields.specs.declared.fault.FieldFault.{FieldFault}
 use Rattle.bosh_yaml.specs.Tree.{Tree}
-use Rattle.bosh_cloudcfg.specs.Check.{checked, configured, unless}
+use Rattle.bosh_cloudcfg.specs.Check.{config_of_tables, config_of_tree, unless}
 use Rattle.bosh_cloudcfg.specs.Config.{config_of}
 use Rattle.bosh_cloudcfg.specs.Passes.{first_fault, first_in, have_common, out_of_place, overlap, unknown_name}
 use Rattle.bosh_cloudcfg.specs.Tables.{tables}
@@ -58,11 +58,11 @@ passed : (fault : Option CfgFault) (config given : Config) → unless fault conf
 passed None config given h = (refl, cc)
 passed (Some fault) config given h = absurd (cc)
 
-checked_apart : (read : Result Tables FieldFault) (config : Config) → checked read ≡ Ok config → AreApart config.plan.subnets
+checked_apart : (read : Result Tables FieldFault) (config : Config) → config_of_tables read ≡ Ok config → AreApart config.plan.subnets
 checked_apart (Ok read) config h =
     let (none, same) = passed (first_fault (config_of read)) (config_of read) config h in
     subst (λ (c : Config). AreApart c.plan.subnets) same (are_apart (config_of read).plan.subnets (no_overlap (config_of read) none))
 checked_apart (Err fault) config h = absurd (cc)
 
-pub configured_apart : (tree : Tree) (config : Config) → configured tree ≡ Ok config → AreApart config.plan.subnets
+pub configured_apart : (tree : Tree) (config : Config) → config_of_tree tree ≡ Ok config → AreApart config.plan.subnets
 configured_apart tree config h = checked_apart (tables tree) config h

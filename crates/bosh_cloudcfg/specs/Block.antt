@@ -2,7 +2,7 @@
 use Rattle.std.specs.Prelude.{ℕ, ◌+◌, ◌-◌, ◌*◌, ◌%◌, ◌^◌, ◌&&◌, ◌==◌, nat_le, List, Option, Some, None, fold, position, take, drop, decimal, if◌then◌else◌}
 use Rattle.std.specs.Str.{bytes_eq}
 use Rattle.bosh_base.specs.declared.addr.Addr.{Addr}
-use Rattle.bosh_fields.specs.Address.{addr_in, spelled}
+use Rattle.bosh_fields.specs.Address.{addr_in, or_malformed}
 use Rattle.bosh_fields.specs.Answer.{◌>>=◌}
 use Rattle.bosh_fields.specs.Kind.{Kind, a_text}
 use Rattle.bosh_cloudcfg.specs.declared.block.Block.{Block}
@@ -36,4 +36,4 @@ block_in text = block_at text (position (λ byte. byte == 47) text)
 abbrev pub a_block : Kind Block
 a_block key t = do
   text ← a_text key t
-  spelled key (block_in text)
+  or_malformed key (block_in text)

@@ -14,9 +14,9 @@ abbrev pub unless : {A : Type 0} → Option CfgFault → A → Result A CfgFault
 unless None value = Ok value
 unless (Some fault) value = Err fault
 
-abbrev pub checked : Result Tables FieldFault → Result Config CfgFault
-checked (Ok tables) = unless (first_fault (config_of tables)) (config_of tables)
-checked (Err fault) = Err (fault_of fault)
+abbrev pub config_of_tables : Result Tables FieldFault → Result Config CfgFault
+config_of_tables (Ok tables) = unless (first_fault (config_of tables)) (config_of tables)
+config_of_tables (Err fault) = Err (fault_of fault)
 
-abbrev pub configured : Tree → Result Config CfgFault
-configured t = checked (tables t)
+abbrev pub config_of_tree : Tree → Result Config CfgFault
+config_of_tree t = config_of_tables (tables t)

@@ -16,8 +16,8 @@ use Rattle.bosh_cloudcfg.specs.Properties.{properties}
 use Rattle.bosh_cloudcfg.specs.Subnet.{a_network}
 
 -- a list of mappings, each with a name that none before it has
-abbrev pub named : {A : Type 0} → (List ℕ → Tree → Result A FieldFault) → ℕ → Kind (List A)
-named item most = a_distinct_list (name_in (codes "name")) item most
+abbrev pub a_named_list : {A : Type 0} → (List ℕ → Tree → Result A FieldFault) → ℕ → Kind (List A)
+a_named_list item most = a_distinct_list (name_in (codes "name")) item most
 
 abbrev pub a_zone : List ℕ → Tree → Result Zone FieldFault
 a_zone name t = Ok (record { name = name })
@@ -47,19 +47,19 @@ a_compilation key t = do
 -- the types of disks, of which there may be none
 abbrev pub disk_types : Tree → Result (List DiskKind) FieldFault
 disk_types t = do
-  found ← optional (named a_disk_kind 64) (codes "disk_types") t
+  found ← optional (a_named_list a_disk_kind 64) (codes "disk_types") t
   Ok (unwrap_or found [])
 
 -- the types of machines and of disks, and where packages are compiled
 abbrev pub kinds : Tree → Result ((List VmKind × List DiskKind) × Compilation) FieldFault
 kinds t =
-    both (both (required (named a_vm_kind 64) (codes "vm_types") t) (disk_types t))
+    both (both (required (a_named_list a_vm_kind 64) (codes "vm_types") t) (disk_types t))
     (required a_compilation (codes "compilation") t)
 
 abbrev pub tables : Tree → Result Tables FieldFault
 tables t = do
   zoned ←
-      both (required (named a_zone 64) (codes "azs") t) (required (named a_network 16) (codes "networks") t)
+      both (required (a_named_list a_zone 64) (codes "azs") t) (required (a_named_list a_network 16) (codes "networks") t)
   others ← kinds t
   Ok (record {
     azs = zoned.0;

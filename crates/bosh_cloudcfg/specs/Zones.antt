@@ -5,12 +5,12 @@ use Rattle.bosh_fields.specs.Answer.{◌>>=◌}
 use Rattle.bosh_fields.specs.Distinct.{a_distinct_list}
 use Rattle.bosh_fields.specs.Field.{optional, value_at}
 use Rattle.bosh_fields.specs.Kind.{Kind, a_name}
-use Rattle.bosh_fields.specs.List.{unlimited}
+use Rattle.bosh_fields.specs.List.{no_limit}
 use Rattle.bosh_fields.specs.declared.fault.FieldFault.{FieldFault}
 
 -- names alone, of which none stands twice
 abbrev pub names : Kind (List (List ℕ))
-names = a_distinct_list a_name (λ name _. Ok name) unlimited
+names = a_distinct_list a_name (λ name _. Ok name) no_limit
 
 abbrev pub one_zone : Tree → Result (Option (List (List ℕ))) FieldFault
 one_zone t = do

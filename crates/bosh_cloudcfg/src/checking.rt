@@ -1,7 +1,7 @@
 ghost use Rattle.std.specs.Prelude.{Ok};
 ghost use Rattle.bosh_yaml.specs.View.{tree_of};
 ghost use Rattle.bosh_cloudcfg.specs.Answer.{IsAnswer};
-ghost use Rattle.bosh_cloudcfg.specs.Check.{checked, configured};
+ghost use Rattle.bosh_cloudcfg.specs.Check.{config_of_tables, config_of_tree};
 
 use crate::assembly::config_of;
 use crate::passes::check_config;
@@ -11,7 +11,7 @@ use bosh_yaml::Node;
 use std::alloc::Global;
 
 fn checked(alloc: Global, tables: Tables) -> Result<Config, CfgFault>
-    ensures { IsAnswer result (checked (Ok tables)) }
+    ensures { IsAnswer result (config_of_tables (Ok tables)) }
 {
     let config = config_of(alloc, tables)?;
     check_config(alloc, &config)?;
@@ -22,7 +22,7 @@ fn checked(alloc: Global, tables: Tables) -> Result<Config, CfgFault>
 /// machines and of disks, and the compilation. Then come the names that the config does not have, then the addresses
 /// that are out of place, subnet by subnet, and last the subnets that overlap. Other keys are not looked at.
 pub fn check(alloc: Global, node: &Node) -> Result<Config, CfgFault>
-    ensures { IsAnswer result (configured (tree_of node.now)) }
+    ensures { IsAnswer result (config_of_tree (tree_of node.now)) }
 {
     checked(alloc, read_tables(alloc, node)?)
 }

@@ -3,7 +3,7 @@ ghost use Rattle.std.specs.Prelude.{codes};
 ghost use Rattle.bosh_yaml.specs.View.{tree_of};
 ghost use Rattle.bosh_fields.specs.Answer.{IsAnswer, both};
 ghost use Rattle.bosh_fields.specs.Field.{required};
-ghost use Rattle.bosh_cloudcfg.specs.Tables.{a_vm_kind, disk_types, kinds, named, tables};
+ghost use Rattle.bosh_cloudcfg.specs.Tables.{a_named_list, a_vm_kind, disk_types, kinds, tables};
 
 use crate::items::Zone;
 use crate::subnet::NetworkFields;
@@ -41,7 +41,7 @@ fn disk_types(alloc: Global, node: &Node) -> Result<Seq<DiskKind>, FieldFault>
 // The types of machines and of disks.
 fn vm_and_disk_types(alloc: Global, node: &Node) -> Result<(Seq<VmKind>, Seq<DiskKind>), FieldFault>
     ensures { IsAnswer result
-        (both (required (named a_vm_kind 64) (codes "vm_types") (tree_of node.now)) (disk_types (tree_of node.now))) }
+        (both (required (a_named_list a_vm_kind 64) (codes "vm_types") (tree_of node.now)) (disk_types (tree_of node.now))) }
 {
     let vm_types = required::<Distinct<VmKind, MAX_KINDS>>(alloc, node, b"vm_types")?;
     Ok((vm_types.into_items(), disk_types(alloc, node)?))

@@ -1,23 +1,23 @@
 -- How tasks are told that have no end after a run (this project's profile).
 use Rattle.std.specs.Prelude.{codes, decimal}
-use Rattle.bosh_answers.specs.Ends.{stopped}
+use Rattle.bosh_answers.specs.Ends.{stopped_reply}
 use Rattle.bosh_base.specs.declared.moves.Cause.{Cause}
 use Rattle.bosh_base.specs.declared.moves.Cause.TheVariants as causes
 use Rattle.bosh_base.specs.declared.reply.Reply.{Reply}
 use Rattle.bosh_base.specs.declared.reply.Reply.TheVariants.{Refused}
 use Rattle.bosh_director.specs.declared.left.Left.{Left}
 use Rattle.bosh_director.specs.declared.left.Left.TheVariants as left
-use Rattle.bosh_refusals.specs.Refused.{refused, refused_with}
+use Rattle.bosh_refusals.specs.Refused.{bare_refusal, refusal_with}
 
 -- how a halt is told of a task that it left without an end
 abbrev pub told_halt : Cause → Reply
-told_halt causes.Stop = stopped
-told_halt causes.Store = Refused (refused (codes "book") (codes "StoreFault"))
-told_halt causes.CloudStore = Refused (refused (codes "world") (codes "CloudStore"))
+told_halt causes.Stop = stopped_reply
+told_halt causes.Store = Refused (bare_refusal (codes "book") (codes "StoreFault"))
+told_halt causes.CloudStore = Refused (bare_refusal (codes "world") (codes "CloudStore"))
 
 -- how a task is told that has no end
 abbrev pub told_left : Left → Reply
-told_left left.Nothing = stopped
+told_left left.Nothing = stopped_reply
 told_left (left.Halted cause) = told_halt cause
-told_left left.Full = Refused (refused (codes "book") (codes "Full"))
-told_left (left.Waits task) = Refused (refused_with (codes "book") (codes "Locked") (decimal task))
+told_left left.Full = Refused (bare_refusal (codes "book") (codes "Full"))
+told_left (left.Waits task) = Refused (refusal_with (codes "book") (codes "Locked") (decimal task))

@@ -5,7 +5,7 @@ use Rattle.std.specs.List.{list_all}
 use Rattle.std.proofs.lemmas.Bool.{and_parts, leb-true, ne_eqb}
 use Rattle.std.proofs.lemmas.List.Sums.{fold-append}
 use Rattle.bosh_base.proofs.HistoryLemmas.{latest_last, kept_along}
-use Rattle.bosh_base.specs.Cloud.{when, attached, applied, by_call, contents_of, disks_created, drained, is_disk_mounted, is_drained, is_running, is_silent, moved, mounts, silence, spec_of, started, vms_created, written}
+use Rattle.bosh_base.specs.Cloud.{when, attached, applied, by_call, contents_of, disks_created, drained, is_disk_mounted, is_drained, is_running, is_silent, contents_after_call, mounts, silence, spec_of, started, vms_created, contents_after}
 use Rattle.bosh_base.specs.History.{chosen, latest}
 use Rattle.bosh_base.specs.declared.call.Call.{Call}
 use Rattle.bosh_base.specs.declared.call.Call.TheVariants.{AttachDisk, DetachDisk, Apply, Start, Drain, Stop, MountDisk, UnmountDisk, MigrateDisk}
@@ -76,7 +76,7 @@ unmounted n d (UnmountDisk vm disk) names later = ap (λ is. when is false) (apa
 unmounted n d call names later = refl
 
 unmoved : (n d : ℕ) (contents : ℕ → List ℕ) (call : Call) → Named n (disks_named_by call) → n < d →
-    moved contents call d ≡ contents d
+    contents_after_call contents call d ≡ contents d
 unmoved n d contents (MigrateDisk vm from to) names later =
     ap (λ is. if is then contents from else contents d)
     (apart_from n to d true (and_parts (is_created n from) (is_created n to && true) names).1 later)
@@ -124,7 +124,7 @@ step xs x it next = record {
       latest_last (by_call (mounts d)) false xs x
       ∙ ap (λ a. chosen a (is_disk_mounted xs d)) (mounted d (disks d later) x next) ∙ it.mounted d (disks d later);
   contents = λ d later.
-      ap (λ all. all d) (fold-append written (λ d. []) xs (x ∷ [])) ∙ contents d (disks d later) x next
+      ap (λ all. all d) (fold-append contents_after (λ d. []) xs (x ∷ [])) ∙ contents d (disks d later) x next
       ∙ it.contents d (disks d later);
 }
   where
@@ -171,7 +171,7 @@ step xs x it next = record {
     mounted d later x next = refl
 
     contents : (d : ℕ) → disks_created xs < d → (x : Entry) → IsNext xs x →
-        written (contents_of xs) x d ≡ contents_of xs d
+        contents_after (contents_of xs) x d ≡ contents_of xs d
     contents d later (Effect e) next = unmoved (disks_created xs) d (contents_of xs) e.call next.disks later
     contents d later (Write w) next =
         ap (λ is. if is then w.text else contents_of xs d)

@@ -6,7 +6,7 @@ use Rattle.std.proofs.lemmas.Bool.{and_parts, eqb-true, ne_eqb}
 use Rattle.std.proofs.lemmas.List.Sums.{fold-append}
 use Rattle.bosh_base.proofs.HistoryLemmas.{latest_last}
 use Rattle.bosh_base.specs.CallStep.{is_movable, takes_effect}
-use Rattle.bosh_base.specs.Cloud.{when, attached, by_call, contents_of, disk_presence, disk_stays, disks_created, holder_of, is_disk_mounted, is_disk_there, is_vm_there, mounts, moved, vm_presence, vm_stays, vms_created, written}
+use Rattle.bosh_base.specs.Cloud.{when, attached, by_call, contents_of, disk_presence, disk_stays, disks_created, holder_of, is_disk_mounted, is_disk_there, is_vm_there, mounts, contents_after_call, vm_presence, vm_stays, vms_created, contents_after}
 use Rattle.bosh_base.specs.History.{chosen}
 use Rattle.bosh_base.specs.declared.answer.Answer.TheVariants as answers
 use Rattle.bosh_base.specs.declared.call.Call.{Call}
@@ -49,15 +49,15 @@ grown : (xs : List Entry) (x : Entry) (d : ℕ) →
     ≡ told (disk_state xs d) (disk_presence d xs x)
     (held_where (λ v. chosen (vm_presence v xs x) (is_vm_there xs v))
     (chosen (by_call (attached d) x) (last_holder xs d)))
-    (by_call (mounts d) x) (written (contents_of xs) x d)
+    (by_call (mounts d) x) (contents_after (contents_of xs) x d)
 grown xs x d =
     let there : is_disk_there (xs ++ x ∷ []) d ≡ chosen (disk_presence d xs x) (is_disk_there xs d) =
     is_disk_there-grown xs x d in
     let holder : holder_of (xs ++ x ∷ []) d ≡ _ = holder_of-grown xs x d in
     let mounted : is_disk_mounted (xs ++ x ∷ []) d ≡ chosen (by_call (mounts d) x) (is_disk_mounted xs d) =
     latest_last (by_call (mounts d)) false xs x in
-    let contents : contents_of (xs ++ x ∷ []) d ≡ written (contents_of xs) x d =
-    ap (λ all. all d) (fold-append written (λ d. []) xs (x ∷ [])) in
+    let contents : contents_of (xs ++ x ∷ []) d ≡ contents_after (contents_of xs) x d =
+    ap (λ all. all d) (fold-append contents_after (λ d. []) xs (x ∷ [])) in
     λ i. record { there = there i; holder = holder i; mounted = mounted i; contents = contents i }
 
 -- ---- who has the disk
@@ -95,7 +95,7 @@ by_call_told : (there : ℕ → Bool) (vms disks d : ℕ) (all : ℕ → List �
     ((v : ℕ) → last ≡ Some v → v ≤ vms) → (disks < d → record it { there = true } ≡ new_disk) → Attaches there call →
     told it (disk_stays d disks call)
     (held_where (λ v. chosen (vm_stays v vms call) (there v)) (chosen (attached d call) last)) (mounts d call)
-    (moved all call d)
+    (contents_after_call all call d)
     ≡ disk_after_call disks all d call it
 by_call_told there vms disks d all (CreateVm make hint) it last holder contents old new attaches =
     λ i. told it None ((held_by_old there vms last old ∙ sym holder) i) None (sym contents i)
@@ -180,7 +180,7 @@ entry_changes_disk built xs x d orderly follows = grown xs x d ∙ by_entry x fo
         told (disk_state xs d) (disk_presence d xs x)
         (held_where (λ v. chosen (vm_presence v xs x) (is_vm_there xs v))
         (chosen (by_call (attached d) x) (last_holder xs d)))
-        (by_call (mounts d) x) (written (contents_of xs) x d)
+        (by_call (mounts d) x) (contents_after (contents_of xs) x d)
         ≡ disk_after (disks_created xs) (contents_of xs) d x (disk_state xs d)
     by_entry (Effect e) takes =
         by_call_told (is_vm_there xs) (vms_created xs) (disks_created xs) d (contents_of xs) e.call (disk_state xs d)

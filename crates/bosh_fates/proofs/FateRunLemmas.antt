@@ -5,7 +5,7 @@ use Rattle.std.specs.Option.{option_map}
 use Rattle.std.proofs.lemmas.List.Sums.{sum_by-cons}
 use Rattle.bosh_base.specs.declared.method.Method.{Method}
 use Rattle.bosh_base.specs.declared.owner.Owner.{Owner}
-use Rattle.bosh_fates.specs.Fates.{decided, fates_after, is_due, is_waiting, matches, met, nearer}
+use Rattle.bosh_fates.specs.Fates.{decision, due_count, fates_after, is_due, is_waiting, matches, nearer}
 use Rattle.bosh_fates.specs.FateRuns.{fates_after_all, is_its_call, matching}
 use Rattle.bosh_fates.specs.declared.fate.Doom.{Doom}
 
@@ -99,7 +99,7 @@ same_fate method owner (Some doom) = ap Some (go (matches method owner doom))
     go false = refl
 
 pub decided-after : (calls : List (Method × Owner)) (dooms : List Doom) (method : Method) (owner : Owner) →
-    decided method owner (fates_after_all calls dooms)
+    decision method owner (fates_after_all calls dooms)
     ≡ option_map (λ doom. doom.fate) (find (is_its_call calls method owner) dooms)
 decided-after [] dooms method owner =
     ap (λ (test : Doom → Bool). option_map (λ doom. doom.fate) (find test dooms)) (λ i doom. due-is method owner doom i)
@@ -112,7 +112,7 @@ decided-after (call ∷ calls) dooms method owner =
     (λ i doom. its_call-next call.0 call.1 calls method owner doom i)
 
 pub met-after : (calls : List (Method × Owner)) (dooms : List Doom) (method : Method) (owner : Owner) →
-    met method owner (fates_after_all calls dooms) ≡ count_by (is_its_call calls method owner) dooms
+    due_count method owner (fates_after_all calls dooms) ≡ count_by (is_its_call calls method owner) dooms
 met-after [] dooms method owner = ap (λ (test : Doom → Bool). count_by test dooms) (λ i doom. due-is method owner doom i)
 met-after (call ∷ calls) dooms method owner =
     met-after calls (fates_after call.0 call.1 dooms) method owner

@@ -22,12 +22,12 @@ abbrev pub is_due : Method → Owner → Doom → Bool
 is_due method owner doom = doom.calls == 1 && matches method owner doom
 
 -- the fate that decides: the first that was set of those that are due
-abbrev pub decided : Method → Owner → List Doom → Option Fate
-decided method owner dooms = option_map (λ doom. doom.fate) (find (is_due method owner) dooms)
+abbrev pub decision : Method → Owner → List Doom → Option Fate
+decision method owner dooms = option_map (λ doom. doom.fate) (find (is_due method owner) dooms)
 
 -- how many are due
-abbrev pub met : Method → Owner → List Doom → ℕ
-met method owner dooms = count_by (is_due method owner) dooms
+abbrev pub due_count : Method → Owner → List Doom → ℕ
+due_count method owner dooms = count_by (is_due method owner) dooms
 
 -- one call nearer
 abbrev pub nearer : Method → Owner → Doom → Doom

@@ -1,5 +1,5 @@
 ghost use Rattle.std.specs.Prelude.{◌≡◌, filter, map};
-ghost use Rattle.bosh_fates.specs.Fates.{decided, fates_after, is_waiting, matches, met, nearer};
+ghost use Rattle.bosh_fates.specs.Fates.{decision, due_count, fates_after, is_waiting, matches, nearer};
 
 use bosh_base::{Method, Owner};
 
@@ -38,7 +38,7 @@ impl Doom {
 
 /// The fate that decides on a call: the first that was set of those whose call it is.
 pub fn decided(dooms: &[Doom], method: Method, owner: &Owner) -> Option<Fate>
-    ensures { result ≡ decided method owner.now dooms.now }
+    ensures { result ≡ decision method owner.now dooms.now }
 {
     dooms
         .iter()
@@ -48,7 +48,7 @@ pub fn decided(dooms: &[Doom], method: Method, owner: &Owner) -> Option<Fate>
 
 /// How many fates a call meets.
 pub fn met(dooms: &[Doom], method: Method, owner: &Owner) -> usize
-    ensures { result ≡ met method owner.now dooms.now }
+    ensures { result ≡ due_count method owner.now dooms.now }
 {
     dooms
         .iter()

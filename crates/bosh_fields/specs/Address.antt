@@ -48,17 +48,17 @@ unfoldable pub band_in : List ℕ → Option Band
 band_in text = band_at text (position (λ byte. byte == 45) text)
 
 -- what a text spells, or the fault where it spells nothing of the kind
-abbrev pub spelled : {A : Type 0} → List ℕ → Option A → Result A FieldFault
-spelled key None = Err (Malformed key)
-spelled key (Some value) = Ok value
+abbrev pub or_malformed : {A : Type 0} → List ℕ → Option A → Result A FieldFault
+or_malformed key None = Err (Malformed key)
+or_malformed key (Some value) = Ok value
 
 abbrev pub an_addr : Kind Addr
 an_addr key t = do
   text ← a_text key t
-  spelled key (addr_in text)
+  or_malformed key (addr_in text)
 
 -- one address, or a range of them
 abbrev pub a_band : Kind Band
 a_band key t = do
   text ← a_text key t
-  spelled key (band_in text)
+  or_malformed key (band_in text)

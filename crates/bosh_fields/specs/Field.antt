@@ -1,6 +1,6 @@
 -- Values at the keys of a mapping. What is no mapping has no key, and a key whose value is null counts as absent.
 use Rattle.std.specs.Prelude.{ℕ, List, Option, Some, None, Result, Ok, Err}
-use Rattle.bosh_yaml.specs.Keys.{found}
+use Rattle.bosh_yaml.specs.Keys.{value_of_key}
 use Rattle.bosh_yaml.specs.Tree.{Tree, null}
 use Rattle.bosh_fields.specs.Answer.{◌>>=◌}
 use Rattle.bosh_fields.specs.Kind.{Kind}
@@ -15,7 +15,7 @@ unless_null (Some t) = Some t
 
 -- the value at a key
 abbrev pub value_at : List ℕ → Tree → Option Tree
-value_at key holder = unless_null (found key holder)
+value_at key holder = unless_null (value_of_key key holder)
 
 abbrev pub required_value : {A : Type 0} → Kind A → List ℕ → Option Tree → Result A FieldFault
 required_value kind key None = Err (Missing key)

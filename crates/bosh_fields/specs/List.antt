@@ -26,8 +26,8 @@ count no_trees = 0
 count (tree t ts) = suc (count ts)
 
 -- the most items of a list that may have any number of them
-abbrev pub unlimited : ℕ
-unlimited = 2 ^ 64 - 1
+abbrev pub no_limit : ℕ
+no_limit = 2 ^ 64 - 1
 
 -- the items of a list that has no more than the most
 abbrev pub items_up_to : ℕ → Kind Trees

@@ -1,7 +1,7 @@
 //! Addresses and ranges of addresses.
 ghost use Rattle.std.specs.Prelude.{◌≡◌};
 ghost use Rattle.bosh_yaml.specs.View.{tree_of};
-ghost use Rattle.bosh_fields.specs.Address.{addr_in, band_in, spelled};
+ghost use Rattle.bosh_fields.specs.Address.{addr_in, band_in, or_malformed};
 ghost use Rattle.bosh_fields.specs.Answer.{IsAnswer};
 
 use crate::fault::{malformed, wrong_kind};
@@ -13,7 +13,7 @@ use std::alloc::Global;
 
 /// What a text spells, or the refusal where it spells nothing of the kind that its key takes.
 pub fn spelled<T: Drop>(alloc: Global, key: &[u8], value: Option<T>) -> Result<T, FieldFault>
-    ensures { IsAnswer result (spelled key.now value) }
+    ensures { IsAnswer result (or_malformed key.now value) }
 {
     match value {
         Some(value) => Ok(value),

@@ -6,7 +6,7 @@ use Rattle.bosh_template.specs.declared.fault.TemplateFault.{TemplateFault}
 use Rattle.bosh_template.specs.declared.fault.TemplateFault.TheVariants.{Syntax}
 use Rattle.bosh_template.specs.declared.template.Part.{Part}
 use Rattle.bosh_template.proofs.PartLemmas.{IsReadTo, IsReadTo-start, IsReadTo-more, IsReadTo-end, IsReadTo-refused, IsReadTo-within, part_at-shorter, spelled_once, refused_once, refused_spells_none}
-use Rattle.bosh_files.specs.Parsed.{parsed, parsed_from, with_part}
+use Rattle.bosh_files.specs.Parsed.{parts_from, parts_in, with_part}
 
 -- what is read of a text agrees with what it spells
 abbrev pub Agrees : List ℕ → Result (List Part) TemplateFault → Type 0
@@ -31,13 +31,13 @@ with_part-agrees go text most parts rest (Some read) goes e r some h =
     let shorter = part_at-shorter rest read some e in
     goes (parts ++ read.0 ∷ []) read.1 (IsReadTo-more text rest parts read r some e) (omega arith)
 
-parsed_from-agrees : (text : List ℕ) (most : ℕ) (parts : List Part) (rest : List ℕ) → IsReadTo text rest parts → length rest ≤ most → Agrees text (parsed_from text most parts rest)
+parsed_from-agrees : (text : List ℕ) (most : ℕ) (parts : List Part) (rest : List ℕ) → IsReadTo text rest parts → length rest ≤ most → Agrees text (parts_from text most parts rest)
 parsed_from-agrees text zero parts rest r h = IsReadTo-end text rest parts r (no_rest rest h)
 parsed_from-agrees text (suc most) parts [] r h = IsReadTo-end text [] parts r refl
 parsed_from-agrees text (suc most) parts (b ∷ rest) r h =
-    with_part-agrees (parsed_from text most) text most parts (b ∷ rest) (part_at (b ∷ rest)) (parsed_from-agrees text most) refl r (some_rest b rest) h
+    with_part-agrees (parts_from text most) text most parts (b ∷ rest) (part_at (b ∷ rest)) (parsed_from-agrees text most) refl r (some_rest b rest) h
 
-parsed-agrees : (text : List ℕ) → Agrees text (parsed text)
+parsed-agrees : (text : List ℕ) → Agrees text (parts_in text)
 parsed-agrees text = parsed_from-agrees text (length text) [] text (IsReadTo-start text) (omega arith)
 
 agrees-spelled : (text : List ℕ) (answer : Result (List Part) TemplateFault) (parts : List Part) → Agrees text answer → Spells text parts → answer ≡ Ok parts
@@ -48,8 +48,8 @@ agrees-refused : (text : List ℕ) (answer : Result (List Part) TemplateFault) (
 agrees-refused text (Ok parts) place a h = absurd (refused_spells_none text place parts h a)
 agrees-refused text (Err fault) place a h = ap (λ f. Err f) (a.1 ∙ ap (λ p. Syntax p) (refused_once text a.0 place a.2 h))
 
-pub parsed-spelled : (text : List ℕ) (parts : List Part) → Spells text parts → parsed text ≡ Ok parts
-parsed-spelled text parts h = agrees-spelled text (parsed text) parts (parsed-agrees text) h
+pub parsed-spelled : (text : List ℕ) (parts : List Part) → Spells text parts → parts_in text ≡ Ok parts
+parsed-spelled text parts h = agrees-spelled text (parts_in text) parts (parsed-agrees text) h
 
-pub parsed-refused : (text : List ℕ) (place : ℕ) → IsSyntax text place → parsed text ≡ Err (Syntax place)
-parsed-refused text place h = agrees-refused text (parsed text) place (parsed-agrees text) h
+pub parsed-refused : (text : List ℕ) (place : ℕ) → IsSyntax text place → parts_in text ≡ Err (Syntax place)
+parsed-refused text place h = agrees-refused text (parts_in text) place (parsed-agrees text) h

@@ -3,7 +3,7 @@ use Rattle.std.proofs.Common.{◌≡◌, ℕ, ◌+◌, ◌<◌, ◌≤◌, true,
 use Rattle.std.proofs.lemmas.Grind.{common_steps}
 use Rattle.std.proofs.lemmas.List.Sums.{sum_by-append}
 use Rattle.bosh_files.specs.Budget.{AreTaken, Counts, Takes, is_kept}
-use Rattle.bosh_files.specs.Gathered.{after, gather, joined}
+use Rattle.bosh_files.specs.Gathered.{after, gather, joined_lists}
 use Rattle.bosh_files.specs.declared.budget.Budget.{Budget}
 use Rattle.bosh_files.specs.declared.budget.Budget.TheVariants.{Left, Spent}
 
@@ -23,7 +23,7 @@ AreTaken-more size a b c old mid new one other s t = record {
   kept = λ e. t.kept e ∙ ap (λ l. l ++ other) (s.kept (kept-before size b c mid new other t e)) ∙ append_assoc old one other;
 }
 
-pub after-joined : {A F : Type 0} (first piece : List A) (others : Result (List A) F) → after first (joined (Ok piece) others) ≡ after (first ++ piece) others
+pub after-joined : {A F : Type 0} (first piece : List A) (others : Result (List A) F) → after first (joined_lists (Ok piece) others) ≡ after (first ++ piece) others
 after-joined first piece (Ok more) = ap (λ t. Ok t) (sym (append_assoc first piece more))
 after-joined first piece (Err fault) = refl
 
@@ -33,7 +33,7 @@ after-nil (Err fault) = refl
 
 -- what comes of those from one on
 pub gather-next : {A B F : Type 0} (of : A → Result (List B) F) (xs : List A) (i : ℕ) (x : A) → i < length xs → x ≡ get_or xs i x
-    → gather of (drop i xs) ≡ joined (of x) (gather of (drop (i + 1) xs))
+    → gather of (drop i xs) ≡ joined_lists (of x) (gather of (drop (i + 1) xs))
 gather-next of xs i x within is =
     let e : drop i xs ≡ x ∷ drop (i + 1) xs = rw (add-one, drop-cons xs i x, ← is) refl in
     ap (gather of) e
@@ -66,13 +66,13 @@ AreGathered-more memory done of size xs i x before now later old new newer g wit
     record {
       things = g.things ++ piece;
       taken = AreTaken-more size before now later old new newer g.things piece g.taken taken;
-      whole = g.whole ∙ ap (after g.things) (gather-next of xs i x within is ∙ ap (λ a. joined a others) told) ∙ after-joined g.things piece others;
+      whole = g.whole ∙ ap (after g.things) (gather-next of xs i x within is ∙ ap (λ a. joined_lists a others) told) ∙ after-joined g.things piece others;
     }
 
 pub AreGathered-fault : {A B F : Type 0} (of : A → Result (List B) F) (size : B → ℕ) (xs : List A) (i : ℕ) (x : A) (before now : Budget) (old new : List B) (fault : F)
     → AreGathered of size xs i before now old new → i < length xs → x ≡ get_or xs i x → of x ≡ Err fault → gather of xs ≡ Err fault
 AreGathered-fault of size xs i x before now old new fault g within is told =
-    g.whole ∙ ap (after g.things) (gather-next of xs i x within is ∙ ap (λ a. joined a (gather of (drop (i + 1) xs))) told)
+    g.whole ∙ ap (after g.things) (gather-next of xs i x within is ∙ ap (λ a. joined_lists a (gather of (drop (i + 1) xs))) told)
 
 pub AreGathered-end : {T A B F : Type 0} (memory : F) (done : T) (of : A → Result (List B) F) (size : B → ℕ) (xs : List A) (i : ℕ) (before now : Budget) (old new : List B)
     → AreGathered of size xs i before now old new → length xs ≤ i → Takes memory size (Ok done) before now old new (gather of xs)

@@ -8,7 +8,7 @@ use Rattle.bosh_template.specs.Rendering.{rendered}
 use Rattle.bosh_template.specs.declared.fault.TemplateFault.{TemplateFault}
 use Rattle.bosh_template.specs.declared.template.Part.{Part}
 use Rattle.bosh_files.specs.Gathered.{gather}
-use Rattle.bosh_files.specs.Parsed.{parsed}
+use Rattle.bosh_files.specs.Parsed.{parts_in}
 
 -- a job whose files an instance has, with what its templates look up in any instance
 pub record FiledJob : Type 0 where
@@ -22,7 +22,7 @@ rendered_parts env (Err fault) = Err fault
 
 -- the text of a template for an instance
 abbrev pub text_for : Env → List ℕ → Result (List ℕ) TemplateFault
-text_for env text = rendered_parts env (parsed text)
+text_for env text = rendered_parts env (parts_in text)
 
 -- where the file of a template of a job lies
 abbrev pub path_of : List ℕ → List ℕ → List ℕ

@@ -13,12 +13,12 @@ with_part go text parts rest None = Err (Syntax (length text - length rest))
 with_part go text parts rest (Some read) = go (parts ++ read.0 ∷ []) read.1
 
 -- the parts of a text, where some are read and a rest is left, in at most so many steps
-abbrev pub parsed_from : List ℕ → ℕ → List Part → List ℕ → Result (List Part) TemplateFault
-parsed_from text zero parts rest = Ok parts
-parsed_from text (suc most) parts [] = Ok parts
-parsed_from text (suc most) parts (b ∷ rest) =
-    with_part (parsed_from text most) text parts (b ∷ rest) (part_at (b ∷ rest))
+abbrev pub parts_from : List ℕ → ℕ → List Part → List ℕ → Result (List Part) TemplateFault
+parts_from text zero parts rest = Ok parts
+parts_from text (suc most) parts [] = Ok parts
+parts_from text (suc most) parts (b ∷ rest) =
+    with_part (parts_from text most) text parts (b ∷ rest) (part_at (b ∷ rest))
 
 -- the parts of a text, or the first place where none is read
-abbrev pub parsed : List ℕ → Result (List Part) TemplateFault
-parsed text = parsed_from text (length text) [] text
+abbrev pub parts_in : List ℕ → Result (List Part) TemplateFault
+parts_in text = parts_from text (length text) [] text

@@ -1,3 +1,3 @@
-pub mod CameWith
+pub mod ArrivalsWith
 pub mod Planned
 pub mod Room

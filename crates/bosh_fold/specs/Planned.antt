@@ -10,8 +10,8 @@ use Rattle.bosh_plan.specs.Ended.{ended_of}
 use Rattle.bosh_plan.specs.Updated.{left_gone, left_updated, row_updated}
 use Rattle.bosh_plan.specs.Begun.{subject_of}
 use Rattle.bosh_plan.specs.declared.beginning.Subject.{Subject}
-use Rattle.bosh_records.specs.Came.{Came, came}
-use Rattle.bosh_fold.specs.CameWith.{came_with}
+use Rattle.bosh_records.specs.Arrivals.{Arrivals, arrivals}
+use Rattle.bosh_fold.specs.ArrivalsWith.{arrivals_with}
 use Rattle.bosh_plan.specs.Closed.{end_after, offers_after}
 use Rattle.bosh_plan.specs.Opened.{IsOpened}
 use Rattle.bosh_fold.specs.declared.change.Change.{Change}
@@ -34,8 +34,8 @@ IsUpdated row left (changes.Updated updated) = (updated.row ≡ row) × (updated
 IsUpdated row left change = ⊥
 
 -- the records that take the place of all that is recorded, with what came by a snapshot
-abbrev pub IsAnew : Came → Change → Type 0
-IsAnew all (changes.Records records) = came records.value ≡ all
+abbrev pub IsAnew : Arrivals → Change → Type 0
+IsAnew all (changes.Records records) = arrivals records.value ≡ all
 IsAnew all change = ⊥
 
 -- what is planned for an entry after those that the records stand for
@@ -53,17 +53,17 @@ IsPlanned records (entries.UpdDone update) change =
 IsPlanned records (entries.Gone update) change = IsUpdated None (left_gone records update.inst) change
 IsPlanned records (entries.TaskDone task) change = change ≡ changes.Offers (offers_after records task)
 IsPlanned records (entries.TaskError error) change = change ≡ changes.End (end_after records error)
-IsPlanned records (entries.Snapshot it) change = IsAnew (came_with (entries.Snapshot it) (came records)) change
+IsPlanned records (entries.Snapshot it) change = IsAnew (arrivals_with (entries.Snapshot it) (arrivals records)) change
 IsPlanned records (entries.Effect it) change = change ≡ changes.Nothing
 IsPlanned records (entries.Write it) change = change ≡ changes.Nothing
 IsPlanned records (entries.Lost it) change = change ≡ changes.Nothing
 
 -- what came, once a change is learned
-abbrev pub came_after : Change → Came → Came
-came_after (changes.Release it) before = record before { releases = before.releases ++ it ∷ [] }
-came_after (changes.Stemcell it) before = record before { stemcells = before.stemcells ++ it ∷ [] }
-came_after (changes.Config file) before = record before { config = Some file }
-came_after (changes.Opened opened) before = record before { opened = opened.row.task }
-came_after (changes.Begun begun) before = record before { last_call = begun.begin.n }
-came_after (changes.Records records) before = came records.value
-came_after change before = before
+abbrev pub arrivals_after : Change → Arrivals → Arrivals
+arrivals_after (changes.Release it) before = record before { releases = before.releases ++ it ∷ [] }
+arrivals_after (changes.Stemcell it) before = record before { stemcells = before.stemcells ++ it ∷ [] }
+arrivals_after (changes.Config file) before = record before { config = Some file }
+arrivals_after (changes.Opened opened) before = record before { opened = opened.row.task }
+arrivals_after (changes.Begun begun) before = record before { last_call = begun.begin.n }
+arrivals_after (changes.Records records) before = arrivals records.value
+arrivals_after change before = before

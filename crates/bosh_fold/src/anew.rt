@@ -1,7 +1,7 @@
 ghost use Rattle.std.specs.Prelude.{◌≡◌, ◌+◌, IfOk, OnOk, min};
 ghost use Rattle.bosh_base.specs.declared.entry.Entry.TheVariants as entries;
-ghost use Rattle.bosh_records.specs.Came.{came};
-ghost use Rattle.bosh_fold.specs.CameWith.{came_with, opened_with};
+ghost use Rattle.bosh_records.specs.Arrivals.{arrivals};
+ghost use Rattle.bosh_fold.specs.ArrivalsWith.{arrivals_with, opened_with};
 
 use crate::opening::note_wants;
 use crate::updating::add_orphan;
@@ -17,7 +17,7 @@ pub(crate) fn plan_snapshot(
     snapshot: &Snapshot,
 ) -> Result<Box<Records>, RecordsFault>
     ensures { IfOk result (λ anew.
-        came anew.value ≡ came_with (entries.Snapshot snapshot.now) (came records.now)) }
+        arrivals anew.value ≡ arrivals_with (entries.Snapshot snapshot.now) (arrivals records.now)) }
 {
     let mut anew = Records::empty(records.alloc);
     read(&mut anew, snapshot)?;
@@ -25,7 +25,7 @@ pub(crate) fn plan_snapshot(
 }
 
 fn read(records: &mut Records, snapshot: &Snapshot) -> Result<(), RecordsFault>
-    ensures { OnOk result (came records.new ≡ record (came_with (entries.Snapshot snapshot.now) (came records.old)) {
+    ensures { OnOk result (arrivals records.new ≡ record (arrivals_with (entries.Snapshot snapshot.now) (arrivals records.old)) {
       opened = opened_with records.old.opened snapshot.now.tasks;
     }) }
 {
@@ -39,7 +39,7 @@ fn read(records: &mut Records, snapshot: &Snapshot) -> Result<(), RecordsFault>
 }
 
 fn read_uploads(records: &mut Records, snapshot: &Snapshot) -> Result<(), RecordsFault>
-    ensures { OnOk result (came records.new ≡ record (came records.old) {
+    ensures { OnOk result (arrivals records.new ≡ record (arrivals records.old) {
       releases = snapshot.now.releases;
       stemcells = snapshot.now.stemcells;
       config = snapshot.now.config;
@@ -58,7 +58,7 @@ fn read_uploads(records: &mut Records, snapshot: &Snapshot) -> Result<(), Record
 }
 
 fn read_deployments(records: &mut Records, snapshot: &Snapshot) -> Result<(), RecordsFault>
-    ensures { came records.new ≡ came records.old }
+    ensures { arrivals records.new ≡ arrivals records.old }
 {
     read_all(
         records.alloc,
@@ -69,7 +69,7 @@ fn read_deployments(records: &mut Records, snapshot: &Snapshot) -> Result<(), Re
 }
 
 fn read_rows(records: &mut Records, snapshot: &Snapshot) -> Result<(), RecordsFault>
-    ensures { came records.new ≡ came records.old }
+    ensures { arrivals records.new ≡ arrivals records.old }
 {
     for row in snapshot.rows.iter() {
         read_row(records, row)?;
@@ -81,7 +81,7 @@ fn read_rows(records: &mut Records, snapshot: &Snapshot) -> Result<(), RecordsFa
 }
 
 fn read_disks_and_keys(records: &mut Records, snapshot: &Snapshot) -> Result<(), RecordsFault>
-    ensures { came records.new ≡ came records.old }
+    ensures { arrivals records.new ≡ arrivals records.old }
 {
     for orphan in snapshot.orphans.iter() {
         read_orphan(records, orphan)?;
@@ -93,7 +93,7 @@ fn read_disks_and_keys(records: &mut Records, snapshot: &Snapshot) -> Result<(),
 }
 
 fn read_tasks(records: &mut Records, snapshot: &Snapshot) -> Result<(), RecordsFault>
-    ensures { OnOk result (came records.new ≡ record (came records.old) {
+    ensures { OnOk result (arrivals records.new ≡ record (arrivals records.old) {
       opened = opened_with records.old.opened snapshot.now.tasks;
     }) }
 {
@@ -104,7 +104,7 @@ fn read_tasks(records: &mut Records, snapshot: &Snapshot) -> Result<(), RecordsF
 }
 
 fn read_row(records: &mut Records, row: &Row) -> Result<(), RecordsFault>
-    ensures { came records.new ≡ came records.old }
+    ensures { arrivals records.new ≡ arrivals records.old }
 {
     records.instances.ensure(records.alloc, &row.inst)?;
     records.instances.record(row.copy(records.alloc)?);
@@ -112,7 +112,7 @@ fn read_row(records: &mut Records, row: &Row) -> Result<(), RecordsFault>
 }
 
 fn read_machine(records: &mut Records, row: &CompileRow) -> Result<(), RecordsFault>
-    ensures { came records.new ≡ came records.old }
+    ensures { arrivals records.new ≡ arrivals records.old }
 {
     let name = MachineName {
         task: row.task,
@@ -130,7 +130,7 @@ fn read_machine(records: &mut Records, row: &CompileRow) -> Result<(), RecordsFa
 }
 
 fn read_orphan(records: &mut Records, orphan: &Orphan) -> Result<(), RecordsFault>
-    ensures { came records.new ≡ came records.old }
+    ensures { arrivals records.new ≡ arrivals records.old }
 {
     records.orphans.ensure(orphan.disk)?;
     add_orphan(records, orphan.copy(records.alloc)?);
@@ -138,7 +138,7 @@ fn read_orphan(records: &mut Records, orphan: &Orphan) -> Result<(), RecordsFaul
 }
 
 fn read_built(records: &mut Records, built: &BuiltKey) -> Result<(), RecordsFault>
-    ensures { came records.new ≡ came records.old }
+    ensures { arrivals records.new ≡ arrivals records.old }
 {
     records.keys.ensure(records.alloc, &built.name, &built.key)?;
     records.keys.set_digest(&built.key, built.digest);
@@ -146,7 +146,7 @@ fn read_built(records: &mut Records, built: &BuiltKey) -> Result<(), RecordsFaul
 }
 
 fn read_task(records: &mut Records, row: &TaskRow) -> Result<(), RecordsFault>
-    ensures { OnOk result (came records.new ≡ record (came records.old) {
+    ensures { OnOk result (arrivals records.new ≡ record (arrivals records.old) {
       opened = min (records.old.opened + 1) 18446744073709551615;
     }) }
 {

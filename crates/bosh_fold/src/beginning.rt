@@ -1,5 +1,5 @@
 ghost use Rattle.std.specs.Prelude.{◌≡◌};
-ghost use Rattle.bosh_records.specs.Came.{came};
+ghost use Rattle.bosh_records.specs.Arrivals.{arrivals};
 
 use crate::place::{put_where, thing_mut};
 use bosh_base::{Begin, Call, Doubt, Owner};
@@ -9,7 +9,7 @@ use bosh_work::MachineName;
 
 /// A call begins.
 pub(crate) fn learn_begin(records: &mut Records, begun: Begun)
-    ensures { came records.new ≡ record (came records.old) { last_call = begun.begin.n } }
+    ensures { arrivals records.new ≡ record (arrivals records.old) { last_call = begun.begin.n } }
 {
     let Begun { begin, subject } = begun;
     set_subject(records, &begin.owner, subject);
@@ -21,7 +21,7 @@ pub(crate) fn learn_begin(records: &mut Records, begun: Begun)
 }
 
 fn open_call(records: &mut Records, begin: &Begin)
-    ensures { came records.new ≡ came records.old }
+    ensures { arrivals records.new ≡ arrivals records.old }
 {
     set_open_call(records, &begin.owner, Some(begin.n));
     set_compiling(records, &begin.call, Some(begin.n));
@@ -29,7 +29,7 @@ fn open_call(records: &mut Records, begin: &Begin)
 }
 
 fn count_call(records: &mut Records, task: u64)
-    ensures { came records.new ≡ came records.old }
+    ensures { arrivals records.new ≡ arrivals records.old }
 {
     if let Some(row) = thing_mut(&mut records.tasks, &task) {
         if let Some(calls) = row.calls {
@@ -39,7 +39,7 @@ fn count_call(records: &mut Records, task: u64)
 }
 
 fn set_subject(records: &mut Records, owner: &Owner, subject: Subject)
-    ensures { came records.new ≡ came records.old }
+    ensures { arrivals records.new ≡ arrivals records.old }
 {
     match subject {
         Subject::Instance(row) => records.instances.record(row),
@@ -50,7 +50,7 @@ fn set_subject(records: &mut Records, owner: &Owner, subject: Subject)
 }
 
 fn add_machine(records: &mut Records, machine: Machine)
-    ensures { came records.new ≡ came records.old }
+    ensures { arrivals records.new ≡ arrivals records.old }
 {
     let name = MachineName {
         task: machine.row.task,
@@ -64,7 +64,7 @@ fn add_machine(records: &mut Records, machine: Machine)
 }
 
 fn set_doubt(records: &mut Records, owner: &Owner, doubt: Doubt)
-    ensures { came records.new ≡ came records.old }
+    ensures { arrivals records.new ≡ arrivals records.old }
 {
     let place = doubt_place(&mut records.machines, &mut records.orphans, owner);
     put_where(place, Some(doubt));
@@ -72,7 +72,7 @@ fn set_doubt(records: &mut Records, owner: &Owner, doubt: Doubt)
 
 /// Notes the open call of an owner, or that it has none.
 pub(crate) fn set_open_call(records: &mut Records, owner: &Owner, call: Option<u64>)
-    ensures { came records.new ≡ came records.old }
+    ensures { arrivals records.new ≡ arrivals records.old }
 {
     match owner {
         Owner::Instance(inst) => records.instances.set_call(inst, call),
@@ -95,7 +95,7 @@ pub(crate) fn set_open_call(records: &mut Records, owner: &Owner, call: Option<u
 
 /// Notes the open call that compiles a key, or that none does.
 pub(crate) fn set_compiling(records: &mut Records, call: &Call, open: Option<u64>)
-    ensures { came records.new ≡ came records.old }
+    ensures { arrivals records.new ≡ arrivals records.old }
 {
     if let Call::CompilePackage { work, .. } = call {
         records.keys.set_call(&work.key, open);
@@ -104,7 +104,7 @@ pub(crate) fn set_compiling(records: &mut Records, call: &Call, open: Option<u64
 
 // Somebody works on an owner for a task.
 fn take(records: &mut Records, task: u64, owner: &Owner)
-    ensures { came records.new ≡ came records.old }
+    ensures { arrivals records.new ≡ arrivals records.old }
 {
     let places = records.places_of(owner);
     if let Some(work) = thing_mut(&mut records.works, &task) {

@@ -1,7 +1,7 @@
 ghost use Rattle.std.specs.Prelude.{◌≡◌, IfOk, OnErr, OnOk};
-ghost use Rattle.bosh_records.specs.Came.{came};
-ghost use Rattle.bosh_fold.specs.CameWith.{came_with};
-ghost use Rattle.bosh_fold.specs.Planned.{IsPlanned, came_after};
+ghost use Rattle.bosh_records.specs.Arrivals.{arrivals};
+ghost use Rattle.bosh_fold.specs.ArrivalsWith.{arrivals_with};
+ghost use Rattle.bosh_fold.specs.Planned.{IsPlanned, arrivals_after};
 ghost use Rattle.bosh_fold.specs.Room.{HasRoom};
 ghost use Rattle.bosh_fold.specs.declared.change.Change.TheVariants as changes;
 
@@ -39,7 +39,7 @@ pub enum Change {
 pub fn plan(records: &mut Records, entry: &Entry) -> Result<Change, RecordsFault>
     ensures room { IfOk result (λ change. HasRoom records.new change) }
     ensures planned { IfOk result (λ change. IsPlanned records.old entry.now change) }
-    ensures same { came records.new ≡ came records.old }
+    ensures same { arrivals records.new ≡ arrivals records.old }
 {
     match entry {
         Entry::Release(release) => plan_release(records, release),
@@ -62,7 +62,7 @@ pub fn plan(records: &mut Records, entry: &Entry) -> Result<Change, RecordsFault
 fn plan_release(records: &mut Records, release: &Release) -> Result<Change, RecordsFault>
     ensures room { IfOk result (λ change. HasRoom records.new change) }
     ensures planned { IfOk result (λ change. change ≡ changes.Release release.now) }
-    ensures same { came records.new ≡ came records.old }
+    ensures same { arrivals records.new ≡ arrivals records.old }
 {
     records.releases.reserve(1)?;
     Ok(Change::Release(release.copy(records.alloc)?))
@@ -71,7 +71,7 @@ fn plan_release(records: &mut Records, release: &Release) -> Result<Change, Reco
 fn plan_stemcell(records: &mut Records, stemcell: &Stemcell) -> Result<Change, RecordsFault>
     ensures room { IfOk result (λ change. HasRoom records.new change) }
     ensures planned { IfOk result (λ change. change ≡ changes.Stemcell stemcell.now) }
-    ensures same { came records.new ≡ came records.old }
+    ensures same { arrivals records.new ≡ arrivals records.old }
 {
     records.stemcells.reserve(1)?;
     Ok(Change::Stemcell(stemcell.copy(records.alloc)?))
@@ -80,7 +80,7 @@ fn plan_stemcell(records: &mut Records, stemcell: &Stemcell) -> Result<Change, R
 /// Takes what a planned entry changes into the records. It takes no memory.
 pub fn learn(records: &mut Records, entry: &Entry, change: Change)
     requires { HasRoom records.old change }
-    ensures { came records.new ≡ came_after change (came records.old) }
+    ensures { arrivals records.new ≡ arrivals_after change (arrivals records.old) }
 {
     match change {
         Change::Release(release) => records.releases.push_reserved(release),
@@ -99,8 +99,8 @@ pub fn learn(records: &mut Records, entry: &Entry, change: Change)
 
 /// Takes one more entry into the records. For want of memory nothing changes.
 pub fn apply(records: &mut Records, entry: &Entry) -> Result<(), RecordsFault>
-    ensures ok { OnOk result (came records.new ≡ came_with entry.now (came records.old)) }
-    ensures err { OnErr result (came records.new ≡ came records.old) }
+    ensures ok { OnOk result (arrivals records.new ≡ arrivals_with entry.now (arrivals records.old)) }
+    ensures err { OnErr result (arrivals records.new ≡ arrivals records.old) }
 {
     let change = plan(records, entry)?;
     learn(records, entry, change);

@@ -1,5 +1,5 @@
 ghost use Rattle.std.specs.Prelude.{◌≡◌};
-ghost use Rattle.bosh_records.specs.Came.{came};
+ghost use Rattle.bosh_records.specs.Arrivals.{arrivals};
 
 use crate::beginning::{set_compiling, set_open_call};
 use crate::opening::clear_wants;
@@ -11,7 +11,7 @@ use bosh_work::{MachineName, Work};
 /// A task is done: a deploy offers what its goal does from now on, and a deployment that is deleted is recorded no
 /// more.
 pub(crate) fn learn_done(records: &mut Records, entry: &Entry, offers: Seq<Offer>)
-    ensures { came records.new ≡ came records.old }
+    ensures { arrivals records.new ≡ arrivals records.old }
 {
     let Entry::TaskDone(task) = entry else {
         return;
@@ -33,7 +33,7 @@ fn is_deletion(records: &Records, task: u64) -> bool {
 }
 
 fn share(records: &mut Records, task: u64, offers: Seq<Offer>)
-    ensures { came records.new ≡ came records.old }
+    ensures { arrivals records.new ≡ arrivals records.old }
 {
     let since = since_of(records, task);
     put_where(shared_place(&mut records.deployments, since), offers);
@@ -45,7 +45,7 @@ fn since_of(records: &Records, task: u64) -> Option<Since> {
 }
 
 fn drop_deployment(records: &mut Records, task: u64)
-    ensures { came records.new ≡ came records.old }
+    ensures { arrivals records.new ≡ arrivals records.old }
 {
     if let Some(since) = since_of(records, task) {
         clear_wants(records, since);
@@ -55,7 +55,7 @@ fn drop_deployment(records: &mut Records, task: u64)
 
 /// A task ends without being done. After a stop none of its calls is open.
 pub(crate) fn learn_error(records: &mut Records, entry: &Entry, end: TaskEnd)
-    ensures { came records.new ≡ came records.old }
+    ensures { arrivals records.new ≡ arrivals records.old }
 {
     let Entry::TaskError(error) = entry else {
         return;
@@ -68,7 +68,7 @@ pub(crate) fn learn_error(records: &mut Records, entry: &Entry, end: TaskEnd)
 
 /// The calls of a task are open no more, since the director stopped.
 fn forget_calls_of(records: &mut Records, task: u64)
-    ensures { came records.new ≡ came records.old }
+    ensures { arrivals records.new ≡ arrivals records.old }
 {
     for _turn in 0..records.calls.len() {
         if let Some(n) = open_call_of(records, task) {
@@ -87,7 +87,7 @@ fn open_call_of(records: &Records, task: u64) -> Option<u64> {
 }
 
 fn forget_call(records: &mut Records, n: u64)
-    ensures { came records.new ≡ came records.old }
+    ensures { arrivals records.new ≡ arrivals records.old }
 {
     if let Some(begin) = records.calls.remove(&n) {
         set_open_call(records, &begin.owner, None);
@@ -96,7 +96,7 @@ fn forget_call(records: &mut Records, n: u64)
 }
 
 fn close(records: &mut Records, task: u64, end: TaskEnd)
-    ensures { came records.new ≡ came records.old }
+    ensures { arrivals records.new ≡ arrivals records.old }
 {
     put_where(end_place(&mut records.tasks, task), Some(end));
     if let Some(work) = records.works.get(&task) {

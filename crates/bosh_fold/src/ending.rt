@@ -1,5 +1,5 @@
 ghost use Rattle.std.specs.Prelude.{◌≡◌};
-ghost use Rattle.bosh_records.specs.Came.{came};
+ghost use Rattle.bosh_records.specs.Arrivals.{arrivals};
 
 use crate::beginning::{set_compiling, set_open_call};
 use crate::place::thing_mut;
@@ -11,7 +11,7 @@ use bosh_work::{MachineName, Work};
 
 /// A call ends, where it is open.
 pub(crate) fn learn_end(records: &mut Records, ended: Ended)
-    ensures { came records.new ≡ came records.old }
+    ensures { arrivals records.new ≡ arrivals records.old }
 {
     match records.calls.remove(&ended.n) {
         Some(begin) => answered(records, &begin, ended),
@@ -20,7 +20,7 @@ pub(crate) fn learn_end(records: &mut Records, ended: Ended)
 }
 
 fn answered(records: &mut Records, begin: &Begin, ended: Ended)
-    ensures { came records.new ≡ came records.old }
+    ensures { arrivals records.new ≡ arrivals records.old }
 {
     let Ended {
         n: _,
@@ -36,7 +36,7 @@ fn answered(records: &mut Records, begin: &Begin, ended: Ended)
 }
 
 fn close_call(records: &mut Records, begin: &Begin, is_asked: bool)
-    ensures { came records.new ≡ came records.old }
+    ensures { arrivals records.new ≡ arrivals records.old }
 {
     set_open_call(records, &begin.owner, None);
     set_compiling(records, &begin.call, None);
@@ -48,7 +48,7 @@ fn close_call(records: &mut Records, begin: &Begin, is_asked: bool)
 
 // An answered ping is noted for its instance.
 fn asked(records: &mut Records, begin: &Begin)
-    ensures { came records.new ≡ came records.old }
+    ensures { arrivals records.new ≡ arrivals records.old }
 {
     let Some(place) = records.instances.ping_of(&begin.owner) else {
         return;
@@ -59,7 +59,7 @@ fn asked(records: &mut Records, begin: &Begin)
 }
 
 fn fail(records: &mut Records, task: u64, failed: Option<TaskEnd>)
-    ensures { came records.new ≡ came records.old }
+    ensures { arrivals records.new ≡ arrivals records.old }
 {
     if let Some(work) = thing_mut(&mut records.works, &task) {
         work.fail(failed);
@@ -68,7 +68,7 @@ fn fail(records: &mut Records, task: u64, failed: Option<TaskEnd>)
 
 // Nobody works on the owner of a call any more.
 fn give(records: &mut Records, task: u64, begin: &Begin)
-    ensures { came records.new ≡ came records.old }
+    ensures { arrivals records.new ≡ arrivals records.old }
 {
     let places = records.places_of(&begin.owner);
     if let Some(work) = thing_mut(&mut records.works, &task) {
@@ -78,7 +78,7 @@ fn give(records: &mut Records, task: u64, begin: &Begin)
 
 // A compilation that is answered records its key, whatever becomes of the task.
 fn note_built(records: &mut Records, call: &Call, built: Option<Digest>)
-    ensures { came records.new ≡ came records.old }
+    ensures { arrivals records.new ≡ arrivals records.old }
 {
     if let (Call::CompilePackage { work, .. }, Some(digest)) = (call, built) {
         records.keys.set_digest(&work.key, digest);
@@ -87,7 +87,7 @@ fn note_built(records: &mut Records, call: &Call, built: Option<Digest>)
 }
 
 fn tell(records: &mut Records, owner: &Owner, after: Option<After>)
-    ensures { came records.new ≡ came records.old }
+    ensures { arrivals records.new ≡ arrivals records.old }
 {
     match after {
         None => {}
@@ -97,7 +97,7 @@ fn tell(records: &mut Records, owner: &Owner, after: Option<After>)
 }
 
 fn tell_other(records: &mut Records, owner: &Owner, told: Told)
-    ensures { came records.new ≡ came records.old }
+    ensures { arrivals records.new ≡ arrivals records.old }
 {
     match owner {
         Owner::Instance(_) => {}
@@ -113,7 +113,7 @@ fn tell_other(records: &mut Records, owner: &Owner, told: Told)
 }
 
 fn tell_machine(records: &mut Records, name: MachineName, told: Told)
-    ensures { came records.new ≡ came records.old }
+    ensures { arrivals records.new ≡ arrivals records.old }
 {
     match told {
         Told::Nothing => {}
@@ -128,7 +128,7 @@ fn tell_machine(records: &mut Records, name: MachineName, told: Told)
 }
 
 fn drop_machine(records: &mut Records, name: MachineName)
-    ensures { came records.new ≡ came records.old }
+    ensures { arrivals records.new ≡ arrivals records.old }
 {
     let Some((key, sweep)) = uses_of(records, name) else {
         return;
@@ -149,7 +149,7 @@ fn uses_of(records: &Records, name: MachineName) -> Option<(Option<usize>, Optio
 }
 
 fn tell_disk(records: &mut Records, disk: u64, told: Told)
-    ensures { came records.new ≡ came records.old }
+    ensures { arrivals records.new ≡ arrivals records.old }
 {
     match told {
         Told::Nothing => {}
@@ -163,7 +163,7 @@ fn tell_disk(records: &mut Records, disk: u64, told: Told)
 }
 
 fn drop_disk(records: &mut Records, disk: u64)
-    ensures { came records.new ≡ came records.old }
+    ensures { arrivals records.new ≡ arrivals records.old }
 {
     let place = records.places_of(&Owner::Disk(disk)).deleting;
     records.orphans.delete(&disk);

@@ -1,5 +1,5 @@
 ghost use Rattle.std.specs.Prelude.{◌≡◌};
-ghost use Rattle.bosh_records.specs.Came.{came};
+ghost use Rattle.bosh_records.specs.Arrivals.{arrivals};
 
 use crate::place::thing_mut;
 use bosh_base::{DepRow, Goal, Inst};
@@ -10,7 +10,7 @@ use std::mem;
 
 /// A task opens: its deployment has the goal, and each item of it knows its place in it.
 pub(crate) fn learn_opening(records: &mut Records, opened: Opened)
-    ensures { came records.new ≡ record (came records.old) { opened = opened.row.task } }
+    ensures { arrivals records.new ≡ record (arrivals records.old) { opened = opened.row.task } }
 {
     let Opened {
         row,
@@ -27,7 +27,7 @@ pub(crate) fn learn_opening(records: &mut Records, opened: Opened)
 
 // Puts the goal in the place of the current one, or records the deployment.
 fn set_goal(records: &mut Records, task: u64, deployment: Option<DepRow>)
-    ensures { came records.new ≡ came records.old }
+    ensures { arrivals records.new ≡ arrivals records.old }
 {
     let Some(row) = deployment else {
         return;
@@ -39,14 +39,14 @@ fn set_goal(records: &mut Records, task: u64, deployment: Option<DepRow>)
 }
 
 fn add_deployment(records: &mut Records, task: u64, row: DepRow)
-    ensures { came records.new ≡ came records.old }
+    ensures { arrivals records.new ≡ arrivals records.old }
 {
     set_wants(records, &row.goal);
     records.deployments.put(&Since::Task(task), row);
 }
 
 fn replace_goal(records: &mut Records, since: Since, mut new: DepRow)
-    ensures { came records.new ≡ came records.old }
+    ensures { arrivals records.new ≡ arrivals records.old }
 {
     clear_wants(records, since);
     set_wants(records, &new.goal);
@@ -56,13 +56,13 @@ fn replace_goal(records: &mut Records, since: Since, mut new: DepRow)
 }
 
 fn set_wants(records: &mut Records, goal: &Goal)
-    ensures { came records.new ≡ came records.old }
+    ensures { arrivals records.new ≡ arrivals records.old }
 {
     note_wants(&mut records.instances, goal);
 }
 
 pub(crate) fn clear_wants(records: &mut Records, since: Since)
-    ensures { came records.new ≡ came records.old }
+    ensures { arrivals records.new ≡ arrivals records.old }
 {
     if let Some(row) = records.deployments.get(&since) {
         forget_wants(&mut records.instances, &row.goal);
@@ -71,7 +71,7 @@ pub(crate) fn clear_wants(records: &mut Records, since: Since)
 
 // Notes where each instance, machine and disk stands in a task.
 fn set_parts(records: &mut Records, work: &Work)
-    ensures { came records.new ≡ came records.old }
+    ensures { arrivals records.new ≡ arrivals records.old }
 {
     for (place, inst) in work.pings.items.iter().enumerate() {
         records.instances.set_ping(inst, Some(place));
@@ -96,7 +96,7 @@ fn set_parts(records: &mut Records, work: &Work)
 }
 
 fn set_sweep(records: &mut Records, name: MachineName, place: usize)
-    ensures { came records.new ≡ came records.old }
+    ensures { arrivals records.new ≡ arrivals records.old }
 {
     if let Some(machine) = thing_mut(&mut records.machines, &name) {
         machine.sweep = Some(place);
@@ -104,7 +104,7 @@ fn set_sweep(records: &mut Records, name: MachineName, place: usize)
 }
 
 fn set_group(records: &mut Records, changed: &[Inst], group: usize, places: &[usize])
-    ensures { came records.new ≡ came records.old }
+    ensures { arrivals records.new ≡ arrivals records.old }
 {
     for (place, at) in places.iter().enumerate() {
         if let Some(inst) = changed.get(*at) {
@@ -116,7 +116,7 @@ fn set_group(records: &mut Records, changed: &[Inst], group: usize, places: &[us
 }
 
 fn set_deleting(records: &mut Records, disk: u64, place: usize)
-    ensures { came records.new ≡ came records.old }
+    ensures { arrivals records.new ≡ arrivals records.old }
 {
     if let Some(loose) = thing_mut(&mut records.orphans, &disk) {
         loose.deleting = Some(place);

@@ -1,5 +1,5 @@
 ghost use Rattle.std.specs.Prelude.{◌≡◌};
-ghost use Rattle.bosh_records.specs.Came.{came};
+ghost use Rattle.bosh_records.specs.Arrivals.{arrivals};
 
 use crate::place::thing_mut;
 use bosh_base::{Entry, Orphan, Row, Update};
@@ -8,7 +8,7 @@ use bosh_records::{LooseDisk, Records};
 
 /// The update of an instance begins.
 pub(crate) fn learn_update_begin(records: &mut Records, entry: &Entry)
-    ensures { came records.new ≡ came records.old }
+    ensures { arrivals records.new ≡ arrivals records.old }
 {
     let Entry::UpdBegin(update) = entry else {
         return;
@@ -21,7 +21,7 @@ pub(crate) fn learn_update_begin(records: &mut Records, entry: &Entry)
 
 /// The update of an instance is done, or an obsolete one has nothing left.
 pub(crate) fn learn_updated(records: &mut Records, entry: &Entry, updated: Updated)
-    ensures { came records.new ≡ came records.old }
+    ensures { arrivals records.new ≡ arrivals records.old }
 {
     let Updated { row, left } = updated;
     match entry {
@@ -34,7 +34,7 @@ pub(crate) fn learn_updated(records: &mut Records, entry: &Entry, updated: Updat
 }
 
 fn finish_update(records: &mut Records, update: &Update)
-    ensures { came records.new ≡ came records.old }
+    ensures { arrivals records.new ≡ arrivals records.old }
 {
     let change = records.instances.part(&update.inst).change;
     if let Some(work) = thing_mut(&mut records.works, &update.task) {
@@ -43,7 +43,7 @@ fn finish_update(records: &mut Records, update: &Update)
 }
 
 fn leave(records: &mut Records, update: &Update)
-    ensures { came records.new ≡ came records.old }
+    ensures { arrivals records.new ≡ arrivals records.old }
 {
     let leaving = records.instances.part(&update.inst).leaving;
     if let Some(work) = thing_mut(&mut records.works, &update.task) {
@@ -53,7 +53,7 @@ fn leave(records: &mut Records, update: &Update)
 }
 
 fn add_orphans(records: &mut Records, left: Vec<Orphan>)
-    ensures { came records.new ≡ came records.old }
+    ensures { arrivals records.new ≡ arrivals records.old }
 {
     for orphan in left {
         add_orphan(records, orphan);
@@ -62,7 +62,7 @@ fn add_orphans(records: &mut Records, left: Vec<Orphan>)
 
 // What is recorded of the instance, where anything is.
 fn record_where(records: &mut Records, row: Option<Row>)
-    ensures { came records.new ≡ came records.old }
+    ensures { arrivals records.new ≡ arrivals records.old }
 {
     if let Some(row) = row {
         records.instances.record(row);
@@ -71,7 +71,7 @@ fn record_where(records: &mut Records, row: Option<Row>)
 
 /// A disk belongs to no instance from now on. Its place is kept already.
 pub(crate) fn add_orphan(records: &mut Records, orphan: Orphan)
-    ensures { came records.new ≡ came records.old }
+    ensures { arrivals records.new ≡ arrivals records.old }
 {
     let disk = orphan.disk;
     let loose = LooseDisk {

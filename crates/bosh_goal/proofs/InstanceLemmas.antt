@@ -12,8 +12,8 @@ use Rattle.bosh_base.specs.declared.spec.Placed.{Placed}
 use Rattle.bosh_base.specs.declared.stemcell.Stemcell.{Stemcell}
 use Rattle.bosh_base.specs.declared.view.View.{View}
 use Rattle.bosh_cloudcfg.specs.declared.config.Config.{Config}
-use Rattle.bosh_files.specs.Gathered.{gather, joined}
-use Rattle.bosh_instances.specs.Rows.{Scene, filed_jobs, group_rows, instance_row, limited, placed, row_bytes, row_with, rows}
+use Rattle.bosh_files.specs.Gathered.{gather, joined_lists}
+use Rattle.bosh_instances.specs.Rows.{Scene, bounded_rows, filed_jobs, group_rows, instance_row, placed, row_bytes, row_with, rows}
 use Rattle.bosh_manifest.specs.declared.group.Group.{Group}
 use Rattle.bosh_manifest.specs.declared.manifest.Contents.{Contents}
 use Rattle.bosh_offers.specs.Sited.{Sited, after_group, sites}
@@ -55,7 +55,7 @@ both-steps P (Err fault) next b e h = never P fault b e
 
 -- what is gathered has the instances of its parts
 pub gathered-joined :
-    (first others : Result (List GoalRow) GoalFault) (all : List GoalRow) (P : Type 0) → joined first others ≡ Ok all
+    (first others : Result (List GoalRow) GoalFault) (all : List GoalRow) (P : Type 0) → joined_lists first others ≡ Ok all
     → ((front more : List GoalRow) → first ≡ Ok front → others ≡ Ok more → front ++ more ≡ all → P) → P
 gathered-joined (Ok front) (Ok more) all P e h = h front more refl refl (same-value (front ++ more) all e)
 gathered-joined (Ok front) (Err fault) all P e h = never P fault all e
@@ -88,7 +88,7 @@ group-insts scene group some e =
     (below group.used.group.instances) some e
     ∙ flat-one scene.dep group.used.group (below group.used.group.instances)
 
-pub limited-same : (some all : List GoalRow) → limited some ≡ Ok all → some ≡ all
+pub limited-same : (some all : List GoalRow) → bounded_rows some ≡ Ok all → some ≡ all
 limited-same some all e = elim (cases_Bool (nat_le (sum_by row_bytes some) 1048576)) [
   | inl within ↦ same-value some all (sym (rw within refl) ∙ e)
   | inr past ↦ never (some ≡ all) Limit all (sym (rw past refl) ∙ e)
@@ -102,7 +102,7 @@ of-sites dep (it ∷ used) addrs = ap (λ more. group_instances dep it.group ++ 
 rows-insts : (scene : Scene) (used : List UsedGroup) (addrs : List Addr) (all : List GoalRow) → rows scene (sites used addrs) ≡ Ok all
     → map row_inst all ≡ flat_map (group_instances scene.dep) (map (λ it. it.group) used)
 rows-insts scene used addrs all e =
-    both-steps (map row_inst all ≡ flat_map (group_instances scene.dep) (map (λ it. it.group) used)) (gather (group_rows scene) (sites used addrs)) limited all e
+    both-steps (map row_inst all ≡ flat_map (group_instances scene.dep) (map (λ it. it.group) used)) (gather (group_rows scene) (sites used addrs)) bounded_rows all e
     (λ some g l. ap (map row_inst) (sym (limited-same some all l))
     ∙ (gathered-insts (group_rows scene) (λ group. group_instances scene.dep group.used.group) (group-insts scene) (sites used addrs) some g
     ∙ of-sites scene.dep used addrs))

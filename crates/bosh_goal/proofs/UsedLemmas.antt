@@ -12,7 +12,7 @@ use Rattle.bosh_manifest.specs.declared.manifest.Contents.{Contents}
 use Rattle.bosh_offers.specs.Sited.{after_group, sites}
 use Rattle.bosh_uses.specs.Answer.{◌>>=◌, each}
 use Rattle.bosh_uses.specs.Used.{UsedGroup}
-use Rattle.bosh_uses.specs.Uses.{aliased, all_known, known, net_name, sources, used_disk, used_group, used_job, used_machine, uses}
+use Rattle.bosh_uses.specs.Uses.{all_known, net_name, or_unknown, sources, stemcell_of_alias, used_disk, used_group, used_job, used_machine, uses}
 use Rattle.bosh_uses.specs.declared.fault.GoalFault.{GoalFault}
 use Rattle.bosh_uses.specs.declared.fault.Kind.TheVariants as kinds
 
@@ -39,7 +39,7 @@ group-kept :
 group-kept config releases stemcells group it e =
     keeps-group group (all_known kinds.Az config.azs group.azs) _ it e
     (λ zones it1 e1. keeps-group group (used_machine config group.vm_type) _ it1 e1
-    (λ machine it2 e2. keeps-group group (known kinds.Stemcell group.stemcell (aliased stemcells group.stemcell)) _ it2 e2
+    (λ machine it2 e2. keeps-group group (or_unknown kinds.Stemcell group.stemcell (stemcell_of_alias stemcells group.stemcell)) _ it2 e2
     (λ stemcell it3 e3. keeps-group group (all_known kinds.Network config.networks (map net_name group.networks)) _ it3 e3
     (λ networks it4 e4. keeps-group group (used_disk config group.disk) _ it4 e4
     (λ disk it5 e5. keeps-group group (each (used_job releases) group.jobs) _ it5 e5

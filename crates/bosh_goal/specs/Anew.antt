@@ -28,8 +28,8 @@ is_row_of inst row = same_inst row.inst inst
 -- ---- the changed row
 
 -- its machine is made anew, or its state is another, or nothing is
-abbrev pub changed : Change → ℕ → GoalRow → GoalRow
-changed Fresh last_call row = record {
+abbrev pub changed_row : Change → ℕ → GoalRow → GoalRow
+changed_row Fresh last_call row = record {
   inst = row.inst;
   make = row.make;
   spec = row.spec;
@@ -37,7 +37,7 @@ changed Fresh last_call row = record {
   state = row.state;
   fresh_after = last_call;
 }
-changed (To state) last_call row = record {
+changed_row (To state) last_call row = record {
   inst = row.inst;
   make = row.make;
   spec = row.spec;
@@ -45,10 +45,10 @@ changed (To state) last_call row = record {
   state = state;
   fresh_after = row.fresh_after;
 }
-changed Same last_call row = row
+changed_row Same last_call row = row
 
 abbrev pub row_anew : Inst → Change → ℕ → GoalRow → GoalRow
-row_anew inst change last_call row = cond (is_row_of inst row) (changed change last_call row) row
+row_anew inst change last_call row = cond (is_row_of inst row) (changed_row change last_call row) row
 
 -- ---- addresses that stay taken
 

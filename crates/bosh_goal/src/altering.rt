@@ -1,13 +1,13 @@
 //! The row of an instance, changed.
 ghost use Rattle.std.specs.Prelude.{◌≡◌, IfOk, map};
-ghost use Rattle.bosh_goal.specs.Anew.{changed, is_row_of, row_anew};
+ghost use Rattle.bosh_goal.specs.Anew.{changed_row, is_row_of, row_anew};
 
 use crate::Change;
 use bosh_base::{CopyFault, Copyable, GoalRow, Inst, Seq};
 use std::alloc::Global;
 
 fn changed(row: GoalRow, change: Change, last_call: u64) -> GoalRow
-    ensures { result ≡ changed change last_call row }
+    ensures { result ≡ changed_row change last_call row }
 {
     match change {
         Change::Fresh => GoalRow {

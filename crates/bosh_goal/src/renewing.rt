@@ -94,7 +94,7 @@ fn with_slots(
 /// A goal with one instance changed: the view's current goal, for a task that works on that instance alone. What is not
 /// compiled yet is compiled for it, by machines with addresses that nobody holds. The refusals come in this order: there is no
 /// cloud config; a recorded instance that is not in the goal has an address that the changed one needs; no address is left for a
-/// machine that compiles.
+/// compile machine.
 pub fn anew(
     alloc: Global,
     inst: &Inst,

@@ -97,7 +97,7 @@ fn configured(
 /// The goal of a deployment: what a manifest asks for, with the cloud config, the uploaded releases and stemcells, and what is
 /// recorded. With `recreate` all its machines are made anew. The refusals come in this order: there is no cloud config; a
 /// name is not known; a link is not resolved, within the deployment and then to others; an address is not to be had, for an
-/// instance and then for a machine that compiles; an instance with a disk would leave its zone; a template is not read or not
+/// instance and then for a compile machine; an instance with a disk would leave its zone; a template is not read or not
 /// rendered; the files have together more than 1,048,576 bytes.
 pub fn goal(
     alloc: Global,

@@ -13,7 +13,7 @@ use Rattle.bosh_base.specs.declared.state.State.TheVariants.{Detached, Running, 
 use Rattle.bosh_base.specs.declared.view.View.{View}
 use Rattle.bosh_cloudcfg.specs.declared.config.Config.{Config}
 use Rattle.bosh_goal.proofs.InstanceLemmas.{both-steps, same-value}
-use Rattle.bosh_goal.specs.Anew.{addresses_free, anew, changed, is_left, is_row_of, row_anew}
+use Rattle.bosh_goal.specs.Anew.{addresses_free, anew, changed_row, is_left, is_row_of, row_anew}
 use Rattle.bosh_goal.specs.declared.change.Change.{Change}
 use Rattle.bosh_goal.specs.declared.change.Change.TheVariants.{Fresh, To, Same}
 use Rattle.bosh_history.specs.Sound.{are_rows_kept, is_alike, is_kept_row}
@@ -59,17 +59,17 @@ alike-self row =
     (and_from (same_make row.make row.make) _ ((Decides-make row.make row.make).1 refl)
     (and_from (same_spec row.spec row.spec) (option_eq same_want row.disk row.disk) ((Decides-spec row.spec row.spec).1 refl) ((Decides-option Decides-disk_want row.disk row.disk).1 refl)))
 
-changed-alike : (change : Change) (last : ℕ) (row : GoalRow) → is_alike (changed change last row) row ≡ true
+changed-alike : (change : Change) (last : ℕ) (row : GoalRow) → is_alike (changed_row change last row) row ≡ true
 changed-alike Fresh last row = alike-self row
 changed-alike (To state) last row = alike-self row
 changed-alike Same last row = alike-self row
 
-changed-inst : (change : Change) (last : ℕ) (row : GoalRow) → (changed change last row).inst ≡ row.inst
+changed-inst : (change : Change) (last : ℕ) (row : GoalRow) → (changed_row change last row).inst ≡ row.inst
 changed-inst Fresh last row = refl
 changed-inst (To state) last row = refl
 changed-inst Same last row = refl
 
-changed-make : (change : Change) (last : ℕ) (row : GoalRow) → (changed change last row).make ≡ row.make
+changed-make : (change : Change) (last : ℕ) (row : GoalRow) → (changed_row change last row).make ≡ row.make
 changed-make Fresh last row = refl
 changed-make (To state) last row = refl
 changed-make Same last row = refl
@@ -81,24 +81,24 @@ module _ (inst : Inst) (change : Change) (last : ℕ) where
   pub anew-inst : (row : GoalRow) → (renewed row).inst ≡ row.inst
   anew-inst row = by (is_row_of inst row)
     where
-      by : (b : Bool) → (cond b (changed change last row) row).inst ≡ row.inst
+      by : (b : Bool) → (cond b (changed_row change last row) row).inst ≡ row.inst
       by true = changed-inst change last row
       by false = refl
 
   pub anew-make : (row : GoalRow) → (renewed row).make ≡ row.make
   anew-make row = by (is_row_of inst row)
     where
-      by : (b : Bool) → (cond b (changed change last row) row).make ≡ row.make
+      by : (b : Bool) → (cond b (changed_row change last row) row).make ≡ row.make
       by true = changed-make change last row
       by false = refl
 
   row-kept : (row : GoalRow) → is_kept_row inst (renewed row) row ≡ true
   row-kept row = by (is_row_of inst row) refl
     where
-      by : (b : Bool) → is_row_of inst row ≡ b → is_kept_row inst (cond b (changed change last row) row) row ≡ true
+      by : (b : Bool) → is_row_of inst row ≡ b → is_kept_row inst (cond b (changed_row change last row) row) row ≡ true
       by true e =
-          and_from (is_alike (changed change last row) row) _ (changed-alike change last row)
-          (or_left (same_inst (changed change last row).inst inst) _ (ap (λ (i : Inst). same_inst i inst) (changed-inst change last row) ∙ e))
+          and_from (is_alike (changed_row change last row) row) _ (changed-alike change last row)
+          (or_left (same_inst (changed_row change last row).inst inst) _ (ap (λ (i : Inst). same_inst i inst) (changed-inst change last row) ∙ e))
       by false e =
           and_from (is_alike row row) _ (alike-self row)
           (or_right (same_inst row.inst inst) _ (and_from (same_state row.state row.state) (row.fresh_after == row.fresh_after) (state-self row.state) (eq-eqb row.fresh_after row.fresh_after refl)))

@@ -15,7 +15,7 @@ use Rattle.bosh_base.specs.declared.state.State.TheVariants.{Detached, Running, 
 use Rattle.bosh_base.specs.declared.view.View.{View}
 use Rattle.bosh_cloudcfg.specs.declared.config.Config.{Config}
 use Rattle.bosh_goal.proofs.InstanceLemmas.{both-steps, never}
-use Rattle.bosh_goal.specs.Anew.{addresses_free, addrs_of, all_free, anew, changed, is_row_of, keeps, needs_addrs, refusal_at, row_anew}
+use Rattle.bosh_goal.specs.Anew.{addresses_free, addrs_of, all_free, anew, changed_row, is_row_of, keeps, needs_addrs, refusal_at, row_anew}
 use Rattle.bosh_goal.specs.Anew as words
 use Rattle.bosh_goal.specs.declared.change.Change.{Change}
 use Rattle.bosh_goal.specs.declared.change.Change.TheVariants.{Fresh, To, Same}
@@ -118,7 +118,7 @@ module _ (inst : Inst) (change : Change) (last : ℕ) (recorded : List Row) (goa
       by : (c : Change) → change ≡ c → (is_detached (renewed row).state || is_cleared recorded it (renewed row)) ≡ true
       by (To Detached) e =
           or_left (is_detached (renewed row).state) (is_cleared recorded it (renewed row))
-          (ap (λ b. is_detached (cond b (changed change last row) row).state) same ∙ ap (λ (c : Change). is_detached (changed c last row).state) e)
+          (ap (λ b. is_detached (cond b (changed_row change last row) row).state) same ∙ ap (λ (c : Change). is_detached (changed_row c last row).state) e)
       by (To Running) e = or_right (is_detached (renewed row).state) (is_cleared recorded it (renewed row)) (cleared row there same (ap needs_addrs e))
       by (To Stopped) e = or_right (is_detached (renewed row).state) (is_cleared recorded it (renewed row)) (cleared row there same (ap needs_addrs e))
       by Fresh e = or_right (is_detached (renewed row).state) (is_cleared recorded it (renewed row)) (cleared row there same (ap needs_addrs e))

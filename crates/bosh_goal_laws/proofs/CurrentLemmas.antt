@@ -16,10 +16,10 @@ use Rattle.bosh_base.specs.declared.task.TaskKind.{TaskKind}
 use Rattle.bosh_base.specs.declared.task.TaskKind.TheVariants.{CleanUp, DeleteDeployment, DeleteDisk, Deploy, Fix, Recreate, Resolve, Start, Stop}
 use Rattle.bosh_base.specs.declared.view.View.{View}
 use Rattle.bosh_cloudcfg.specs.declared.config.Config.{Config}
-use Rattle.bosh_goal.specs.Anew.{anew, changed, is_row_of, row_anew}
+use Rattle.bosh_goal.specs.Anew.{anew, changed_row, is_row_of, row_anew}
 use Rattle.bosh_goal.specs.declared.change.Change.{Change}
 use Rattle.bosh_goal.specs.declared.change.Change.TheVariants.{Fresh, To, Same}
-use Rattle.bosh_history.specs.Goals.{inst_of, is_in, named}
+use Rattle.bosh_history.specs.Goals.{inst_of, is_in, named_instance}
 use Rattle.bosh_history.specs.Held.{held_elsewhere, of_make, same_bytes_joint, view}
 use Rattle.bosh_history.specs.Keys.{are_left}
 use Rattle.bosh_history.specs.Known.{Known}
@@ -63,7 +63,7 @@ module _ (inst : Inst) (change : Change) (last : ℕ) where
   fresh-row : (row : GoalRow) → nat_le row.fresh_after last ≡ true → nat_le (renewed row).fresh_after last ≡ true
   fresh-row row h = by (is_row_of inst row) change
     where
-      by : (b : Bool) (c : Change) → nat_le (cond b (changed c last row) row).fresh_after last ≡ true
+      by : (b : Bool) (c : Change) → nat_le (cond b (changed_row c last row) row).fresh_after last ≡ true
       by false c = h
       by true Fresh = le-leb last last (omega arith)
       by true (To state) = h
@@ -158,7 +158,7 @@ module _ (k : Known) (it : Goal) (recorded : list_all (λ i. same_inst (k.row i)
 -- ---- all
 
 -- a task of one instance asks the same, whatever it is to do
-for-each-kind : (k : Known) (kind : TaskKind) (inst : Inst) (it : Goal) → named kind ≡ Some inst → is_sound_goal k (Recreate inst) it ≡ true → is_sound_goal k kind it ≡ true
+for-each-kind : (k : Known) (kind : TaskKind) (inst : Inst) (it : Goal) → named_instance kind ≡ Some inst → is_sound_goal k (Recreate inst) it ≡ true → is_sound_goal k kind it ≡ true
 for-each-kind k kind inst it names sound = by kind names
   where
     inst_in : Option Inst → Inst
@@ -171,7 +171,7 @@ for-each-kind k kind inst it names sound = by kind names
     none : None ≡ Some inst → (kind : TaskKind) → is_sound_goal k kind it ≡ true
     none e kind = absurd (true≢false (sym (ap is_some e)))
 
-    by : (kind : TaskKind) → named kind ≡ Some inst → is_sound_goal k kind it ≡ true
+    by : (kind : TaskKind) → named_instance kind ≡ Some inst → is_sound_goal k kind it ≡ true
     by (Recreate i) e = subst (λ j. is_sound_goal k (Recreate j) it ≡ true) (as_named i e) sound
     by (Start i) e = subst (λ j. is_sound_goal k (Start j) it ≡ true) (as_named i e) sound
     by (Stop i) e = subst (λ j. is_sound_goal k (Stop j) it ≡ true) (as_named i e) sound
@@ -183,7 +183,7 @@ for-each-kind k kind inst it names sound = by kind names
     by Fix e = none e Fix
 
 pub is-sound-anew :
-    (k : Known) (kind : TaskKind) (inst : Inst) (change : Change) (config : Config) (goal it : Goal) → named kind ≡ Some inst → IsCurrent k goal → is_in (Some goal) inst ≡ true
+    (k : Known) (kind : TaskKind) (inst : Inst) (change : Change) (config : Config) (goal it : Goal) → named_instance kind ≡ Some inst → IsCurrent k goal → is_in (Some goal) inst ≡ true
     → anew inst change (Some config) (view k goal.dep) goal ≡ Ok it → is_sound_goal k kind it ≡ true
 is-sound-anew k kind inst change config goal it names now inside told =
     let seen : View = view k goal.dep in

@@ -20,11 +20,11 @@ use Rattle.bosh_compile.specs.Level.{needs, one_above}
 use Rattle.bosh_compile.specs.Readiness.{is_among, same_key}
 use Rattle.bosh_compile.proofs.KeyLemmas.{same_key_decides}
 use Rattle.bosh_goal.specs.Goal.{IsGoal}
-use Rattle.bosh_history.specs.Keys.{Leveled, are_after, are_in_order, comes_after, is_less, is_listed, level_after, leveled, leveled_cmp}
+use Rattle.bosh_history.specs.Keys.{Leveled, are_after, are_in_order, comes_after, is_less, is_listed, level_after, leveled_cmp, leveled_work}
 use Rattle.bosh_keys.proofs.ListLemmas.{flat_from, flat_into, mapped_from, mapped_into}
 use Rattle.bosh_keys.proofs.WorkLemmas.{named_at}
 use Rattle.bosh_keys.specs.Works.{AreKeys, all_works, asked_keys, group_works, job_works, key_named, key_of, package_name, work_of}
-use Rattle.bosh_lookup.specs.Table.{named}
+use Rattle.bosh_lookup.specs.Table.{first_named}
 use Rattle.bosh_manifest.specs.declared.manifest.Contents.{Contents}
 use Rattle.bosh_needed.specs.Needed.{IsNeeded, by}
 use Rattle.bosh_pool.proofs.ListLemmas.{Pairs, any_from, any_some, recursion_from_contains}
@@ -47,9 +47,9 @@ record IsKeyOf (works : List KeyWork) (key : Key) : Type 0 where
 
 key-known : (release : Release) (stemcell : Stemcell) (name : List ℕ) (key : Key) → key_named release stemcell name ≡ Some key
     → (pack : PackageSpec) × Contains release.packages pack × (key_of stemcell pack ≡ key)
-key-known release stemcell name key e = at (named package_name release.packages name) refl e
+key-known release stemcell name key e = at (first_named package_name release.packages name) refl e
   where
-    at : (found : Option PackageSpec) → named package_name release.packages name ≡ found → option_map (key_of stemcell) found ≡ Some key
+    at : (found : Option PackageSpec) → first_named package_name release.packages name ≡ found → option_map (key_of stemcell) found ≡ Some key
         → (pack : PackageSpec) × Contains release.packages pack × (key_of stemcell pack ≡ key)
     at None f e = absurd (cc)
     at (Some pack) f e = (pack, (named_at release name pack f).0, cc)
@@ -129,7 +129,7 @@ module _ (compiled : List Key) (level : KeyWork → ℕ) where
       let needed : needs work other ≡ true = any_from (λ each. same_key each other.key) work.deps key need same in
       absurd (true≢false (sym needed ∙ all_at (λ v. needs work v ≡ false) rest other none within))
 
-  comes-after : (before : List Leveled) (work : KeyWork) (rest : List KeyWork) → AreLeft before (work ∷ rest) → comes_after before (leveled before work) ≡ true
+  comes-after : (before : List Leveled) (work : KeyWork) (rest : List KeyWork) → AreLeft before (work ∷ rest) → comes_after before (leveled_work before work) ≡ true
   comes-after [] work rest left = refl
   comes-after (last ∷ before) work rest left =
       let now : level_after (last ∷ before) work ≡ level work = level-is (last ∷ before) work rest left in
@@ -139,7 +139,7 @@ module _ (compiled : List Key) (level : KeyWork → ℕ) where
   max-moves : (a b c d : ℕ) → b ≡ d → max a (max b c) ≡ max (max d a) c
   max-moves a b c d e = omega arith
 
-  left-next : (before : List Leveled) (work : KeyWork) (rest : List KeyWork) → AreLeft before (work ∷ rest) → AreLeft (leveled before work ∷ before) rest
+  left-next : (before : List Leveled) (work : KeyWork) (rest : List KeyWork) → AreLeft before (work ∷ rest) → AreLeft (leveled_work before work ∷ before) rest
   left-next before work rest left =
       let now : level_after before work ≡ level work = level-is before work rest left in
       record {
@@ -151,10 +151,10 @@ module _ (compiled : List Key) (level : KeyWork → ℕ) where
         next = left.rising;
         rising = rising-after work rest left.rising;
         had =
-            all_map (λ w. AllByRecursion (IsHad before (work ∷ rest)) w.deps) (λ w. AllByRecursion (IsHad (leveled before work ∷ before) rest) w.deps) rest
-            (λ w had. all_map (IsHad before (work ∷ rest)) (IsHad (leveled before work ∷ before) rest) w.deps moved had) left.had.1;
+            all_map (λ w. AllByRecursion (IsHad before (work ∷ rest)) w.deps) (λ w. AllByRecursion (IsHad (leveled_work before work ∷ before) rest) w.deps) rest
+            (λ w had. all_map (IsHad before (work ∷ rest)) (IsHad (leveled_work before work ∷ before) rest) w.deps moved had) left.had.1;
         above =
-            all_map (λ w. level w ≡ max (level_after before w) (one_above (work ∷ rest) level w)) (λ w. level w ≡ max (level_after (leveled before work ∷ before) w) (one_above rest level w)) rest
+            all_map (λ w. level w ≡ max (level_after before w) (one_above (work ∷ rest) level w)) (λ w. level w ≡ max (level_after (leveled_work before work ∷ before) w) (one_above rest level w)) rest
             (λ w e. e ∙ max-moves (level_after before w) (cond (needs w work) (suc (level work)) 0) (one_above rest level w) (cond (needs w work) (suc (level_after before work)) 0)
             (ap (λ n. cond (needs w work) (suc n) 0) (sym now))) left.above.1;
         pairs = left.pairs.1;
@@ -162,7 +162,7 @@ module _ (compiled : List Key) (level : KeyWork → ℕ) where
         uncompiled = left.uncompiled.1;
       }
     where
-      moved : (key : Key) → IsHad before (work ∷ rest) key → IsHad (leveled before work ∷ before) rest key
+      moved : (key : Key) → IsHad before (work ∷ rest) key → IsHad (leveled_work before work ∷ before) rest key
       moved key (inl done) = inl done
       moved key (inr (inl listed)) = inr (inl (or_right (same_key key work.key) (is_listed before key) listed))
       moved key (inr (inr there)) =
@@ -182,8 +182,8 @@ module _ (compiled : List Key) (level : KeyWork → ℕ) where
       (all_pass (λ key. is_compiled key || is_listed before key) work.deps
       (recursion_from_contains (λ key. (is_compiled key || is_listed before key) ≡ true) work.deps
       (λ key need. had-before before work (work ∷ rest) left.later.0 key need (all_at (IsHad before (work ∷ rest)) work.deps key left.had.0 need))))
-      (and_from (comes_after before (leveled before work)) (are_after is_compiled (leveled before work ∷ before) rest) (comes-after before work rest left)
-      (are-after rest (leveled before work ∷ before) (left-next before work rest left))))
+      (and_from (comes_after before (leveled_work before work)) (are_after is_compiled (leveled_work before work ∷ before) rest) (comes-after before work rest left)
+      (are-after rest (leveled_work before work ∷ before) (left-next before work rest left))))
 
 -- ---- all keys of a goal
 

@@ -13,7 +13,7 @@ use Rattle.bosh_compile.specs.Readiness.{is_among, same_key}
 use Rattle.bosh_compile.proofs.KeyLemmas.{same_key_decides}
 use Rattle.bosh_goal.specs.Anew.{anew, is_left}
 use Rattle.bosh_goal.specs.declared.change.Change.{Change}
-use Rattle.bosh_history.specs.Keys.{Leveled, are_after, are_in_order, comes_after, is_listed, leveled, stand_after_needs}
+use Rattle.bosh_history.specs.Keys.{Leveled, are_after, are_in_order, comes_after, is_listed, leveled_work, stand_after_needs}
 use Rattle.bosh_goal_laws.specs.Keys.{CanBeCompiled}
 use Rattle.bosh_goal_laws.specs.Renewed.{HasKeysLeft}
 use Rattle.bosh_goal_laws.proofs.AnewLemmas.{IsAnew, is-anew}
@@ -113,12 +113,12 @@ after-needs is_compiled [] before h = refl
 after-needs is_compiled (work ∷ works) before h =
     let (new, rest) = and_parts (not (is_compiled work.key || is_listed before work.key)) _ h in
     let (needs, rest') = and_parts (list_all (λ key. is_compiled key || is_listed before key) work.deps) _ rest in
-    let (order, later) = and_parts (comes_after before (leveled before work)) _ rest' in
+    let (order, later) = and_parts (comes_after before (leveled_work before work)) _ rest' in
     let unlisted : is_listed before work.key ≡ false = (or_parts (is_compiled work.key) (is_listed before work.key) (not-true (is_compiled work.key || is_listed before work.key) new)).1 in
     and_from (not (is_among work.key (keys-before before))) _ (ap not (sym (listed-among before work.key) ∙ unlisted))
     (and_from (list_all (λ key. is_compiled key || is_among key (keys-before before)) work.deps) _
     (sym (λ i. list_all (λ (key : Key). is_compiled key || listed-among before key i) work.deps) ∙ needs)
-    (after-needs is_compiled works (leveled before work ∷ before) later))
+    (after-needs is_compiled works (leveled_work before work ∷ before) later))
 
 pub can-be-compiled : (compiled : List Key) (works : List KeyWork) → are_in_order (λ key. is_among key compiled) works ≡ true → CanBeCompiled compiled works
 can-be-compiled compiled works h = after-needs (λ key. is_among key compiled) works [] h

@@ -14,7 +14,7 @@ use Rattle.bosh_files.specs.Gathered.{gather}
 use Rattle.bosh_goal.specs.Goal.{IsGoal, addresses, none_wrong, scene_of, slots_and_rows, stay_and_rows}
 use Rattle.bosh_goal.proofs.InstanceLemmas.{both-steps, gathered-joined, limited-same, never, same-value}
 use Rattle.bosh_instances.specs.Moving.{disks_stay}
-use Rattle.bosh_instances.specs.Rows.{Scene, filed_jobs, goal_row, group_rows, instance_row, limited, placed, row_with, rows}
+use Rattle.bosh_instances.specs.Rows.{Scene, bounded_rows, filed_jobs, goal_row, group_rows, instance_row, placed, row_with, rows}
 use Rattle.bosh_keys.specs.Works.{AreKeys}
 use Rattle.bosh_files.specs.Files.{FiledJob}
 use Rattle.bosh_manifest.specs.declared.manifest.Contents.{Contents}
@@ -122,5 +122,5 @@ all-rows scene (group ∷ groups) all e =
 
 pub are-rows : (scene : Scene) (groups : List Sited) (all : List GoalRow) → rows scene groups ≡ Ok all → AreRowsOf scene groups all
 are-rows scene groups all e =
-    both-steps (AreRowsOf scene groups all) (gather (group_rows scene) groups) limited all e
+    both-steps (AreRowsOf scene groups all) (gather (group_rows scene) groups) bounded_rows all e
     (λ some g l. all-rows scene groups all (g ∙ ap Ok (limited-same some all l)))

@@ -18,8 +18,8 @@ use Rattle.bosh_cloudcfg.specs.declared.config.Config.{Config}
 use Rattle.bosh_goal.proofs.InstanceLemmas.{both-steps, never, same-value}
 use Rattle.bosh_goal.specs.Goal.{IsGoal}
 use Rattle.bosh_history.specs.Held.{is_offered, same_bytes_joint}
-use Rattle.bosh_links.specs.Candidate.{offered}
-use Rattle.bosh_links.specs.Links.{all_tied, implicit_outcome, joined, named_outcome, outcome, outcome_from, resolution, tie_between, untied}
+use Rattle.bosh_links.specs.Candidate.{offered_provider}
+use Rattle.bosh_links.specs.Links.{all_tied, implicit_outcome, joined_ties, named_outcome, no_tie, outcome, outcome_from, resolution, tie_between}
 use Rattle.bosh_links.specs.declared.consumer.Consumer.{Consumer}
 use Rattle.bosh_links.specs.declared.consumer.Source.{Source}
 use Rattle.bosh_links.specs.declared.consumer.Source.TheVariants.{Implicit, Named, Blocked}
@@ -63,7 +63,7 @@ first-filtered p (x ∷ xs) y ys e = by p x xs (filter p xs) y ys (p x) refl (fi
         (subst (λ (z : X). p z ≡ true) same passes, subst (λ (z : X). Contains (x ∷ xs) z) same (contains_here x xs))
     by p x xs some y ys false passes later e = let (there, within) = later e in (there, contains_there x xs y within)
 
-no-tie : (c : Consumer) (tie : Tie) (P : Type 0) → untied c ≡ Ok (Some tie) → P
+no-tie : (c : Consumer) (tie : Tie) (P : Type 0) → no_tie c ≡ Ok (Some tie) → P
 no-tie c tie P e = by c.optional e
   where
     by : (b : Bool) → cond b (Ok None) (Err (NoProvider c.joint)) ≡ Ok (Some tie) → P
@@ -104,7 +104,7 @@ all-of {C} {F} comes_to [] all e = let none : [] ≡ all = cc in subst (AllByRec
 all-of {C} {F} comes_to (c ∷ cs) all e = by (comes_to c) (all_tied comes_to cs) refl (all-of comes_to cs) e
   where
     by : (first : Result (Option Tie) F) (others : Result (List Tie) F) → comes_to c ≡ first → ((more : List Tie) → others ≡ Ok more → AllByRecursion (IsOf comes_to) more)
-        → joined first others ≡ Ok all → AllByRecursion (IsOf comes_to) all
+        → joined_ties first others ≡ Ok all → AllByRecursion (IsOf comes_to) all
     by (Err fault) others f later e = absurd (cc)
     by (Ok tie) (Err fault) f later e = absurd (cc)
     by (Ok None) (Ok more) f later e = let same : more ≡ all = cc in subst (AllByRecursion (IsOf comes_to)) same (later more refl)
@@ -156,7 +156,7 @@ module _ (known : List DepOffers) (dep : List ℕ) where
 
   -- ---- across deployments
 
-  offered-there : (offers : List Offer) (p : Provider) (P : Type 0) → Contains (map offered offers) p → ((offer : Offer) → Contains offers offer → offered offer ≡ p → P) → P
+  offered-there : (offers : List Offer) (p : Provider) (P : Type 0) → Contains (map offered_provider offers) p → ((offer : Offer) → Contains offers offer → offered_provider offer ≡ p → P) → P
   offered-there [] p P (k, within, is) f = absurd (omega arith)
   offered-there (offer ∷ offers) p P (zero, within, is) f = f offer (contains_here offer offers) is
   offered-there (offer ∷ offers) p P (suc k, within, is) f =
@@ -173,8 +173,8 @@ module _ (known : List DepOffers) (dep : List ℕ) where
       by None f e = absurd (cc)
       by (Some d) f e =
           let (name, there) = find_some (λ (it : DepOffers). bytes_eq it.dep of.consumer.dep) known d f in
-          let it : IsBetween (map offered d.offers) (consumer_of of.consumer) tie =
-          is-between (map offered d.offers) (consumer_of of.consumer) tie (told-shared (outcome (map offered d.offers) (consumer_of of.consumer)) tie e) in
+          let it : IsBetween (map offered_provider d.offers) (consumer_of of.consumer) tie =
+          is-between (map offered_provider d.offers) (consumer_of of.consumer) tie (told-shared (outcome (map offered_provider d.offers) (consumer_of of.consumer)) tie e) in
           offered-there d.offers it.provider (Kept tie) it.there
           (λ offer within same.
           let theirs : bytes_eq offer.joint.dep d.dep ≡ true =

@@ -1,5 +1,5 @@
 -- Which addresses a goal may have, told by the view that it was made from: other deployments keep theirs, recorded
--- instances that stay keep theirs, and machines that compile get what nobody has (this project's profile).
+-- instances that stay keep theirs, and compile machines get what nobody has (this project's profile).
 use Rattle.std.specs.Prelude.{◌≡◌, ℕ, Bool, true, eqb, not, ◌&&◌, ◌||◌, Some, List, ◌++◌}
 use Rattle.std.specs.List.{flat_map, list_all, list_any}
 use Rattle.bosh_base.specs.declared.goal.Goal.{Goal}

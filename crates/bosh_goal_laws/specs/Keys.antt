@@ -8,7 +8,7 @@ use Rattle.bosh_history.specs.Keys.{are_in_order, stand_after_needs}
 use Rattle.bosh_history.specs.Sound.{has_slots}
 
 -- Its keys, none of which is compiled, stand once each in the order of compilation, each after those that it needs; and
--- where there are keys there is a machine that compiles.
+-- where there are keys there is a compile machine.
 pub record HasSoundKeys (compiled : List Key) (goal : Goal) : Type 0 where
   pub ordered : are_in_order (λ key. is_among key compiled) goal.keys ≡ true
   pub slotted : has_slots goal ≡ true

@@ -12,7 +12,7 @@ ghost use Rattle.bosh_manifest.specs.Sound.{IsSound};
 ghost use Rattle.bosh_manifest.specs.declared.manifest.Contents.{Contents};
 
 /// The addresses of a goal are different, and free: no other deployment has one, no row has that of another
-/// recorded row that stays, and no machine that compiles has one that anybody has. The manifest is a checked one,
+/// recorded row that stays, and no compile machine has one that anybody has. The manifest is a checked one,
 /// the config's subnets have no address in common, and no two recorded rows hold one address.
 pub fn goals_have_free_addresses()
     ensures { (manifest : Contents) (config : Config) (releases : List Release) (stemcells : List Stemcell)

@@ -33,7 +33,7 @@ pub fn renewed_goals_have_free_addresses()
 {}
 
 /// The keys of a goal that is made anew are not compiled, and can be compiled one after another, where those of the
-/// current goal can. Where there are keys, there is a machine that compiles.
+/// current goal can. Where there are keys, there is a compile machine.
 pub fn renewed_goals_can_be_compiled()
     ensures { (inst : Inst) (change : Change) (config : Config) (view : View) (goal it : Goal)
         → CanBeCompiled view.compiled goal.keys

@@ -12,7 +12,7 @@ ghost use Rattle.bosh_goal.specs.Anew.{anew};
 ghost use Rattle.bosh_goal.specs.Goal.{IsGoal};
 ghost use Rattle.bosh_goal.specs.declared.change.Change.{Change};
 ghost use Rattle.bosh_goal_laws.specs.Records.{AreOrderly, IsCurrent};
-ghost use Rattle.bosh_history.specs.Goals.{is_in, named};
+ghost use Rattle.bosh_history.specs.Goals.{is_in, named_instance};
 ghost use Rattle.bosh_history.specs.Held.{view};
 ghost use Rattle.bosh_history.specs.Known.{Known};
 ghost use Rattle.bosh_history.specs.Sound.{is_sound_goal};
@@ -34,6 +34,6 @@ pub fn goals_are_sound()
 /// that goal.
 pub fn renewed_goals_are_sound()
     ensures { (k : Known) (kind : TaskKind) (inst : Inst) (change : Change) (config : Config) (goal it : Goal)
-        → named kind ≡ Some inst → IsCurrent k goal → is_in (Some goal) inst ≡ true
+        → named_instance kind ≡ Some inst → IsCurrent k goal → is_in (Some goal) inst ≡ true
         → anew inst change (Some config) (view k goal.dep) goal ≡ Ok it → is_sound_goal k kind it ≡ true }
 {}

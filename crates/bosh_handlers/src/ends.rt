@@ -1,7 +1,7 @@
 //! Replies to what the site was asked.
 ghost use Rattle.std.specs.Prelude.{◌≡◌, IfOk, Some, option_map};
 ghost use Rattle.bosh_base.specs.declared.reply.Reply.TheVariants.{Refused};
-ghost use Rattle.bosh_answers.specs.Ends.{stopped};
+ghost use Rattle.bosh_answers.specs.Ends.{stopped_reply};
 ghost use Rattle.bosh_director.specs.Left.{told_halt};
 ghost use Rattle.bosh_handlers.specs.SiteFaults.{site_told};
 
@@ -23,7 +23,7 @@ pub(crate) fn refused_by_site(alloc: Global, fault: SiteFault) -> Result<Reply, 
 
 /// The refusal of a site that has halted.
 pub(crate) fn stopped(alloc: Global) -> Result<Reply, AnswerFault>
-    ensures { IfOk result (λ reply. reply ≡ stopped) }
+    ensures { IfOk result (λ reply. reply ≡ stopped_reply) }
 {
     refused(alloc, BookFault::Stopped)
 }

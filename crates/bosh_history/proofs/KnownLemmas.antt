@@ -10,7 +10,7 @@ use Rattle.bosh_base.specs.declared.moves.Move.TheVariants as moves
 use Rattle.bosh_base.specs.declared.moves.Stop as stop
 use Rattle.bosh_history.specs.Known.{Known, nothing_known}
 use Rattle.bosh_history.specs.Learn.{learn, known_of}
-use Rattle.bosh_history.specs.Moments.{Opening, Moment, beginning, durable, keeping, later, moment, noted, taking, with_written}
+use Rattle.bosh_history.specs.Moments.{Opening, Moment, beginning, durable, keeping, later, moment, durable_entry, taking, with_written}
 
 abbrev pub learned : Known → Option Entry → Known
 learned k (Some entry) = learn k entry
@@ -48,7 +48,7 @@ known_stopped m s =
     ∙ ap (λ k. learned k s.kept) (known_taken (with_written m s.wrote) s.took ∙ known_written m s.wrote)
 
 -- a move tells what the entry tells that it made durable, if any
-pub known_later : (m : Moment) (move : Move) → (later m move).known ≡ learned m.known (noted move)
+pub known_later : (m : Moment) (move : Move) → (later m move).known ≡ learned m.known (durable_entry move)
 known_later m (moves.Note entry) = refl
 known_later m (moves.Did d) = refl
 known_later m (moves.Wrote w) = refl
@@ -58,22 +58,22 @@ known_later m (moves.Lost loss) = refl
 known_later m (moves.Said said) = refl
 
 fold_noted : (k : Known) (move : Move) (rest : List Move)
-    → fold learn (learned k (noted move)) (filter_map noted rest) ≡ fold learn k (filter_map noted (move ∷ rest))
-fold_noted k move rest = by (noted move) refl
+    → fold learn (learned k (durable_entry move)) (filter_map durable_entry rest) ≡ fold learn k (filter_map durable_entry (move ∷ rest))
+fold_noted k move rest = by (durable_entry move) refl
   where
-    by : (e : Option Entry) → noted move ≡ e
-        → fold learn (learned k (noted move)) (filter_map noted rest) ≡ fold learn k (filter_map noted (move ∷ rest))
+    by : (e : Option Entry) → durable_entry move ≡ e
+        → fold learn (learned k (durable_entry move)) (filter_map durable_entry rest) ≡ fold learn k (filter_map durable_entry (move ∷ rest))
     by (Some entry) is = grind (arith, is)
     by None is = grind (arith, is)
 
 known_folded : (m : Moment) (moves : List Move) → (fold later m moves).known ≡ fold learn m.known
-    (filter_map noted moves)
+    (filter_map durable_entry moves)
 known_folded m [] = refl
 known_folded m (move ∷ rest) =
     known_folded (later m move) rest
-    ∙ ap (λ k. fold learn k (filter_map noted rest)) (known_later m move)
+    ∙ ap (λ k. fold learn k (filter_map durable_entry rest)) (known_later m move)
     ∙ fold_noted m.known move rest
 
 pub known_by_entries : (o : Opening) (moves : List Move) → (moment o moves).known ≡ known_of (durable o moves)
 known_by_entries o moves =
-    known_folded (beginning o) moves ∙ sym (fold-append learn nothing_known o.entries (filter_map noted moves))
+    known_folded (beginning o) moves ∙ sym (fold-append learn nothing_known o.entries (filter_map durable_entry moves))

@@ -16,7 +16,7 @@ use Rattle.bosh_base.specs.declared.snapshot.Orphan.{Orphan}
 use Rattle.bosh_history.specs.Known.{Known, Task, Slot, dep_of_task}
 use Rattle.bosh_history.specs.Slots.{next_key, slot_begun, slot_after}
 use Rattle.bosh_history.specs.Words.{at, inserted, without}
-use Rattle.bosh_rows.specs.After.{begun, after}
+use Rattle.bosh_rows.specs.After.{begun_row, after}
 use Rattle.bosh_rows.specs.Same.{same_inst}
 use Rattle.bosh_history.specs.Orders.{slot_cmp, same_slot, built_cmp}
 
@@ -33,7 +33,7 @@ orphan_begun n call it = it
 abbrev pub begins : Begin → Owner → Known → Known
 begins b (Instance i) k = record k {
   instances = inserted inst_cmp i k.instances;
-  row = at same_inst i (begun b.n b.call (k.row i)) k.row;
+  row = at same_inst i (begun_row b.n b.call (k.row i)) k.row;
 }
 begins b (Compile t s) k = record k {
   machines = inserted slot_cmp (record { task = t; slot = s }) k.machines;
@@ -41,14 +41,14 @@ begins b (Compile t s) k = record k {
 }
 begins b (Disk d) k = record k { orphan = at eqb d (option_map (orphan_begun b.n b.call) (k.orphan d)) k.orphan }
 
-abbrev pub counted : Task → Task
-counted t = record t { calls = option_map (λ n. n + 1) t.calls }
+abbrev pub task_with_call : Task → Task
+task_with_call t = record t { calls = option_map (λ n. n + 1) t.calls }
 
 abbrev pub call_begun : Begin → Known → Known
 call_begun b k = record (begins b b.owner k) {
   begun = at eqb b.n (Some b) k.begun;
   last_call = b.n;
-  task = at eqb b.task (counted (k.task b.task)) k.task;
+  task = at eqb b.task (task_with_call (k.task b.task)) k.task;
 }
 
 -- ---- a call is answered
@@ -121,13 +121,13 @@ least_failure None new = new
 least_failure old None = old
 
 -- an answered ping is noted for its instance
-abbrev pub pinged : Call → Answer → Owner → Task → Task
-pinged (Ping vm) answers.Failed owner t = t
-pinged (Ping vm) answer (Instance i) t = record t { pinged = at same_inst i true t.pinged }
-pinged call answer owner t = t
+abbrev pub task_after_ping : Call → Answer → Owner → Task → Task
+task_after_ping (Ping vm) answers.Failed owner t = t
+task_after_ping (Ping vm) answer (Instance i) t = record t { pinged = at same_inst i true t.pinged }
+task_after_ping call answer owner t = t
 
 abbrev pub task_told : Known → Begin → Answer → Task → Task
-task_told k b answer t = record (pinged b.call answer b.owner t) {
+task_told k b answer t = record (task_after_ping b.call answer b.owner t) {
   failed = least_failure t.failed (failure_of k b answer);
 }
 

@@ -67,8 +67,8 @@ by_items m t worker (owner ∷ owners) = first_item m t worker (owner ∷ owners
 
 -- An ended task is over; one with a failed call is over once it has no open call; and else the items of the present
 -- phase are tried in order.
-abbrev pub claimed : Moment → ℕ → ℕ → Claimed
-claimed m t worker =
+abbrev pub claim_at : Moment → ℕ → ℕ → Claimed
+claim_at m t worker =
     if is_some (m.known.task t).end then Over
     else (if is_some (m.known.task t).failed then (if has_no_call m t then Over else Waits)
     else by_items m t worker (items m.known t))

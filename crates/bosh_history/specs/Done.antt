@@ -5,11 +5,11 @@ use Rattle.bosh_base.specs.declared.entry.Entry.TheVariants as entries
 use Rattle.bosh_base.specs.declared.moves.Move.{Move}
 use Rattle.bosh_history.specs.Each.{EachMove}
 use Rattle.bosh_history.specs.Exact.{is_exact}
-use Rattle.bosh_history.specs.Moments.{Opening, Moment, beginning, later, noted}
+use Rattle.bosh_history.specs.Moments.{Opening, Moment, beginning, later, durable_entry}
 
 -- the move makes durable that a task is done, by a note or by a stop that kept it, and then the task is exact
 abbrev pub is_done_exactly : Moment → Move → Bool
-is_done_exactly m move = by_entry (noted move)
+is_done_exactly m move = by_entry (durable_entry move)
   where
     by_entry : Option Entry → Bool
     by_entry (Some (entries.TaskDone t)) = is_exact (later m move) t

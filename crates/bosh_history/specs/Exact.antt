@@ -19,7 +19,7 @@ use Rattle.bosh_base.specs.declared.row.DiskRow.{DiskRow}
 use Rattle.bosh_base.specs.declared.row.Row.{Row}
 use Rattle.bosh_base.specs.declared.task.TaskKind.{TaskKind}
 use Rattle.bosh_base.specs.declared.task.TaskKind.TheVariants.{Deploy, Recreate, Start, Stop, DeleteDeployment, Fix, Resolve}
-use Rattle.bosh_history.specs.Goals.{named, rows_of}
+use Rattle.bosh_history.specs.Goals.{named_instance, rows_of}
 use Rattle.bosh_history.specs.Known.{Known, dep_of_task, want_in}
 use Rattle.bosh_history.specs.Moments.{Opening, Moment, Missed, moment}
 use Rattle.bosh_history.specs.Words.{holds}

@@ -19,12 +19,12 @@ use Rattle.bosh_rows.specs.Same.{same_inst}
 use Rattle.bosh_rows.specs.Standing.{stands}
 
 -- the instance that a task of one instance names
-abbrev pub named : TaskKind → Option Inst
-named (Recreate i) = Some i
-named (Start i) = Some i
-named (Stop i) = Some i
-named (Resolve i) = Some i
-named kind = None
+abbrev pub named_instance : TaskKind → Option Inst
+named_instance (Recreate i) = Some i
+named_instance (Start i) = Some i
+named_instance (Stop i) = Some i
+named_instance (Resolve i) = Some i
+named_instance kind = None
 
 abbrev pub inst_of : GoalRow → Inst
 inst_of want = want.inst
@@ -77,14 +77,14 @@ changed_in t group = filter (λ i. bytes_eq i.group group) t.changed
 
 -- A task of one instance has no canaries and a limit of 1.
 abbrev pub canaries_of : Task → Option GroupPlan → ℕ
-canaries_of t plan = by_kind (named t.kind) plan
+canaries_of t plan = by_kind (named_instance t.kind) plan
   where
     by_kind : Option Inst → Option GroupPlan → ℕ
     by_kind None (Some it) = it.canaries
     by_kind name plan = 0
 
 abbrev pub limit_of : Task → Option GroupPlan → ℕ
-limit_of t plan = by_kind (named t.kind) plan
+limit_of t plan = by_kind (named_instance t.kind) plan
   where
     by_kind : Option Inst → Option GroupPlan → ℕ
     by_kind None (Some it) = it.limit

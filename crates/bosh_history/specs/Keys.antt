@@ -19,8 +19,8 @@ pub record Leveled : Type 0 where
 abbrev pub level_after : List Leveled → KeyWork → ℕ
 level_after before work = greatest (λ it. if needs work it.work then suc it.level else 0) before
 
-abbrev pub leveled : List Leveled → KeyWork → Leveled
-leveled before work = record { work = work; level = level_after before work }
+abbrev pub leveled_work : List Leveled → KeyWork → Leveled
+leveled_work before work = record { work = work; level = level_after before work }
 
 abbrev pub leveled_cmp : Leveled → Leveled → Ordering
 leveled_cmp a b =
@@ -45,8 +45,8 @@ are_after is_compiled before [] = true
 are_after is_compiled before (work ∷ works) =
     not (is_compiled work.key || is_listed before work.key)
     && (list_all (λ key. is_compiled key || is_listed before key) work.deps
-    && (comes_after before (leveled before work)
-    && are_after is_compiled (leveled before work ∷ before) works))
+    && (comes_after before (leveled_work before work)
+    && are_after is_compiled (leveled_work before work ∷ before) works))
 
 -- the keys, none of which is compiled, are in compile order
 abbrev pub are_in_order : (Key → Bool) → List KeyWork → Bool

@@ -97,9 +97,9 @@ dep_of k (Disk d) = dep (k.orphan d)
 abbrev pub effect_of : Known → Begin → Entry
 effect_of k b = entries.Effect (record { n = b.n; owner = b.owner; dep = dep_of k b.owner; call = b.call })
 
-abbrev pub taken : Moment → Bool → Option OpenCall → List Entry
-taken m true (Some call) = effect_of m.known call.begin ∷ []
-taken m has_effect call = []
+abbrev pub call_effects : Moment → Bool → Option OpenCall → List Entry
+call_effects m true (Some call) = effect_of m.known call.begin ∷ []
+call_effects m has_effect call = []
 
 -- a task hears of a machine by the answer to a ping, by finding it, and by making it
 abbrev pub hears : ℕ → Call → Answer → (ℕ → List ℕ) → ℕ → List ℕ
@@ -113,14 +113,14 @@ abbrev pub heard_by : Did → Option OpenCall → (ℕ → List ℕ) → ℕ →
 heard_by d (Some call) heard = hears call.begin.task call.begin.call d.answer heard
 heard_by d None heard = heard
 
-abbrev pub performed : Did → Option OpenCall → Option OpenCall
-performed d (Some call) = Some (record call { did = Some d })
-performed d None = None
+abbrev pub performed_call : Did → Option OpenCall → Option OpenCall
+performed_call d (Some call) = Some (record call { did = Some d })
+performed_call d None = None
 
 abbrev pub performing : Moment → Did → Moment
 performing m d = record m {
-  effects = m.effects ++ taken m d.effect (m.calls d.n);
-  calls = at eqb d.n (performed d (m.calls d.n)) m.calls;
+  effects = m.effects ++ call_effects m d.effect (m.calls d.n);
+  calls = at eqb d.n (performed_call d (m.calls d.n)) m.calls;
   heard = heard_by d (m.calls d.n) m.heard;
 }
 
@@ -177,13 +177,13 @@ abbrev pub moment : Opening → List Move → Moment
 moment o moves = fold later (beginning o) moves
 
 -- the entries that were made durable, in order
-abbrev pub noted : Move → Option Entry
-noted (moves.Note e) = Some e
-noted (moves.Stop s) = s.kept
-noted move = None
+abbrev pub durable_entry : Move → Option Entry
+durable_entry (moves.Note e) = Some e
+durable_entry (moves.Stop s) = s.kept
+durable_entry move = None
 
 abbrev pub durable : Opening → List Move → List Entry
-durable o moves = o.entries ++ filter_map noted moves
+durable o moves = o.entries ++ filter_map durable_entry moves
 
 -- what was done to the cloud, in order
 abbrev pub effects_of : Opening → List Move → List Entry

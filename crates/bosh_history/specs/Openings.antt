@@ -10,7 +10,7 @@ use Rattle.bosh_base.specs.declared.inst.Inst.{Inst}
 use Rattle.bosh_base.specs.declared.link.Tie.{Tie}
 use Rattle.bosh_base.specs.declared.task.TaskKind.{TaskKind}
 use Rattle.bosh_base.specs.declared.task.TaskKind.TheVariants.{Deploy, DeleteDisk, CleanUp, Fix}
-use Rattle.bosh_history.specs.Goals.{named, to_change, to_delete, is_in}
+use Rattle.bosh_history.specs.Goals.{named_instance, to_change, to_delete, is_in}
 use Rattle.bosh_history.specs.Held.{is_offered, is_open}
 use Rattle.bosh_history.specs.Known.{Known}
 use Rattle.bosh_history.specs.Words.{is_among}
@@ -45,7 +45,7 @@ is_recorded k dep = is_among bytes_eq dep k.deployments
 -- a deploy may be of a new deployment, any other task is of a recorded one, and one of an instance is of one that is
 -- wanted
 abbrev pub names_what_is_there : Known → TaskKind → Goal → Bool
-names_what_is_there k kind goal = deploys kind || (is_recorded k goal.dep && by_name (named kind))
+names_what_is_there k kind goal = deploys kind || (is_recorded k goal.dep && by_name (named_instance kind))
   where
     by_name : Option Inst → Bool
     by_name (Some i) = is_in (k.goal goal.dep) i

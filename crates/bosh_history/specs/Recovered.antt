@@ -9,7 +9,7 @@ use Rattle.bosh_base.specs.declared.failure.Failure.{Failure}
 use Rattle.bosh_base.specs.declared.failure.Failure.TheVariants.{Interrupted}
 use Rattle.bosh_base.specs.declared.moves.Move.{Move}
 use Rattle.bosh_history.specs.Held.{is_open}
-use Rattle.bosh_history.specs.Moments.{Opening, Moment, beginning, later, noted}
+use Rattle.bosh_history.specs.Moments.{Opening, Moment, beginning, later, durable_entry}
 
 -- a task that a stop interrupted has no end
 abbrev pub is_recovering : Moment → Bool
@@ -33,7 +33,7 @@ follows m None = true
 
 abbrev pub IsRecoveredFrom : Moment → List Move → Type 0
 IsRecoveredFrom m [] = Unit {0}
-IsRecoveredFrom m (move ∷ moves) = (follows m (noted move) ≡ true) × IsRecoveredFrom (later m move) moves
+IsRecoveredFrom m (move ∷ moves) = (follows m (durable_entry move) ≡ true) × IsRecoveredFrom (later m move) moves
 
 -- no lock of an interrupted task is held when work goes on
 abbrev pub IsRecovered : Opening → List Move → Type 0

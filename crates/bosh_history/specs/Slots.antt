@@ -66,14 +66,14 @@ slot_begun n (CreateVm make disks) dep key old =
 slot_begun n (DeleteVm vm) dep key old = option_map (in_doubt n (DeleteVm vm)) old
 slot_begun n call dep key old = old
 
-abbrev pub found : ℕ → Option ℕ → Slot → Option Slot
-found agent (Some v) it = Some (record it { vm = Some (record { vm = v; agent = agent }); doubt = None })
-found agent None it = None
+abbrev pub slot_found : ℕ → Option ℕ → Slot → Option Slot
+slot_found agent (Some v) it = Some (record it { vm = Some (record { vm = v; agent = agent }); doubt = None })
+slot_found agent None it = None
 
 -- .. and is answered; a machine that is not there is recorded no more
 abbrev pub slot_told : ℕ → Call → Answer → Slot → Option Slot
-slot_told n (CreateVm make disks) (answers.Cid v) it = found n (Some v) it
-slot_told n (FindVm agent) (answers.Found vm) it = found agent vm it
+slot_told n (CreateVm make disks) (answers.Cid v) it = slot_found n (Some v) it
+slot_told n (FindVm agent) (answers.Found vm) it = slot_found agent vm it
 slot_told n (DeleteVm vm) answers.Done it = None
 slot_told n (DeleteVm vm) answers.Gone it = Some (record it { doubt = None })
 slot_told n (HasVm vm) answers.No it = None

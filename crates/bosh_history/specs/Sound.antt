@@ -17,7 +17,7 @@ use Rattle.bosh_base.specs.declared.offer.Offer.{Offer}
 use Rattle.bosh_base.specs.declared.task.TaskKind.{TaskKind}
 use Rattle.bosh_base.specs.declared.task.TaskKind.TheVariants.{DeleteDeployment}
 use Rattle.bosh_base.specs.declared.view.Held.{Held}
-use Rattle.bosh_history.specs.Goals.{named, inst_of, is_in}
+use Rattle.bosh_history.specs.Goals.{named_instance, inst_of, is_in}
 use Rattle.bosh_history.specs.Held.{held_by_machines, held_elsewhere, is_offered, offers_in, same_bytes_joint}
 use Rattle.bosh_history.specs.Keys.{are_in_order, are_left}
 use Rattle.bosh_history.specs.Known.{Known}
@@ -97,7 +97,7 @@ has_slots goal = nat_le (length goal.keys) 0 || nat_le 1 (length goal.slots)
 -- They are in compile order; those of a task of one instance, which are what is left of the current goal's, need only
 -- stand each after what it needs. There is a slot for them.
 abbrev pub has_keys : Known → TaskKind → Goal → Bool
-has_keys k kind goal = by_name (named kind) && has_slots goal
+has_keys k kind goal = by_name (named_instance kind) && has_slots goal
   where
     by_name : Option Inst → Bool
     by_name (Some i) = are_left (is_compiled k) goal.keys
@@ -173,7 +173,7 @@ is_empty_goal goal =
 
 abbrev pub is_of_kind : Known → TaskKind → Goal → Bool
 is_of_kind k DeleteDeployment goal = is_empty_goal goal
-is_of_kind k kind goal = by_name (named kind)
+is_of_kind k kind goal = by_name (named_instance kind)
   where
     by_name : Option Inst → Bool
     by_name (Some i) = is_renewed k goal i (k.goal goal.dep)

@@ -18,7 +18,7 @@ use Rattle.bosh_base.specs.declared.row.Vm.{Vm}
 use Rattle.bosh_base.specs.declared.snapshot.Orphan.{Orphan}
 use Rattle.bosh_history.specs.Known.{Slot, SlotName}
 use Rattle.bosh_history.specs.Moments.{Opening, Moment, beginning, later}
-use Rattle.bosh_history.specs.Slots.{found}
+use Rattle.bosh_history.specs.Slots.{slot_found}
 use Rattle.bosh_history.specs.Words.{holds}
 use Rattle.bosh_rows.specs.Same.{same_owner, same_want}
 use Rattle.bosh_rows.specs.Tied.{vms_of, was_made, as_done, is_tied_row, number_of}
@@ -30,7 +30,7 @@ abbrev pub slot_before : Slot → Slot
 slot_before it = record it { doubt = None }
 
 abbrev pub slot_by : List Entry → Slot → ℕ → Call → Option Slot
-slot_by effects it n (CreateVm make disks) = found n (found_vm effects n) it
+slot_by effects it n (CreateVm make disks) = slot_found n (found_vm effects n) it
 slot_by effects it n (DeleteVm vm) = None
 slot_by effects it n call = Some (slot_before it)
 

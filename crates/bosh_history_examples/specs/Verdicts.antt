@@ -6,7 +6,7 @@ use Rattle.bosh_base.specs.declared.moves.Move.TheVariants as moves
 use Rattle.bosh_history.specs.Budget.{budget}
 use Rattle.bosh_history.specs.Exact.{is_exact}
 use Rattle.bosh_history.specs.Links.{are_links_kept}
-use Rattle.bosh_history.specs.Moments.{Moment, later, noted}
+use Rattle.bosh_history.specs.Moments.{Moment, durable_entry, later}
 use Rattle.bosh_history.specs.Notes.{Outside}
 use Rattle.bosh_history.specs.Permitted.{IsPermitted, IsRunFrom}
 use Rattle.bosh_history.specs.Recovered.{follows}
@@ -87,7 +87,7 @@ verdict m history = record {
   disk_contents = first_failure (durable_well keeps_disks) 1 m history;
   phases = first_failure (noted_well in_phase) 1 m history;
   tied = first_failure (λ before move. is_tied (later before move)) 1 m history;
-  recovered = first_failure (λ before move. follows before (noted move)) 1 m history;
+  recovered = first_failure (λ before move. follows before (durable_entry move)) 1 m history;
   links = first_failure (λ before move. are_links_kept (later before move).known) 1 m history;
 }
 

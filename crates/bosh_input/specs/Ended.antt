@@ -14,13 +14,13 @@ pub record View : Type 0 where
   pub ended : Option Ended
 
 -- a command whose block has too many bytes is none, and its block is not kept
-abbrev pub judged : Request → Request
-judged request = if nat_lt 1048576 (length request.block) then record { asked = Err TooLarge; block = [] } else request
+abbrev pub bounded_request : Request → Request
+bounded_request request = if nat_lt 1048576 (length request.block) then record { asked = Err TooLarge; block = [] } else request
 
 -- the next command was given as the input has it, but for a block of too many bytes
 pub record IsGiven (old new : InputView) (given : Request) : Type 0 where
   pub request : Request
-  pub is : given ≡ judged request
+  pub is : given ≡ bounded_request request
   pub next : IsNext old new request
 
 -- an answer that ends an input

@@ -1,7 +1,7 @@
 ghost use Rattle.std.specs.Prelude.{◌≡◌, [], Err, length, nat_lt};
 ghost use Rattle.std.specs.Bool.{MatchBool};
 ghost use Rattle.bosh_words.specs.declared.fault.LineFault.TheVariants.{TooLarge};
-ghost use Rattle.bosh_input.specs.Ended.{judged};
+ghost use Rattle.bosh_input.specs.Ended.{bounded_request};
 
 use bosh_base::Text;
 use bosh_lines::{Command, LineFault};
@@ -36,7 +36,7 @@ fn within<T: Drop>(
 
 // The command, where its block has not too many bytes.
 pub(crate) fn judged(alloc: Global, request: Request) -> Request
-    ensures { result ≡ judged request }
+    ensures { result ≡ bounded_request request }
 {
     let Request { asked, block } = request;
     let (asked, block) = within(alloc, asked, block);

@@ -4,7 +4,7 @@ use Rattle.std.specs.List.{flat_map, list_any}
 use Rattle.std.specs.Str.{bytes_eq}
 use Rattle.bosh_base.specs.declared.release.PackageSpec.{PackageSpec}
 use Rattle.bosh_base.specs.declared.spec.Mark.{Mark}
-use Rattle.bosh_lookup.specs.Table.{named}
+use Rattle.bosh_lookup.specs.Table.{first_named}
 use Rattle.bosh_uses.specs.Used.{UsedJob}
 
 abbrev pub job_mark : UsedJob → Mark
@@ -20,7 +20,7 @@ package_name pack = pack.name
 
 -- those that the specification of a job lists
 abbrev pub own_packages : UsedJob → List PackageSpec
-own_packages used = filter_map (named package_name used.release.packages) used.spec.packages
+own_packages used = filter_map (first_named package_name used.release.packages) used.spec.packages
 
 abbrev pub all_packages : List UsedJob → List PackageSpec
 all_packages jobs = flat_map own_packages jobs

@@ -76,8 +76,8 @@ abbrev pub row_bytes : GoalRow → ℕ
 row_bytes row = sum_by bytes_of row.spec.files
 
 -- the files of a deployment have together at most 1,048,576 bytes
-abbrev pub limited : List GoalRow → Result (List GoalRow) GoalFault
-limited rows = if nat_le (sum_by row_bytes rows) 1048576 then Ok rows else Err Limit
+abbrev pub bounded_rows : List GoalRow → Result (List GoalRow) GoalFault
+bounded_rows rows = if nat_le (sum_by row_bytes rows) 1048576 then Ok rows else Err Limit
 
 abbrev pub rows : Scene → List Sited → Result (List GoalRow) GoalFault
-rows scene groups = gather (group_rows scene) groups >>= limited
+rows scene groups = gather (group_rows scene) groups >>= bounded_rows

@@ -3,7 +3,7 @@ ghost use Rattle.std.specs.Prelude.{◌≡◌, ◌≤◌, All, length};
 ghost use Rattle.bosh_files.specs.Budget.{Takes};
 ghost use Rattle.bosh_files.specs.Gathered.{gather};
 ghost use Rattle.bosh_instances.specs.Applied.{job_marks, package_marks};
-ghost use Rattle.bosh_instances.specs.Rows.{group_rows, instance_row, limited, row_bytes, rows};
+ghost use Rattle.bosh_instances.specs.Rows.{bounded_rows, group_rows, instance_row, row_bytes, rows};
 ghost use Rattle.bosh_places.specs.Wants.{below};
 ghost use Rattle.bosh_uses.specs.Answer.{IsAnswer};
 ghost use Rattle.bosh_uses.specs.declared.fault.GoalFault.TheVariants.{Memory};

@@ -2,7 +2,7 @@
 use Rattle.std.proofs.Common.{◌≡◌, ℕ, Bool, true, false, Option, Some, None, List, refl, sym, ◌∙◌, ap}
 use Rattle.std.specs.Prelude.{◌==◌, filter}
 use Rattle.std.proofs.lemmas.Bool.{ne_eqb, eq-eqb}
-use Rattle.bosh_agent.specs.Agent.{vm_of, has_disks, acted}
+use Rattle.bosh_agent.specs.Agent.{vm_of, has_disks, machine_by_call}
 use Rattle.bosh_agent.specs.Numbers.{has, with_number, without_number}
 use Rattle.bosh_base.specs.Call.{method_of}
 use Rattle.bosh_base.specs.Cloud.{when, by_call, silence, is_silent, applied, spec_of, started, is_running, drained, is_drained, attached, mounts, is_disk_mounted, attached_to, mounted_on, machine_made}
@@ -120,7 +120,7 @@ of_call n owner dep call = record { n = n; owner = owner; dep = dep; call = call
 pub machine_made-acted : (xs : List Entry) → AreOrderly xs →
     (n : ℕ) (owner : Owner) (dep : List ℕ) (vm : ℕ) (m : Machine) → IsMachine xs vm m →
     (call : Call) → is_agents (method_of call) ≡ true → vm_of call ≡ Some vm → has_disks m call ≡ true →
-    (e : effect.Effect) (make : Make) → machine_made (grown xs (Effect (of_call n owner dep call))) vm e make ≡ acted
+    (e : effect.Effect) (make : Make) → machine_made (grown xs (Effect (of_call n owner dep call))) vm e make ≡ machine_by_call
     (machine_made xs vm e make) call
 machine_made-acted xs orderly n owner dep vm m machine (Apply v spec) is names has_them e make =
     let x : effect.Effect = of_call n owner dep (Apply v spec) in

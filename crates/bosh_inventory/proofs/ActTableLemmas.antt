@@ -3,7 +3,7 @@ use Rattle.std.proofs.Common.{◌≡◌, ℕ, ◌<◌, Bool, true, false, Option
 use Rattle.std.specs.Prelude.{◌≢◌, ◌==◌, ◌&&◌, if◌then◌else◌}
 use Rattle.std.specs.Option.{option_map}
 use Rattle.std.proofs.lemmas.Bool.{ne_eqb, eq-eqb, cases_eq}
-use Rattle.bosh_agent.specs.Agent.{vm_of, has_disks, acted, contents_in, with_contents, disks_acted}
+use Rattle.bosh_agent.specs.Agent.{vm_of, has_disks, machine_by_call, contents_in, with_contents, disks_by_call}
 use Rattle.bosh_agent.specs.Numbers.{has}
 use Rattle.bosh_agent.specs.Slots.{with_slot}
 use Rattle.bosh_base.specs.Call.{method_of}
@@ -108,7 +108,7 @@ empty-acted xs orderly n owner dep vm m machine call is has_them d past =
 rows-acted : (xs : List Entry) → AreOrderly xs → (n : ℕ) (owner : Owner) (dep : List ℕ) (vm : ℕ) (m : Machine) →
     IsMachine xs vm m →
     (call : Call) → is_agents (method_of call) ≡ true → has_disks m call ≡ true →
-    disks_acted (slots (disk_of xs) (disks_created xs)) call ≡ slots
+    disks_by_call (slots (disk_of xs) (disks_created xs)) call ≡ slots
     (disk_of (grown xs (Effect (of_call n owner dep call))))
     (disks_created (grown xs (Effect (of_call n owner dep call))))
 rows-acted xs orderly n owner dep vm m machine (MigrateDisk w from to) is has_them =
@@ -129,24 +129,24 @@ pub AreTables-agent : (xs : List Entry) (e : effect.Effect) (vm : ℕ) (m : Mach
     (volumes : List (Option Disk)) (holders : List (Option ℕ)) →
     machine_of xs vm ≡ Some m → IsAgents e → vm_of e.call ≡ Some vm → has_disks m e.call ≡ true → AreTables xs vms
     volumes holders →
-    AreTables (xs ++ Effect e ∷ []) (with_slot vms vm (Some (acted m e.call))) (disks_acted volumes e.call) holders
+    AreTables (xs ++ Effect e ∷ []) (with_slot vms vm (Some (machine_by_call m e.call))) (disks_by_call volumes e.call) holders
 AreTables-agent xs e vm m vms volumes holders there is names has_them tables =
     let orderly : AreOrderly xs = tables.are_orderly in
     let machine : IsMachine xs vm m = IsMachine-found xs vm m there in
-    let acts : ActsOn xs (Effect e) vm (acted m e.call) (disks_acted volumes e.call) = record {
+    let acts : ActsOn xs (Effect e) vm (machine_by_call m e.call) (disks_by_call volumes e.call) = record {
       vms = KeepsVms-agents xs e is;
       disks = KeepsDisks-agents xs e is;
       holders = λ d. attached-agents d e.call is;
       untouched = λ v apart. Untouches-other e v (λ same. apart (some_same v vm (sym same ∙ names)));
       mounted = λ v apart d. mounts-others xs orderly e.n e.owner e.dep vm m machine e.call is names has_them v apart d;
       machine =
-          machine_of-changed xs (Effect e) (KeepsVms-agents xs e is) vm (λ it. acted it e.call)
+          machine_of-changed xs (Effect e) (KeepsVms-agents xs e is) vm (λ it. machine_by_call it e.call)
           (machine_made-acted xs orderly e.n e.owner e.dep vm m machine e.call is names has_them)
-          ∙ ap (option_map (λ it. acted it e.call)) there;
+          ∙ ap (option_map (λ it. machine_by_call it e.call)) there;
       empty = λ d past. empty-acted xs orderly e.n e.owner e.dep vm m machine e.call is has_them d past;
       rows =
-          ap (λ t. disks_acted t e.call) tables.all_disks
+          ap (λ t. disks_by_call t e.call) tables.all_disks
           ∙ rows-acted xs orderly e.n e.owner e.dep vm m machine e.call is has_them;
     } in
-    AreTables-acted xs (Effect e) vm (acted m e.call) vms volumes (disks_acted volumes e.call) holders machine.there
+    AreTables-acted xs (Effect e) vm (machine_by_call m e.call) vms volumes (disks_by_call volumes e.call) holders machine.there
     acts tables

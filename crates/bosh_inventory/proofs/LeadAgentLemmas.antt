@@ -3,9 +3,9 @@ use Rattle.std.proofs.Common.{◌≡◌, ℕ, Bool, true, false, Option, Some, L
 use Rattle.std.specs.Prelude.{◌&&◌, ◌||◌, not, is_some}
 use Rattle.std.specs.Option.{option_map}
 use Rattle.std.proofs.lemmas.Bool.{or_cases}
-use Rattle.bosh_agent.specs.Agent.{acted, can_act, disks_acted, has_disks, told, vm_of}
+use Rattle.bosh_agent.specs.Agent.{answer_by_call, can_act, disks_by_call, has_disks, machine_by_call, vm_of}
 use Rattle.bosh_agent.specs.Change.{IsIn, machine_changed, disks_changed}
-use Rattle.bosh_agent.specs.Compiled.{compiled}
+use Rattle.bosh_agent.specs.Compiled.{compiled_digest}
 use Rattle.bosh_agent.specs.Numbers.{has}
 use Rattle.bosh_agent.specs.Slots.{at, with_slot}
 use Rattle.bosh_agent.specs.declared.change.Change as agent_change
@@ -33,7 +33,7 @@ use Rattle.bosh_inventory.proofs.LeadLemmas.{PairBy, there_vm}
 
 pair-acted : (xs : List Entry) (before : Tables) → AreTables xs before.vms before.disks before.holders →
     (call : Call) (acting : IsActing xs call) (change : agent_change.Change) →
-    machine_changed acting.machine change ≡ acted acting.machine call → disks_changed before.disks change ≡ disks_acted
+    machine_changed acting.machine change ≡ machine_by_call acting.machine call → disks_changed before.disks change ≡ disks_by_call
     before.disks call → IsIn change before.disks → PairBy xs call (Acted acting.vm change)
 pair-acted xs before seen call acting change machine disks fits e is t tables =
     let same : before.disks ≡ t.disks = seen.all_disks ∙ sym tables.all_disks in
@@ -44,18 +44,18 @@ pair-acted xs before seen call acting change machine disks fits e is t tables =
     let has_them : has_disks acting.machine e.call ≡ true =
     ap (has_disks acting.machine) is
     ∙ and_right (not acting.machine.silent) (has_disks acting.machine call) acting.can in
-    let after : AreTables (xs ++ Effect e ∷ []) (with_slot t.vms acting.vm (Some (acted acting.machine e.call)))
-    (disks_acted t.disks e.call) t.holders =
+    let after : AreTables (xs ++ Effect e ∷ []) (with_slot t.vms acting.vm (Some (machine_by_call acting.machine e.call)))
+    (disks_by_call t.disks e.call) t.holders =
     AreTables-agent xs e acting.vm acting.machine t.vms t.disks t.holders acting.found agents names has_them tables in
-    let new_vms : with_slot t.vms acting.vm (Some (acted acting.machine e.call)) ≡ with_slot t.vms acting.vm
+    let new_vms : with_slot t.vms acting.vm (Some (machine_by_call acting.machine e.call)) ≡ with_slot t.vms acting.vm
     (option_map (λ m. machine_changed m change) (at t.vms acting.vm)) =
-    ap (λ m. with_slot t.vms acting.vm (Some m)) (ap (acted acting.machine) is ∙ sym machine)
+    ap (λ m. with_slot t.vms acting.vm (Some m)) (ap (machine_by_call acting.machine) is ∙ sym machine)
     ∙ ap (λ o. with_slot t.vms acting.vm (option_map (λ m. machine_changed m change) o)) (sym found) in
-    let new_disks : disks_acted t.disks e.call ≡ disks_changed t.disks change =
-    ap (disks_acted t.disks) is ∙ ap (λ v. disks_acted v call) (sym same) ∙ sym disks
+    let new_disks : disks_by_call t.disks e.call ≡ disks_changed t.disks change =
+    ap (disks_by_call t.disks) is ∙ ap (λ v. disks_by_call v call) (sym same) ∙ sym disks
     ∙ ap (λ v. disks_changed v change) same in
     let P : List (Option Machine) → Type 0 =
-    λ vms. AreTables (xs ++ Effect e ∷ []) vms (disks_acted t.disks e.call) t.holders in
+    λ vms. AreTables (xs ++ Effect e ∷ []) vms (disks_by_call t.disks e.call) t.holders in
     let Q : List (Option Disk) → Type 0 =
     λ volumes. AreTables (xs ++ Effect e ∷ [])
     (with_slot t.vms acting.vm (option_map (λ m. machine_changed m change) (at t.vms acting.vm))) volumes
@@ -68,7 +68,7 @@ pair-acted xs before seen call acting change machine disks fits e is t tables =
 
 pub Leads-acted : (xs : List Entry) (before : Tables) → AreTables xs before.vms before.disks before.holders →
     (call : Call) (acting : IsActing xs call) (change : agent_change.Change) →
-    machine_changed acting.machine change ≡ acted acting.machine call → disks_changed before.disks change ≡ disks_acted
+    machine_changed acting.machine change ≡ machine_by_call acting.machine call → disks_changed before.disks change ≡ disks_by_call
     before.disks call → IsIn change before.disks → LeadsBy xs call (Acted acting.vm change)
 Leads-acted xs before seen call acting change machine disks fits e is =
     record {
@@ -114,27 +114,27 @@ not_gone true false is = refl
 not_gone false b is = absurd cc
 
 pub can-acted : (xs : List Entry) → AreOrderly xs → (call : Call) (vm : ℕ) (m : Machine) → machine_of xs vm ≡ Some m →
-    vm_of call ≡ Some vm → takes_effect compiled xs call ≡ true → can_act m call ≡ true
+    vm_of call ≡ Some vm → takes_effect compiled_digest xs call ≡ true → can_act m call ≡ true
 can-acted xs orderly call vm m found names effect =
-    each (can_act m call) refl (ap is_gone (agent_answer-is compiled xs orderly vm m found call names) ∙ not_gone
-    (is_changing (method_of call)) (is_gone (answer_of compiled xs call)) effect)
+    each (can_act m call) refl (ap is_gone (agent_answer-is compiled_digest xs orderly vm m found call names) ∙ not_gone
+    (is_changing (method_of call)) (is_gone (answer_of compiled_digest xs call)) effect)
   where
-    each : (b : Bool) → can_act m call ≡ b → is_gone (unless_gone (can_act m call) (told compiled m call)) ≡ false →
+    each : (b : Bool) → can_act m call ≡ b → is_gone (unless_gone (can_act m call) (answer_by_call compiled_digest m call)) ≡ false →
         can_act m call ≡ true
     each true is gone = is
     each false is gone =
-        let other : is_gone (unless_gone (can_act m call) (told compiled m call)) ≡ true =
-        ap (λ b. is_gone (unless_gone b (told compiled m call))) is in
+        let other : is_gone (unless_gone (can_act m call) (answer_by_call compiled_digest m call)) ≡ true =
+        ap (λ b. is_gone (unless_gone b (answer_by_call compiled_digest m call))) is in
         absurd cc
 
 pub there-acted : (xs : List Entry) (call : Call) (vm : ℕ) → vm_of call ≡ Some vm →
-    takes_effect compiled xs call ≡ true → is_vm_there xs vm ≡ true
+    takes_effect compiled_digest xs call ≡ true → is_vm_there xs vm ≡ true
 there-acted xs call vm names effect = each (is_vm_there xs vm) refl
   where
     each : (b : Bool) → is_vm_there xs vm ≡ b → is_vm_there xs vm ≡ true
     each true is = is
     each false is =
-        let gone : is_gone (answer_of compiled xs call) ≡ true = ap is_gone (gone-is compiled xs vm is call names) in
-        let not : is_gone (answer_of compiled xs call) ≡ false =
-        not_gone (is_changing (method_of call)) (is_gone (answer_of compiled xs call)) effect in
+        let gone : is_gone (answer_of compiled_digest xs call) ≡ true = ap is_gone (gone-is compiled_digest xs vm is call names) in
+        let not : is_gone (answer_of compiled_digest xs call) ≡ false =
+        not_gone (is_changing (method_of call)) (is_gone (answer_of compiled_digest xs call)) effect in
         absurd cc

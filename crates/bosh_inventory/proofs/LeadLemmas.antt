@@ -20,7 +20,7 @@ use Rattle.bosh_inventory.proofs.LookupLemmas.{at-vms, vms_made, disks_made}
 use Rattle.bosh_inventory.proofs.AttachLemmas.{AreTables-attach, AreTables-detach, IsMovable-shown}
 use Rattle.bosh_inventory.proofs.DeletionLemmas.{AreTables-deleted}
 use Rattle.bosh_inventory.proofs.SlotLemmas.{length-slots}
-use Rattle.bosh_changes.specs.Changes.{IsFitting, IsThere, changed, holding}
+use Rattle.bosh_changes.specs.Changes.{IsFitting, IsThere, holding, tables_after}
 use Rattle.bosh_inventory.specs.Changes.{LeadsBy}
 use Rattle.bosh_inventory.specs.Orderly.{last_holder}
 use Rattle.bosh_inventory.specs.Rows.{AreTables}
@@ -31,8 +31,8 @@ use Rattle.bosh_changes.specs.declared.tables.Tables.{Tables}
 -- what a change has to show
 abbrev pub Pair : List Entry → Entry → Change → Type 0
 Pair before entry change = (t : Tables) → AreTables before t.vms t.disks t.holders →
-    IsFitting change t × AreTables (before ++ entry ∷ []) (changed t change).vms (changed t change).disks
-    (changed t change).holders
+    IsFitting change t × AreTables (before ++ entry ∷ []) (tables_after t change).vms (tables_after t change).disks
+    (tables_after t change).holders
 
 abbrev pub PairBy : List Entry → Call → Change → Type 0
 PairBy before call change = (e : effect.Effect) → e.call ≡ call → Pair before (Effect e) change

@@ -4,7 +4,7 @@ use Rattle.std.specs.Prelude.{◌==◌, if◌then◌else◌, filter}
 use Rattle.std.specs.Option.{option_map, option_and_then}
 use Rattle.std.proofs.lemmas.List.Sums.{sum_by-append, fold-append}
 use Rattle.std.proofs.lemmas.List.Elements.{filter_agree}
-use Rattle.bosh_base.specs.Cloud.{when, by_call, is_vm_creation, vms_created, vm_created, vm_creation, vm_presence, is_vm_there, is_disk_creation, disks_created, disk_created, disk_creation, disk_presence, is_disk_there, attached, holder_of, mounts, is_disk_mounted, written, contents_of, numbers_to, make_of, want_of, is_holder, attached_to, mounted_on, machine_made, machine_of, disk_made, disk_of}
+use Rattle.bosh_base.specs.Cloud.{when, by_call, is_vm_creation, vms_created, vm_created, vm_creation, vm_presence, is_vm_there, is_disk_creation, disks_created, disk_created, disk_creation, disk_presence, is_disk_there, attached, holder_of, mounts, is_disk_mounted, contents_after, contents_of, numbers_to, make_of, want_of, is_holder, attached_to, mounted_on, machine_made, machine_of, disk_made, disk_of}
 use Rattle.bosh_base.specs.History.{chosen}
 use Rattle.bosh_base.specs.declared.disk_want.DiskWant.{DiskWant}
 use Rattle.bosh_base.specs.declared.entry.Effect as effect
@@ -93,8 +93,8 @@ pub disk_creation-kept : (xs : List Entry) (x : Entry) → KeepsDisks xs x → (
 disk_creation-kept xs x keeps d =
     latest_seen_last (disk_created d) None [] xs x ∙ ap (λ a. chosen a (disk_creation xs d)) (keeps.created d)
 
-pub contents_of-grown : (xs : List Entry) (x : Entry) → contents_of (grown xs x) ≡ written (contents_of xs) x
-contents_of-grown xs x = fold-append written (λ d. []) xs (x ∷ [])
+pub contents_of-grown : (xs : List Entry) (x : Entry) → contents_of (grown xs x) ≡ contents_after (contents_of xs) x
+contents_of-grown xs x = fold-append contents_after (λ d. []) xs (x ∷ [])
 
 pub disk_of-changed : (xs : List Entry) (x : Entry) → KeepsDisks xs x → (d : ℕ) (f : Disk → Disk) →
     ((e : effect.Effect) (want : DiskWant) → disk_made (grown xs x) d e want ≡ f (disk_made xs d e want)) →

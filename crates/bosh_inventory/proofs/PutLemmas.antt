@@ -11,7 +11,7 @@ use Rattle.bosh_base.specs.declared.machine.Machine.{Machine}
 use Rattle.bosh_inventory.proofs.DiskLemmas.{AreTables-disk}
 use Rattle.bosh_inventory.proofs.VmTableLemmas.{AreTables-created}
 use Rattle.bosh_inventory.specs.Made.{MakesDisk, MakesVm, new_disk, new_machine}
-use Rattle.bosh_changes.specs.Changes.{changed}
+use Rattle.bosh_changes.specs.Changes.{tables_after}
 use Rattle.bosh_inventory.specs.Changes.{Leads}
 use Rattle.bosh_inventory.specs.Happens.{AllFollow, MayFollow}
 use Rattle.bosh_inventory.specs.Rows.{AreTables}
@@ -23,7 +23,7 @@ on_ok (Ok value) is p = p
 on_ok (Err fault) is p = absurd cc
 
 pub invariant-put : (now xs ys : List Entry) (t u : Tables) (entry : Entry) (change : Change) → xs ≡ now →
-    ys ≡ xs ++ entry ∷ [] → u ≡ changed t change →
+    ys ≡ xs ++ entry ∷ [] → u ≡ tables_after t change →
     Leads now entry change → MayFollow now entry → AreTables xs t.vms t.disks t.holders → AllFollow xs → AreTables ys
     u.vms u.disks u.holders × AllFollow ys
 invariant-put now xs ys t u entry change seen more after leads follows tables all =

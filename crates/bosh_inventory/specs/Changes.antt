@@ -9,7 +9,7 @@ use Rattle.bosh_base.specs.declared.entry.Effect as effect
 use Rattle.bosh_base.specs.declared.entry.Entry.{Entry}
 use Rattle.bosh_base.specs.declared.entry.Entry.TheVariants.{Effect}
 use Rattle.bosh_base.specs.declared.machine.Machine.{Machine}
-use Rattle.bosh_changes.specs.Changes.{changed, IsFitting}
+use Rattle.bosh_changes.specs.Changes.{tables_after, IsFitting}
 use Rattle.bosh_changes.specs.declared.change.Change.{Change}
 use Rattle.bosh_changes.specs.declared.tables.Tables.{Tables}
 use Rattle.bosh_inventory.specs.Rows.{AreTables}
@@ -21,7 +21,7 @@ AreTablesOf entries tables = AreTables entries tables.vms tables.disks tables.ho
 -- the tables stay those of what was done, where this is done and they change so
 pub record Leads (before : List Entry) (entry : Entry) (change : Change) : Type 0 where
   pub fits : (tables : Tables) → AreTablesOf before tables → IsFitting change tables
-  pub keeps : (tables : Tables) → AreTablesOf before tables → AreTablesOf (before ++ entry ∷ []) (changed tables change)
+  pub keeps : (tables : Tables) → AreTablesOf before tables → AreTablesOf (before ++ entry ∷ []) (tables_after tables change)
 
 -- the same of the effect of a call, whoever makes it
 abbrev pub LeadsBy : List Entry → Call → Change → Type 0

@@ -2,7 +2,7 @@
 -- something is gone, writes to disks that are there, and losses of machines that are there
 -- (bosh.io, "CPI API v1" and "Agent API", in this project's profile).
 use Rattle.std.specs.Prelude.{Bool, false, List, [], IsTrue}
-use Rattle.bosh_agent.specs.Compiled.{compiled}
+use Rattle.bosh_agent.specs.Compiled.{compiled_digest}
 use Rattle.bosh_base.specs.CallStep.{takes_effect}
 use Rattle.bosh_base.specs.Cloud.{is_disk_there, is_vm_there}
 use Rattle.bosh_base.specs.History.{EachAfter}
@@ -11,7 +11,7 @@ use Rattle.bosh_base.specs.declared.entry.Entry.TheVariants.{Effect, Write, Lost
 use Rattle.bosh_entry.specs.Body.{IsEntry}
 
 abbrev pub happens : List Entry → Entry → Bool
-happens before (Effect e) = takes_effect compiled before e.call
+happens before (Effect e) = takes_effect compiled_digest before e.call
 happens before (Write w) = is_disk_there before w.disk
 happens before (Lost loss) = is_vm_there before loss.vm
 happens before entry = false

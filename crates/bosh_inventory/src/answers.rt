@@ -1,7 +1,7 @@
 ghost use Rattle.std.specs.Prelude.{◌≡◌, ◌+◌, true, ◌&&◌, ◌==◌, not, IfOk, Some, None, is_some};
 ghost use Rattle.std.specs.Option.{option_map};
 ghost use Rattle.bosh_agent.specs.Agent.{agent_answer, vm_of};
-ghost use Rattle.bosh_agent.specs.Compiled.{compiled};
+ghost use Rattle.bosh_agent.specs.Compiled.{compiled_digest};
 ghost use Rattle.bosh_base.specs.Call.{method_of};
 ghost use Rattle.bosh_base.specs.CallStep.{answer_of, found_disk, found_vm, has_number, is_gone, is_movable, takes_effect, unless_gone, yes_or_no};
 ghost use Rattle.bosh_base.specs.Cloud.{attached_to, disk_creation, disks_created, holder_of, is_disk_there, is_vm_there, vm_creation, vms_created};
@@ -17,7 +17,7 @@ use std::alloc::Global;
 impl Inventory {
     /// What a call answers where it does not fail.
     pub fn answer(&self, alloc: Global, call: &Call) -> Result<Answer, InventoryFault>
-        ensures { IfOk result (λ answer. answer ≡ answer_of compiled self.now call.now) }
+        ensures { IfOk result (λ answer. answer ≡ answer_of compiled_digest self.now call.now) }
     {
         match call {
             Call::CreateVm { .. } => Ok(self.next_vm()),
@@ -49,7 +49,7 @@ impl Inventory {
     }
 
     fn takes_effect(&self, alloc: Global, call: &Call) -> Result<bool, InventoryFault>
-        ensures { IfOk result (λ test. test ≡ takes_effect compiled self.now call.now) }
+        ensures { IfOk result (λ test. test ≡ takes_effect compiled_digest self.now call.now) }
     {
         let answer = self.answer(alloc, call)?;
         Ok(changes_by(call, &answer))
@@ -96,7 +96,7 @@ impl Inventory {
 
     fn agent_answer(&self, alloc: Global, call: &Call) -> Result<Answer, InventoryFault>
         requires { is_some (vm_of call.now) ≡ true }
-        ensures { IfOk result (λ answer. answer ≡ answer_of compiled self.now call.now) }
+        ensures { IfOk result (λ answer. answer ≡ answer_of compiled_digest self.now call.now) }
     {
         // A field that is looked at lets the prover know that the tables are those of what was done.
         let _ = &self.effects;
@@ -111,7 +111,7 @@ impl Inventory {
 }
 
 fn answer_by(alloc: Global, machine: &Machine, call: &Call) -> Result<Answer, InventoryFault>
-    ensures { IfOk result (λ answer. answer ≡ agent_answer compiled machine.now call.now) }
+    ensures { IfOk result (λ answer. answer ≡ agent_answer compiled_digest machine.now call.now) }
 {
     if !can_act(machine, call) {
         return Ok(Answer::Gone);

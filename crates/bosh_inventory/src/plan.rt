@@ -1,6 +1,6 @@
 ghost use Rattle.std.specs.Prelude.{◌≡◌, Some, IfOk, IsTrue, IsFalse};
 ghost use Rattle.bosh_agent.specs.Agent.{can_act, vm_of};
-ghost use Rattle.bosh_agent.specs.Compiled.{compiled};
+ghost use Rattle.bosh_agent.specs.Compiled.{compiled_digest};
 ghost use Rattle.bosh_base.specs.Call.{method_of};
 ghost use Rattle.bosh_base.specs.CallStep.{is_movable, takes_effect};
 ghost use Rattle.bosh_base.specs.Cloud.{creates_disk, creates_vm, is_disk_there, is_vm_there, machine_of};
@@ -16,7 +16,7 @@ use std::alloc::Global;
 impl Inventory {
     /// What a call changes that has its effect and makes nothing. All memory for it is taken here.
     pub fn change(&self, alloc: Global, call: &Call) -> Result<Change, InventoryFault>
-        requires effect { IsTrue (takes_effect compiled self.now call.now) }
+        requires effect { IsTrue (takes_effect compiled_digest self.now call.now) }
         requires no_vm { IsFalse (creates_vm call.now) }
         requires no_disk { IsFalse (creates_disk call.now) }
         ensures { IfOk result (λ change. LeadsBy self.now call.now change) }
@@ -67,7 +67,7 @@ impl Inventory {
 
     fn act(&self, alloc: Global, vm: u64, call: &Call) -> Result<Change, InventoryFault>
         requires names { vm_of call.now ≡ Some vm }
-        requires effect { IsTrue (takes_effect compiled self.now call.now) }
+        requires effect { IsTrue (takes_effect compiled_digest self.now call.now) }
         ensures { IfOk result (λ change. LeadsBy self.now call.now change) }
     {
         match self.machine(vm) {

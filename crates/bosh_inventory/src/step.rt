@@ -1,5 +1,5 @@
 ghost use Rattle.std.specs.Prelude.{◌≡◌, ◌+◌, IfOk, IsTrue};
-ghost use Rattle.bosh_agent.specs.Compiled.{compiled};
+ghost use Rattle.bosh_agent.specs.Compiled.{compiled_digest};
 ghost use Rattle.bosh_base.specs.CallStep.{takes_effect};
 ghost use Rattle.bosh_base.specs.Cloud.{disks_created, vms_created};
 ghost use Rattle.bosh_inventory.specs.Happens.{Happens};
@@ -38,7 +38,7 @@ impl Inventory {
     }
 
     fn effect_step(&self, alloc: Global, effect: &Effect) -> Result<Step, InventoryFault>
-        requires { IsTrue (takes_effect compiled self.now effect.now.call) }
+        requires { IsTrue (takes_effect compiled_digest self.now effect.now.call) }
         ensures { IfOk result (λ step. IsStep self.now (Entry.Effect effect.now) step) }
     {
         match &effect.call {

@@ -11,7 +11,7 @@ use Rattle.bosh_base.specs.declared.release.Release.{Release}
 use Rattle.bosh_base.specs.declared.stemcell.Stemcell.{Stemcell}
 use Rattle.bosh_compile.specs.Level.{IsAcyclic, IsGrounded, Needs, grounded}
 use Rattle.bosh_compile.proofs.GreatestLemmas.{All-from_Contains}
-use Rattle.bosh_lookup.specs.Table.{named}
+use Rattle.bosh_lookup.specs.Table.{first_named}
 use Rattle.bosh_release.specs.Sound.{Depends, IsSound, Lists, at_once, by, names_of}
 use Rattle.bosh_release_files.specs.Files.{in_order}
 use Rattle.bosh_keys.specs.Works.{key_named, key_of, package_name, work_of}
@@ -26,9 +26,9 @@ depends_known release sound (by name next last l d) = depends_known release soun
 
 key_at : (release : Release) (stemcell : Stemcell) (name : List ℕ) (key : Key) → key_named release stemcell name ≡ Some key
     → (pack : PackageSpec) × Contains release.packages pack × (pack.name ≡ name) × (key_of stemcell pack ≡ key)
-key_at release stemcell name key h = at (named package_name release.packages name) refl h
+key_at release stemcell name key h = at (first_named package_name release.packages name) refl h
   where
-    at : (o : Option PackageSpec) → named package_name release.packages name ≡ o → option_map (key_of stemcell) o ≡ Some key
+    at : (o : Option PackageSpec) → first_named package_name release.packages name ≡ o → option_map (key_of stemcell) o ≡ Some key
         → (pack : PackageSpec) × Contains release.packages pack × (pack.name ≡ name) × (key_of stemcell pack ≡ key)
     at None is h = cc
     at (Some pack) is h = let found = named_at release name pack is in (pack, found.0, found.1, cc)

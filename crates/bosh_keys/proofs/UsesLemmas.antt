@@ -11,14 +11,14 @@ use Rattle.bosh_base.specs.declared.release.Release.{Release}
 use Rattle.bosh_base.specs.declared.stemcell.Stemcell.{Stemcell}
 use Rattle.bosh_cloudcfg.specs.declared.config.Config.{Config}
 use Rattle.bosh_compile.proofs.GreatestLemmas.{All-from_Contains}
-use Rattle.bosh_lookup.specs.Table.{named}
+use Rattle.bosh_lookup.specs.Table.{first_named}
 use Rattle.bosh_manifest.specs.declared.group.Group.{Group}
 use Rattle.bosh_manifest.specs.declared.manifest.Contents.{Contents}
 use Rattle.bosh_manifest_parts.specs.declared.job.JobUse.{JobUse}
 use Rattle.bosh_uses.specs.Answer.{◌>>=◌, each}
 use Rattle.bosh_uses.specs.Edition.{edition, greater, is_equal, is_less}
 use Rattle.bosh_uses.specs.Used.{UsedGroup, UsedJob}
-use Rattle.bosh_uses.specs.Uses.{aliased, all_known, job_name, known, net_name, release_name, release_version, sources, used_disk, used_group, used_job, used_machine, used_release, used_stemcell, uses}
+use Rattle.bosh_uses.specs.Uses.{all_known, job_name, net_name, or_unknown, release_name, release_version, sources, stemcell_of_alias, used_disk, used_group, used_job, used_machine, used_release, used_stemcell, uses}
 use Rattle.bosh_uses.specs.declared.fault.GoalFault.{GoalFault}
 use Rattle.bosh_uses.specs.declared.fault.Kind.{Kind}
 use Rattle.bosh_uses.specs.declared.fault.Kind.TheVariants as kinds
@@ -33,7 +33,7 @@ after_ok :
 after_ok (Ok a) next b h = (a, refl, h)
 after_ok (Err fault) next b h = cc
 
-known_ok : {A : Type 0} (kind : Kind) (name : List ℕ) (found : Option A) (a : A) → known kind name found ≡ Ok a → found ≡ Some a
+known_ok : {A : Type 0} (kind : Kind) (name : List ℕ) (found : Option A) (a : A) → or_unknown kind name found ≡ Ok a → found ≡ Some a
 known_ok kind name (Some found) a h = let same : found ≡ a = cc in ap Some same
 known_ok kind name None a h = cc
 
@@ -119,14 +119,14 @@ edition_from {A = A} name_of version_of all name None a h =
 
 job_from : (releases : List Release) (asked : JobUse) (used : UsedJob) → used_job releases asked ≡ Ok used → Contains releases used.release
 job_from releases asked used h =
-    let (release, found, more) = after_ok (known kinds.Release asked.release (named release_name releases asked.release))
-    (λ release. known kinds.Job asked.name (named job_name release.jobs asked.name) >>= λ spec. Ok (record { job = asked; release = release; spec = spec })) used h in
-    let (spec, given, last) = after_ok (known kinds.Job asked.name (named job_name release.jobs asked.name))
+    let (release, found, more) = after_ok (or_unknown kinds.Release asked.release (first_named release_name releases asked.release))
+    (λ release. or_unknown kinds.Job asked.name (first_named job_name release.jobs asked.name) >>= λ spec. Ok (record { job = asked; release = release; spec = spec })) used h in
+    let (spec, given, last) = after_ok (or_unknown kinds.Job asked.name (first_named job_name release.jobs asked.name))
     (λ spec. Ok (record { job = asked; release = release; spec = spec })) used more in
     let is : release ≡ used.release = ap (the_release release) last in
     subst (Contains releases) is
     (find_at (λ (r : Release). bytes_eq (release_name r) asked.release) releases release
-    (known_ok kinds.Release asked.release (named release_name releases asked.release) release found)).0
+    (known_ok kinds.Release asked.release (first_named release_name releases asked.release) release found)).0
   where
     the_release : Release → Result UsedJob GoalFault → Release
     the_release other (Ok used) = used.release
@@ -146,14 +146,14 @@ group_from :
     → used_group config releases stemcells group ≡ Ok used → each (used_job releases) group.jobs ≡ Ok used.jobs
 group_from config releases stemcells group used h =
     let (zones, a, h1) = after_ok (all_known kinds.Az config.azs group.azs)
-    (λ zones. used_machine config group.vm_type >>= λ machine. known kinds.Stemcell group.stemcell (aliased stemcells group.stemcell) >>= λ stemcell.
+    (λ zones. used_machine config group.vm_type >>= λ machine. or_unknown kinds.Stemcell group.stemcell (stemcell_of_alias stemcells group.stemcell) >>= λ stemcell.
     all_known kinds.Network config.networks (map net_name group.networks) >>= λ networks. used_disk config group.disk >>= λ disk.
     each (used_job releases) group.jobs >>= λ jobs. made group machine stemcell disk jobs) used h in
     let (machine, b, h2) = after_ok (used_machine config group.vm_type)
-    (λ machine. known kinds.Stemcell group.stemcell (aliased stemcells group.stemcell) >>= λ stemcell.
+    (λ machine. or_unknown kinds.Stemcell group.stemcell (stemcell_of_alias stemcells group.stemcell) >>= λ stemcell.
     all_known kinds.Network config.networks (map net_name group.networks) >>= λ networks. used_disk config group.disk >>= λ disk.
     each (used_job releases) group.jobs >>= λ jobs. made group machine stemcell disk jobs) used h1 in
-    let (stemcell, c, h3) = after_ok (known kinds.Stemcell group.stemcell (aliased stemcells group.stemcell))
+    let (stemcell, c, h3) = after_ok (or_unknown kinds.Stemcell group.stemcell (stemcell_of_alias stemcells group.stemcell))
     (λ stemcell. all_known kinds.Network config.networks (map net_name group.networks) >>= λ networks. used_disk config group.disk >>= λ disk.
     each (used_job releases) group.jobs >>= λ jobs. made group machine stemcell disk jobs) used h2 in
     let (networks, d, h4) = after_ok (all_known kinds.Network config.networks (map net_name group.networks))

@@ -12,7 +12,7 @@ use Rattle.bosh_base.specs.declared.key.KeyWork.{KeyWork}
 use Rattle.bosh_base.specs.declared.release.PackageSpec.{PackageSpec}
 use Rattle.bosh_base.specs.declared.release.Release.{Release}
 use Rattle.bosh_base.specs.declared.stemcell.Stemcell.{Stemcell}
-use Rattle.bosh_lookup.specs.Table.{named}
+use Rattle.bosh_lookup.specs.Table.{first_named}
 use Rattle.bosh_release.specs.Sound.{IsSound, names_of}
 use Rattle.bosh_release_files.specs.Files.{in_order}
 use Rattle.bosh_uses.specs.Used.{UsedGroup, UsedJob}
@@ -23,7 +23,7 @@ use Rattle.bosh_keys.proofs.NameLemmas.{in_order_from, same_in_order}
 -- ---- packages by name
 
 -- the package of a name is one of the release
-pub named_at : (release : Release) (name : List ℕ) (pack : PackageSpec) → named package_name release.packages name ≡ Some pack
+pub named_at : (release : Release) (name : List ℕ) (pack : PackageSpec) → first_named package_name release.packages name ≡ Some pack
     → Contains release.packages pack × (pack.name ≡ name)
 named_at release name pack h =
     let found = find_at (λ (pack : PackageSpec). bytes_eq (package_name pack) name) release.packages pack h in
@@ -31,25 +31,25 @@ named_at release name pack h =
 
 -- a name of the release is that of a package
 pub named_known : (release : Release) (name : List ℕ) → Contains (names_of release.packages) name
-    → (pack : PackageSpec) × (named package_name release.packages name ≡ Some pack)
-named_known release name known = at (named package_name release.packages name) refl
+    → (pack : PackageSpec) × (first_named package_name release.packages name ≡ Some pack)
+named_known release name known = at (first_named package_name release.packages name) refl
   where
-    at : (o : Option PackageSpec) → named package_name release.packages name ≡ o → (pack : PackageSpec) × (named package_name release.packages name ≡ Some pack)
+    at : (o : Option PackageSpec) → first_named package_name release.packages name ≡ o → (pack : PackageSpec) × (first_named package_name release.packages name ≡ Some pack)
     at (Some pack) is = (pack, is)
     at None is =
         let (pack, there, same) = mapped_from (λ (pack : PackageSpec). pack.name) release.packages name known in
         absurd (find_none (λ (pack : PackageSpec). bytes_eq (package_name pack) name) release.packages pack is there ((bytes_eq-Decides pack.name name).1 same))
 
-print_of_named : (release : Release) (name : List ℕ) (pack : PackageSpec) → named package_name release.packages name ≡ Some pack
+print_of_named : (release : Release) (name : List ℕ) (pack : PackageSpec) → first_named package_name release.packages name ≡ Some pack
     → print_in release name ≡ Some pack.fingerprint
 print_of_named release name pack h = ap (option_map (λ (pack : PackageSpec). pack.fingerprint)) h
 
 -- the package behind a fingerprint
 behind : (release : Release) (name : List ℕ) (print : Digest) → print_in release name ≡ Some print
     → (pack : PackageSpec) × Contains release.packages pack × (pack.name ≡ name) × (pack.fingerprint ≡ print)
-behind release name print h = at (named package_name release.packages name) refl h
+behind release name print h = at (first_named package_name release.packages name) refl h
   where
-    at : (o : Option PackageSpec) → named package_name release.packages name ≡ o → option_map (λ (pack : PackageSpec). pack.fingerprint) o ≡ Some print
+    at : (o : Option PackageSpec) → first_named package_name release.packages name ≡ o → option_map (λ (pack : PackageSpec). pack.fingerprint) o ≡ Some print
         → (pack : PackageSpec) × Contains release.packages pack × (pack.name ≡ name) × (pack.fingerprint ≡ print)
     at None is h = cc
     at (Some pack) is h = let found = named_at release name pack is in (pack, found.0, found.1, cc)
@@ -130,10 +130,10 @@ module _ (releases : List Release) (alike : AreAlike releases) (sound : All IsSo
       each : (n : List ℕ) → Contains (in_order pack.deps) n → key_named release stemcell n ≡ key_named other_release other_stemcell n
       each n c =
           let prints = (one_dep release other_release pack other p q one n (in_order_from pack.deps n c)).1 in
-          key_by_print stemcell (named package_name release.packages n)
+          key_by_print stemcell (first_named package_name release.packages n)
           ∙ (with_same (print_in release n)
           ∙ (ap (option_map (key_with other_stemcell)) prints
-          ∙ sym (key_by_print other_stemcell (named package_name other_release.packages n))))
+          ∙ sym (key_by_print other_stemcell (first_named package_name other_release.packages n))))
 
   -- packages of one key are one work
   pub one_work :

@@ -7,7 +7,7 @@ use Rattle.bosh_base.specs.declared.key.KeyWork.{KeyWork}
 use Rattle.bosh_base.specs.declared.release.PackageSpec.{PackageSpec}
 use Rattle.bosh_base.specs.declared.release.Release.{Release}
 use Rattle.bosh_base.specs.declared.stemcell.Stemcell.{Stemcell}
-use Rattle.bosh_lookup.specs.Table.{named}
+use Rattle.bosh_lookup.specs.Table.{first_named}
 use Rattle.bosh_needed.specs.Needed.{AreNeeded}
 use Rattle.bosh_release_files.specs.Files.{in_order}
 use Rattle.bosh_uses.specs.Used.{UsedGroup, UsedJob}
@@ -23,7 +23,7 @@ key_of stemcell pack = record { fingerprint = pack.fingerprint; os = stemcell.os
 
 -- the key of the package of a name
 abbrev pub key_named : Release → Stemcell → List ℕ → Option Key
-key_named release stemcell name = option_map (key_of stemcell) (named package_name release.packages name)
+key_named release stemcell name = option_map (key_of stemcell) (first_named package_name release.packages name)
 
 -- the keys of the packages of several names, in the order of the names
 abbrev pub keys_named : Release → Stemcell → List (List ℕ) → List Key

@@ -2,7 +2,7 @@
 ghost use Rattle.std.specs.Prelude.{◌≡◌, ◌∷◌, ◌++◌, [], IfOk, OnOk, map};
 ghost use Rattle.std.specs.Option.{option_copied};
 ghost use Rattle.bosh_keys.specs.Works.{key_named, keys_named, package_name};
-ghost use Rattle.bosh_lookup.specs.Table.{named};
+ghost use Rattle.bosh_lookup.specs.Table.{first_named};
 ghost use Rattle.bosh_release_files.specs.Files.{in_order};
 
 use crate::key::key_of;
@@ -60,7 +60,7 @@ impl<'a> Packages<'a> {
     }
 
     fn named(&self, name: &[u8]) -> Option<&'a PackageSpec>
-        ensures { option_copied result ≡ named package_name self.now.packages name.now }
+        ensures { option_copied result ≡ first_named package_name self.now.packages name.now }
     {
         find(&self.table, name)
     }

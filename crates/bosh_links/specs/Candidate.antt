@@ -4,9 +4,9 @@ use Rattle.bosh_links.specs.declared.candidate.Candidate.{Candidate}
 use Rattle.bosh_links.specs.declared.provider.Provider.{Provider}
 
 -- a candidate as a provider
-abbrev pub seen : Candidate → Provider
-seen c = record { joint = c.joint.now; kind = c.kind.now; public_name = c.public_name.now }
+abbrev pub provider_of : Candidate → Provider
+provider_of c = record { joint = c.joint.now; kind = c.kind.now; public_name = c.public_name.now }
 
 -- what another deployment offers, as a provider
-abbrev pub offered : Offer → Provider
-offered offer = record { joint = offer.joint; kind = offer.kind; public_name = offer.public_name }
+abbrev pub offered_provider : Offer → Provider
+offered_provider offer = record { joint = offer.joint; kind = offer.kind; public_name = offer.public_name }

@@ -15,12 +15,12 @@ abbrev pub tie_between : Consumer → Provider → Tie
 tie_between c p = record { consumer = c.joint; provider = p.joint; kind = c.kind }
 
 -- an optional consumer may go without a provider, another not
-abbrev pub untied : Consumer → Result (Option Tie) LinkFault
-untied c = if c.optional then Ok None else Err (NoProvider c.joint)
+abbrev pub no_tie : Consumer → Result (Option Tie) LinkFault
+no_tie c = if c.optional then Ok None else Err (NoProvider c.joint)
 
 -- a consumer without `from`, by the providers of its type: one is taken
 abbrev pub implicit_outcome : Consumer → List Provider → Result (Option Tie) LinkFault
-implicit_outcome c [] = untied c
+implicit_outcome c [] = no_tie c
 implicit_outcome c (p ∷ []) = Ok (Some (tie_between c p))
 implicit_outcome c (p ∷ q ∷ ps) = Err (Ambiguous p.joint q.joint)
 
@@ -34,21 +34,21 @@ named_outcome c name (p ∷ q ∷ ps) = Err (Ambiguous p.joint q.joint)
 abbrev pub outcome_from : List Provider → Consumer → Source → Result (Option Tie) LinkFault
 outcome_from ps c Implicit = implicit_outcome c (filter (λ p. bytes_eq p.kind c.kind) ps)
 outcome_from ps c (Named name) = named_outcome c name (filter (λ p. bytes_eq p.public_name name) ps)
-outcome_from ps c Blocked = untied c
+outcome_from ps c Blocked = no_tie c
 
 abbrev pub outcome : List Provider → Consumer → Result (Option Tie) LinkFault
 outcome ps c = outcome_from ps c c.from
 
 -- one consumer's answer before those of the others: the first fault decides
-abbrev pub joined : {F : Type 0} → Result (Option Tie) F → Result (List Tie) F → Result (List Tie) F
-joined (Err fault) others = Err fault
-joined (Ok tie) (Err fault) = Err fault
-joined (Ok tie) (Ok ties) = Ok (option_to_list tie ++ ties)
+abbrev pub joined_ties : {F : Type 0} → Result (Option Tie) F → Result (List Tie) F → Result (List Tie) F
+joined_ties (Err fault) others = Err fault
+joined_ties (Ok tie) (Err fault) = Err fault
+joined_ties (Ok tie) (Ok ties) = Ok (option_to_list tie ++ ties)
 
 -- the ties of all consumers, in their order, or the fault of the first that has one
 abbrev pub all_tied : {C F : Type 0} → (C → Result (Option Tie) F) → List C → Result (List Tie) F
 all_tied comes_to [] = Ok []
-all_tied comes_to (c ∷ cs) = joined (comes_to c) (all_tied comes_to cs)
+all_tied comes_to (c ∷ cs) = joined_ties (comes_to c) (all_tied comes_to cs)
 
 abbrev pub resolution : List Provider → List Consumer → Result (List Tie) LinkFault
 resolution ps = all_tied (outcome ps)

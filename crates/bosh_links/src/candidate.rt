@@ -1,6 +1,6 @@
 //! What a consumer may be tied to.
 ghost use Rattle.std.specs.Prelude.{◌≡◌, map, IfOk};
-ghost use Rattle.bosh_links.specs.Candidate.{offered, seen};
+ghost use Rattle.bosh_links.specs.Candidate.{offered_provider, provider_of};
 
 use crate::Provider;
 use bosh_base::{Joint, Offer, Text};
@@ -18,7 +18,7 @@ pub struct Candidate<'a> {
 impl<'a> Candidate<'a> {
     /// A link that the consumer's own deployment provides.
     pub fn provided(provider: &'a Provider) -> Candidate<'a>
-        ensures { seen result ≡ provider.now }
+        ensures { provider_of result ≡ provider.now }
     {
         Candidate {
             joint: &provider.joint,
@@ -29,7 +29,7 @@ impl<'a> Candidate<'a> {
 
     /// A link that another deployment offers.
     pub fn offered(offer: &'a Offer) -> Candidate<'a>
-        ensures { seen result ≡ offered offer.now }
+        ensures { provider_of result ≡ offered_provider offer.now }
     {
         Candidate {
             joint: &offer.joint,
@@ -44,7 +44,7 @@ pub(crate) fn all_provided(
     alloc: Global,
     providers: &[Provider],
 ) -> Result<Vec<Candidate<'_>>, AllocError>
-    ensures { IfOk result (λ candidates. map seen candidates.items ≡ providers.now) }
+    ensures { IfOk result (λ candidates. map provider_of candidates.items ≡ providers.now) }
 {
     let mut candidates = Vec::with_capacity(alloc, providers.len())?;
     for provider in providers {

@@ -1,8 +1,8 @@
 //! Which candidate a consumer is tied to.
 ghost use Rattle.std.specs.Prelude.{◌≡◌, ◌⊎◌, List, IfOk, IsOkUnless, map, take};
-ghost use Rattle.bosh_links.specs.Candidate.{seen};
-ghost use Rattle.bosh_links.specs.Links.{tie_between, untied, implicit_outcome, named_outcome, outcome, IsAnswer};
-ghost use Rattle.bosh_links.specs.Table.{listed, AreOf};
+ghost use Rattle.bosh_links.specs.Candidate.{provider_of};
+ghost use Rattle.bosh_links.specs.Links.{tie_between, no_tie, implicit_outcome, named_outcome, outcome, IsAnswer};
+ghost use Rattle.bosh_links.specs.Table.{providers_in, AreOf};
 ghost use Rattle.bosh_links.specs.declared.fault.LinkFault.TheVariants.{Memory, Ambiguous};
 ghost use Rattle.bosh_links.specs.declared.provider.Provider.{Provider};
 
@@ -21,7 +21,7 @@ pub struct Candidates<'a> {
 
 // The tie of a consumer to its provider.
 fn tied(alloc: Global, consumer: &Consumer, provider: Candidate<'_>) -> Result<Tie, LinkFault>
-    ensures ok { IfOk result (λ tie. tie ≡ tie_between consumer.now (seen provider.entry)) }
+    ensures ok { IfOk result (λ tie. tie ≡ tie_between consumer.now (provider_of provider.entry)) }
     ensures err { IsOkUnless result Memory }
 {
     let (consumer, provider, kind) = copy_three(
@@ -39,7 +39,7 @@ fn tied(alloc: Global, consumer: &Consumer, provider: Candidate<'_>) -> Result<T
 
 // What a consumer without a provider comes to.
 fn left_out(alloc: Global, consumer: &Consumer) -> Result<Option<Tie>, LinkFault>
-    ensures { IsAnswer result (untied consumer.now) }
+    ensures { IsAnswer result (no_tie consumer.now) }
 {
     if consumer.optional {
         return Ok(None);
@@ -51,7 +51,7 @@ fn left_out(alloc: Global, consumer: &Consumer) -> Result<Option<Tie>, LinkFault
 
 // The refusal of a consumer that has several providers.
 fn ambiguous(alloc: Global, first: Candidate<'_>, second: Candidate<'_>) -> LinkFault
-    ensures { (result ≡ Memory) ⊎ (result ≡ Ambiguous (seen first.entry).joint (seen second.entry).joint) }
+    ensures { (result ≡ Memory) ⊎ (result ≡ Ambiguous (provider_of first.entry).joint (provider_of second.entry).joint) }
 {
     match copy_both(first.joint, second.joint, alloc) {
         Ok((first, second)) => LinkFault::Ambiguous { first, second },
@@ -65,7 +65,7 @@ fn implicit(
     consumer: &Consumer,
     found: Option<Found>,
 ) -> Result<Option<Tie>, LinkFault>
-    ensures { (ps : List Provider) → listed found.entry ≡ take 2 ps
+    ensures { (ps : List Provider) → providers_in found.entry ≡ take 2 ps
         → IsAnswer result (implicit_outcome consumer.now ps) }
 {
     match found {
@@ -82,7 +82,7 @@ fn named(
     name: &Text,
     found: Option<Found>,
 ) -> Result<Option<Tie>, LinkFault>
-    ensures { (ps : List Provider) → listed found.entry ≡ take 2 ps
+    ensures { (ps : List Provider) → providers_in found.entry ≡ take 2 ps
         → IsAnswer result (named_outcome consumer.now name.now ps) }
 {
     match found {
@@ -104,7 +104,7 @@ fn named(
 impl<'a> Candidates<'a> {
     /// The tables of these candidates, which stand in the order of their manifest.
     pub fn of(alloc: Global, candidates: &[Candidate<'a>]) -> Result<Candidates<'a>, LinkFault>
-        ensures ok { IfOk result (AreOf (map seen candidates.now)) }
+        ensures ok { IfOk result (AreOf (map provider_of candidates.now)) }
         ensures err { IsOkUnless result Memory }
     {
         let by_kind = table_of(alloc, By::Kind, candidates)?;

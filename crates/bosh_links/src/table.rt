@@ -1,7 +1,7 @@
 //! Candidates by a text that they have.
 ghost use Rattle.std.specs.Prelude.{◌≡◌, ◌∷◌, [], ◌++◌, map, take, IfOk, IsOkUnless};
-ghost use Rattle.bosh_links.specs.Candidate.{seen};
-ghost use Rattle.bosh_links.specs.Table.{key_of, listed, IsTable};
+ghost use Rattle.bosh_links.specs.Candidate.{provider_of};
+ghost use Rattle.bosh_links.specs.Table.{key_of, providers_in, IsTable};
 ghost use Rattle.bosh_links.specs.declared.fault.LinkFault.TheVariants.{Memory};
 
 use crate::LinkFault;
@@ -18,7 +18,7 @@ pub(crate) enum By {
 
 impl By {
     fn key(self, candidate: Candidate<'_>) -> &[u8]
-        ensures { result.now ≡ key_of self (seen candidate.entry) }
+        ensures { result.now ≡ key_of self (provider_of candidate.entry) }
     {
         match self {
             By::Kind => candidate.kind.as_slice(),
@@ -36,7 +36,7 @@ pub(crate) enum Found<'a> {
 
 // What is found after one more candidate.
 fn with<'a>(found: Option<Found<'a>>, candidate: Candidate<'a>) -> Found<'a>
-    ensures { listed (Some result) ≡ take 2 (listed found.entry ++ seen candidate.entry ∷ []) }
+    ensures { providers_in (Some result) ≡ take 2 (providers_in found.entry ++ provider_of candidate.entry ∷ []) }
 {
     match found {
         None => Found::One(candidate),
@@ -53,7 +53,7 @@ pub(crate) fn table_of<'a>(
     by: By,
     candidates: &[Candidate<'a>],
 ) -> Result<Table<'a>, LinkFault>
-    ensures ok { IfOk result (IsTable by (map seen candidates.now)) }
+    ensures ok { IfOk result (IsTable by (map provider_of candidates.now)) }
     ensures err { IsOkUnless result Memory }
 {
     let mut table = BTreeMap::new(alloc);

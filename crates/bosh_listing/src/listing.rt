@@ -4,7 +4,7 @@ ghost use Rattle.std.specs.Prelude.{◌≡◌, ◌∷◌, ◌++◌, ℕ, List, c
 ghost use Rattle.std.specs.List.{flat_map};
 ghost use Rattle.bosh_listing.specs.Lines.{hex_of, line, text_of};
 ghost use Rattle.bosh_listing.specs.Listing.{dep_line, digest_line, digest_of, file_line, job_text, name_line, package_text};
-ghost use Rattle.bosh_listing.specs.Parts.{job_of, package_of, stamped};
+ghost use Rattle.bosh_listing.specs.Parts.{job_of, package_of, stamp_view};
 
 use bosh_base::{Digest, Name};
 use sha2::{Digest as Hasher, Sha256};
@@ -59,7 +59,7 @@ fn add_digest(hasher: &mut Sha256, word: &[u8], digest: &Digest)
 
 fn add_file(hasher: &mut Sha256, word: &[u8], file: &Stamp<'_>)
     ensures { (fed : List ℕ) → Holds256 hasher.old fed
-        → Holds256 hasher.new (fed ++ line (file_line word.now (stamped file.now))) }
+        → Holds256 hasher.new (fed ++ line (file_line word.now (stamp_view file.now))) }
 {
     hasher.update(word);
     add_hex(hasher, &file.digest);
@@ -70,7 +70,7 @@ fn add_file(hasher: &mut Sha256, word: &[u8], file: &Stamp<'_>)
 #[tactic(auto, using(crate::proofs::ListLemmas::lines_more))]
 fn add_files(hasher: &mut Sha256, word: &[u8], files: &[Stamp<'_>])
     ensures { (fed : List ℕ) → Holds256 hasher.old fed
-        → Holds256 hasher.new (fed ++ text_of (map (file_line word.now) (map stamped files.now))) }
+        → Holds256 hasher.new (fed ++ text_of (map (file_line word.now) (map stamp_view files.now))) }
 {
     for file in files {
         add_file(hasher, word, file);
@@ -79,7 +79,7 @@ fn add_files(hasher: &mut Sha256, word: &[u8], files: &[Stamp<'_>])
 
 fn add_dep(hasher: &mut Sha256, dep: &Stamp<'_>)
     ensures { (fed : List ℕ) → Holds256 hasher.old fed
-        → Holds256 hasher.new (fed ++ line (dep_line (stamped dep.now))) }
+        → Holds256 hasher.new (fed ++ line (dep_line (stamp_view dep.now))) }
 {
     hasher.update(b"dep ");
     hasher.update(dep.name);
@@ -91,7 +91,7 @@ fn add_dep(hasher: &mut Sha256, dep: &Stamp<'_>)
 #[tactic(auto, using(crate::proofs::ListLemmas::lines_more))]
 fn add_deps(hasher: &mut Sha256, deps: &[Stamp<'_>])
     ensures { (fed : List ℕ) → Holds256 hasher.old fed
-        → Holds256 hasher.new (fed ++ text_of (map dep_line (map stamped deps.now))) }
+        → Holds256 hasher.new (fed ++ text_of (map dep_line (map stamp_view deps.now))) }
 {
     for dep in deps {
         add_dep(hasher, dep);
@@ -101,8 +101,8 @@ fn add_deps(hasher: &mut Sha256, deps: &[Stamp<'_>])
 #[tactic(auto, using(crate::proofs::ListLemmas::text_append))]
 fn add_files_and_deps(hasher: &mut Sha256, files: &[Stamp<'_>], deps: &[Stamp<'_>])
     ensures { (fed : List ℕ) → Holds256 hasher.old fed
-        → Holds256 hasher.new (fed ++ text_of (map (file_line (codes "file ")) (map stamped files.now)
-        ++ map dep_line (map stamped deps.now))) }
+        → Holds256 hasher.new (fed ++ text_of (map (file_line (codes "file ")) (map stamp_view files.now)
+        ++ map dep_line (map stamp_view deps.now))) }
 {
     add_files(hasher, b"file ", files);
     add_deps(hasher, deps);

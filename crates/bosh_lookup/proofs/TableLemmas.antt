@@ -10,7 +10,7 @@ use Rattle.std.proofs.lemmas.List.Folds.{find-append}
 use Rattle.std.proofs.lemmas.Map.Text.{btree_map_updates_str}
 use Rattle.std.proofs.lemmas.Slice.Eq.{bytes_eq-Decides}
 use denote.Ref.{Bor}
-use Rattle.bosh_lookup.specs.Table.{IsAdded, IsTable, found_at, named}
+use Rattle.bosh_lookup.specs.Table.{IsAdded, IsTable, first_named, found_at}
 
 -- a name that has a value keeps it
 pub added-there :
@@ -53,7 +53,7 @@ added-new {V = V} old new name value absent updates = λ key.
 -- what is found where one more is there
 pub named-push :
     {A : Type 0} (name_of : A → List ℕ) (all : List A) (a : A) (key : List ℕ)
-    → named name_of (all ++ a ∷ []) key ≡ option_or (named name_of all key) (cond (bytes_eq (name_of a) key) (Some a) None)
+    → first_named name_of (all ++ a ∷ []) key ≡ option_or (first_named name_of all key) (cond (bytes_eq (name_of a) key) (Some a) None)
 named-push name_of all a key = find-append (λ b. bytes_eq (name_of b) key) all (a ∷ [])
 
 pub mapped-or :
@@ -70,7 +70,7 @@ IsTable-add {A = A} name_of all a name old new same before added = λ key.
     ap (λ found. option_copied {T = A} found) (added key)
     ∙ (mapped-or (λ (b : Bor A). b.now) (found_at old key) (bytes_eq name key) a
     ∙ (ap (λ found. option_or found (cond (bytes_eq name key) (Some a.now) None)) (before key)
-    ∙ (ap (λ n. option_or (named name_of all key) (cond (bytes_eq n key) (Some a.now) None)) same
+    ∙ (ap (λ n. option_or (first_named name_of all key) (cond (bytes_eq n key) (Some a.now) None)) same
     ∙ sym (named-push name_of all a.now key))))
 
 copied-some : {A : Type 0} (found : Option (Bor A)) → is_some (option_copied {T = A} found) ≡ is_some found

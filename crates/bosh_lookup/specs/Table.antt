@@ -11,8 +11,8 @@ abbrev pub found_at : {V : Type 0} → BTreeMap (Bor (List ℕ)) V → List ℕ 
 found_at table name = get_by (λ k. slice_cmp nat_cmp name k.now) table
 
 -- the first of several that has the name
-abbrev pub named : {A : Type 0} → (A → List ℕ) → List A → List ℕ → Option A
-named name_of all name = find (λ a. bytes_eq (name_of a) name) all
+abbrev pub first_named : {A : Type 0} → (A → List ℕ) → List A → List ℕ → Option A
+first_named name_of all name = find (λ a. bytes_eq (name_of a) name) all
 
 -- a value is put under a name, unless the name has one
 abbrev pub IsAdded : {V : Type 0} → BTreeMap (Bor (List ℕ)) V → List ℕ → V → BTreeMap (Bor (List ℕ)) V → Type 0
@@ -22,4 +22,4 @@ IsAdded {V = V} old name value new =
 -- of several things, each is found under its name, and of two of one name the first
 abbrev pub IsTable : {A : Type 0} → (A → List ℕ) → List A → BTreeMap (Bor (List ℕ)) (Bor A) → Type 0
 IsTable {A = A} name_of all table =
-    (name : List ℕ) → option_copied {T = A} (found_at table name) ≡ named name_of all name
+    (name : List ℕ) → option_copied {T = A} (found_at table name) ≡ first_named name_of all name

@@ -3,7 +3,7 @@ ghost use Rattle.std.specs.Prelude.{◌≡◌, ◌++◌, ◌∷◌, [], List, If
 ghost use Rattle.std.specs.List.{list_any};
 ghost use Rattle.std.specs.Option.{option_copied};
 ghost use Rattle.std.specs.Str.{bytes_eq};
-ghost use Rattle.bosh_lookup.specs.Table.{IsAdded, IsTable, named};
+ghost use Rattle.bosh_lookup.specs.Table.{IsAdded, IsTable, first_named};
 
 use crate::Named;
 use std::alloc::{AllocError, Global};
@@ -49,7 +49,7 @@ pub fn table_of<T: Named>(alloc: Global, things: &[T]) -> Result<Table<'_, &T>, 
 
 /// What a table has under a name. It takes a logarithm of the number of the things.
 pub fn find<'a, T: Named>(table: &Table<'a, &'a T>, name: &[u8]) -> Option<&'a T>
-    ensures { (all : List T) → IsTable T.name_of all table.now → option_copied result ≡ named T.name_of all name.now }
+    ensures { (all : List T) → IsTable T.name_of all table.now → option_copied result ≡ first_named T.name_of all name.now }
 {
     table.get(name).copied()
 }

@@ -7,13 +7,13 @@ use Rattle.bosh_fields.specs.Answer.{◌>>=◌, both}
 use Rattle.bosh_fields.specs.Distinct.{a_distinct_list, distinct, name_in}
 use Rattle.bosh_fields.specs.Field.{optional, optional_value, required, value_at}
 use Rattle.bosh_fields.specs.Kind.{a_name, an_integer}
-use Rattle.bosh_fields.specs.List.{count, items_up_to, unlimited}
+use Rattle.bosh_fields.specs.List.{count, items_up_to, no_limit}
 use Rattle.bosh_fields.specs.Number.{a_number, within}
 use Rattle.bosh_fields.specs.declared.fault.FieldFault.{FieldFault}
 use Rattle.bosh_fields.specs.declared.fault.FieldFault.TheVariants.{Limit, Missing}
 use Rattle.bosh_manifest_parts.specs.Disk.{group_disk, one_disk}
 use Rattle.bosh_manifest_parts.specs.Job.{a_job, group_jobs, links, properties}
-use Rattle.bosh_manifest_parts.specs.Named.{each_named, named, some_items}
+use Rattle.bosh_manifest_parts.specs.Named.{a_named_list, each_named, some_items}
 use Rattle.bosh_manifest_parts.specs.Network.{a_network, a_network_list, each_network, fixed_bands, group_networks, has_gateway, is_default_gateway, one_gateway}
 use Rattle.bosh_manifest_parts.specs.declared.disk.DiskUse.{DiskUse}
 use Rattle.bosh_manifest_parts.specs.declared.disk.DiskUse.TheVariants.{Size}
@@ -59,9 +59,9 @@ pub record Bounded {A : Type 0} (title : A → List ℕ) (P : A → Type 0) (mos
 pub named-ok :
     {A : Type 0} (item : List ℕ → Tree → Result A FieldFault) (title : A → List ℕ) (P : A → Type 0)
     → ((name : List ℕ) (t : Tree) (a : A) → item name t ≡ Ok a → (title a ≡ name) × P a)
-    → (most : ℕ) (key : List ℕ) (holder : Tree) (items : List A) → required (named item most) key holder ≡ Ok items → Bounded title P most items
+    → (most : ℕ) (key : List ℕ) (holder : Tree) (items : List A) → required (a_named_list item most) key holder ≡ Ok items → Bounded title P most items
 named-ok item title P sound most key holder items h =
-    let (t, read) = required-ok (named item most) key holder items h in
+    let (t, read) = required-ok (a_named_list item most) key holder items h in
     let (ts, few, rest) = ok-parts (items_up_to most key t) (each_named item key) items read in
     let all = each_named-ok item title P sound key ts items rest in
     record { names = all.names; few = omega (arith, all.as_many, up_to-ok most key t ts few); each = all.each }
@@ -87,9 +87,9 @@ own-name name t a h = (sym (same-ok h), tt)
 zones-ok : (t : Tree) (azs : List (List ℕ)) → zones t ≡ Ok azs → AreDistinct azs × (1 ≤ length azs)
 zones-ok t azs h =
     let key = codes "azs" in
-    let (names, read, rest) = ok-parts (required (a_distinct_list a_name (λ name _. Ok name) unlimited) key t) (some_items key) azs h in
+    let (names, read, rest) = ok-parts (required (a_distinct_list a_name (λ name _. Ok name) no_limit) key t) (some_items key) azs h in
     let (same, some) = some_items-ok key names azs rest in
-    let apart = distinct_list-ok a_name (λ name _. Ok name) (λ name. name) (λ _. Unit {0}) own-name unlimited key t names read in
+    let apart = distinct_list-ok a_name (λ name _. Ok name) (λ name. name) (λ _. Unit {0}) own-name no_limit key t names read in
     (subst AreDistinct (same-names names ∙ same) apart, some)
 
 -- networks

@@ -6,7 +6,7 @@ use Rattle.bosh_fields.specs.Answer.{◌>>=◌, both}
 use Rattle.bosh_fields.specs.Distinct.{name_in}
 use Rattle.bosh_fields.specs.Field.{required}
 use Rattle.bosh_fields.specs.Kind.{a_name}
-use Rattle.bosh_fields.specs.List.{unlimited}
+use Rattle.bosh_fields.specs.List.{no_limit}
 use Rattle.bosh_fields.specs.declared.fault.FieldFault.{FieldFault}
 use Rattle.bosh_fields.specs.declared.fault.FieldFault.TheVariants.{Limit}
 use Rattle.bosh_manifest_parts.specs.Source.{a_release, a_source_list, a_stemcell, a_version, sources}
@@ -69,8 +69,8 @@ manifest-ok name t contents h =
     let parts = both-parts (required (a_source_list (codes "name") a_release) (codes "releases") t) (required (a_source_list (codes "alias") a_stemcell) (codes "stemcells") t) used found in
     let (bounded, few) = groups-ok name t read all in
     subst IsSound (same-ok whole) (record {
-      releases = distinct_list-ok (name_in (codes "name")) a_release release_name (λ _. Unit {0}) release-name unlimited (codes "releases") t used.0 parts.0;
-      stemcells = distinct_list-ok (name_in (codes "alias")) a_stemcell alias_of (λ _. Unit {0}) stemcell-alias unlimited (codes "stemcells") t used.1 parts.1;
+      releases = distinct_list-ok (name_in (codes "name")) a_release release_name (λ _. Unit {0}) release-name no_limit (codes "releases") t used.0 parts.0;
+      stemcells = distinct_list-ok (name_in (codes "alias")) a_stemcell alias_of (λ _. Unit {0}) stemcell-alias no_limit (codes "stemcells") t used.1 parts.1;
       groups = bounded.names;
       few_groups = bounded.few;
       each_group = bounded.each;

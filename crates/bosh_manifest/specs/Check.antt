@@ -22,5 +22,5 @@ named deployment (Ok name) t =
     if bytes_eq name deployment then of_fields (a_manifest name t) else Err (NameDiffers name)
 
 -- the manifest of a deployment
-abbrev pub checked : List ℕ → Tree → Result Contents ManFault
-checked deployment t = named deployment (required a_name (codes "name") t) t
+abbrev pub manifest_of : List ℕ → Tree → Result Contents ManFault
+manifest_of deployment t = named deployment (required a_name (codes "name") t) t

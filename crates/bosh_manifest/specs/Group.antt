@@ -6,7 +6,7 @@ use Rattle.bosh_fields.specs.Distinct.{a_distinct_list}
 use Rattle.bosh_fields.specs.Empty.{is_empty, nothing_at, unless_asked}
 use Rattle.bosh_fields.specs.Field.{required, value_at}
 use Rattle.bosh_fields.specs.Kind.{a_name}
-use Rattle.bosh_fields.specs.List.{unlimited}
+use Rattle.bosh_fields.specs.List.{no_limit}
 use Rattle.bosh_fields.specs.Number.{a_number}
 use Rattle.bosh_fields.specs.declared.fault.FieldFault.{FieldFault}
 use Rattle.bosh_manifest_parts.specs.Disk.{group_disk}
@@ -25,7 +25,7 @@ use Rattle.bosh_manifest.specs.declared.group.Group.{Group}
 -- the availability zones, of which there is one at least and none stands twice
 abbrev pub zones : Tree → Result (List (List ℕ)) FieldFault
 zones t = do
-  names ← required (a_distinct_list a_name (λ name _. Ok name) unlimited) (codes "azs") t
+  names ← required (a_distinct_list a_name (λ name _. Ok name) no_limit) (codes "azs") t
   some_items (codes "azs") names
 
 -- the zones, the type of machines and the stemcell

@@ -6,7 +6,7 @@ use Rattle.bosh_fields.specs.Empty.{nothing_at}
 use Rattle.bosh_fields.specs.Field.{required}
 use Rattle.bosh_fields.specs.declared.fault.FieldFault.{FieldFault}
 use Rattle.bosh_fields.specs.declared.fault.FieldFault.TheVariants.{Limit}
-use Rattle.bosh_manifest_parts.specs.Named.{named}
+use Rattle.bosh_manifest_parts.specs.Named.{a_named_list}
 use Rattle.bosh_manifest_parts.specs.Source.{sources}
 use Rattle.bosh_update.specs.Update.{an_update}
 use Rattle.bosh_manifest.specs.declared.group.Common.{Common}
@@ -31,7 +31,7 @@ few_instances groups =
 
 -- at most 64 groups
 unfoldable pub all_groups : Common → Tree → Result (List Group) FieldFault
-all_groups common t = required (named (a_group common) 64) (codes "instance_groups") t
+all_groups common t = required (a_named_list (a_group common) 64) (codes "instance_groups") t
 
 -- the groups, before what is not offered and how many instances there are
 abbrev pub offered_groups : Common → Tree → Result (List Group) FieldFault

@@ -1,7 +1,7 @@
 ghost use Rattle.std.specs.Prelude.{◌≡◌, Err, Ok};
 ghost use Rattle.bosh_yaml.specs.View.{tree_of};
 ghost use Rattle.bosh_manifest.specs.Answer.{IsAnswer};
-ghost use Rattle.bosh_manifest.specs.Check.{checked, named};
+ghost use Rattle.bosh_manifest.specs.Check.{manifest_of, named};
 ghost use Rattle.bosh_manifest.specs.declared.fault.ManFault.TheVariants.{NameDiffers};
 
 use crate::manifest::read_manifest;
@@ -37,7 +37,7 @@ fn named(alloc: Global, name: Name, node: &Node, deployment: &Name) -> Result<Ma
 /// last, how many instances there are in all. Within a list an item's name comes first, and then its other keys in
 /// their order. Other keys are not looked at.
 pub fn check(alloc: Global, node: &Node, deployment: &Name) -> Result<Manifest, ManFault>
-    ensures { IsAnswer result (checked deployment.now (tree_of node.now)) }
+    ensures { IsAnswer result (manifest_of deployment.now (tree_of node.now)) }
 {
     let name = required(alloc, node, b"name")?;
     named(alloc, name, node, deployment)

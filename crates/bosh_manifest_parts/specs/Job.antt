@@ -6,7 +6,7 @@ use Rattle.bosh_fields.specs.Field.{required, value_at}
 use Rattle.bosh_fields.specs.Kind.{a_mapping, a_name}
 use Rattle.bosh_fields.specs.declared.fault.FieldFault.{FieldFault}
 use Rattle.bosh_manifest_parts.specs.Link.{a_consume, a_provide, links_at}
-use Rattle.bosh_manifest_parts.specs.Named.{named}
+use Rattle.bosh_manifest_parts.specs.Named.{a_named_list}
 use Rattle.bosh_manifest_parts.specs.declared.job.JobUse.{JobUse}
 use Rattle.bosh_manifest_parts.specs.declared.link.Consume.{Consume}
 use Rattle.bosh_manifest_parts.specs.declared.link.Provide.{Provide}
@@ -38,4 +38,4 @@ a_job own name t = do
 
 -- at most 64 jobs
 abbrev pub group_jobs : List ℕ → Tree → Result (List JobUse) FieldFault
-group_jobs own t = required (named (a_job own) 64) (codes "jobs") t
+group_jobs own t = required (a_named_list (a_job own) 64) (codes "jobs") t

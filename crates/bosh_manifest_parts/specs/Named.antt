@@ -14,8 +14,8 @@ unfoldable pub each_named :
 each_named item key ts = distinct (name_in (codes "name") key) item [] ts
 
 -- a list of such mappings that has no more than the most
-abbrev pub named : {A : Type 0} → (List ℕ → Tree → Result A FieldFault) → ℕ → Kind (List A)
-named item most key t = do
+abbrev pub a_named_list : {A : Type 0} → (List ℕ → Tree → Result A FieldFault) → ℕ → Kind (List A)
+a_named_list item most key t = do
   ts ← items_up_to most key t
   each_named item key ts
 

@@ -8,7 +8,7 @@ use Rattle.bosh_fields.specs.Answer.{◌>>=◌, both}
 use Rattle.bosh_fields.specs.Distinct.{a_distinct_list, name_in}
 use Rattle.bosh_fields.specs.Field.{required}
 use Rattle.bosh_fields.specs.Kind.{Kind, a_name}
-use Rattle.bosh_fields.specs.List.{unlimited}
+use Rattle.bosh_fields.specs.List.{no_limit}
 use Rattle.bosh_fields.specs.declared.fault.FieldFault.{FieldFault}
 use Rattle.bosh_fields.specs.declared.fault.FieldFault.TheVariants.{WrongKind}
 use Rattle.bosh_manifest_parts.specs.Unoffered.{absent}
@@ -46,7 +46,7 @@ a_stemcell alias t = do
 
 -- a list of any number of mappings, in which no name stands twice
 abbrev pub a_source_list : {A : Type 0} → List ℕ → (List ℕ → Tree → Result A FieldFault) → Kind (List A)
-a_source_list name_key item = a_distinct_list (name_in name_key) item unlimited
+a_source_list name_key item = a_distinct_list (name_in name_key) item no_limit
 
 -- the releases by their names, and the stemcells by their aliases
 abbrev pub sources : Tree → Result (List ReleaseUse × List StemcellUse) FieldFault

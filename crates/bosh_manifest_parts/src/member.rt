@@ -6,7 +6,7 @@ ghost use Rattle.bosh_fields.specs.Answer.{IsAnswer};
 ghost use Rattle.bosh_fields.specs.Distinct.{distinct, fresh_name, name_in, next_item};
 ghost use Rattle.bosh_fields.specs.Field.{required};
 ghost use Rattle.bosh_fields.specs.Seen.{HasNames};
-ghost use Rattle.bosh_manifest_parts.specs.Named.{each_named, named, some_items};
+ghost use Rattle.bosh_manifest_parts.specs.Named.{a_named_list, each_named, some_items};
 
 use bosh_base::{Name, Seq};
 use bosh_fields::{FieldFault, item_name, items_up_to, missing, note_name, value_at};
@@ -89,7 +89,7 @@ pub fn required_members<T: Member>(
     key: &[u8],
     most: usize,
 ) -> Result<Seq<T>, FieldFault>
-    ensures { IsAnswer result (required (named (T.item given.now) most) key.now (tree_of holder.now)) }
+    ensures { IsAnswer result (required (a_named_list (T.item given.now) most) key.now (tree_of holder.now)) }
 {
     match value_at(holder, key) {
         Some(list) => members(alloc, given, key, items_up_to(alloc, most, key, list)?),

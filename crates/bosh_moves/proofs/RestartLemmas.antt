@@ -8,7 +8,7 @@ use Rattle.bosh_base.specs.declared.moves.Move.{Move}
 use Rattle.bosh_base.specs.declared.moves.Move.TheVariants.{Note, Stop}
 use Rattle.bosh_moves.proofs.TellLemmas.{effects_on, none_halted, of_on, of_owed, story_by, story_on}
 use Rattle.bosh_moves.specs.Found.{kept_at, stop_of}
-use Rattle.bosh_moves.specs.Story.{HistoryView, IsOf, IsTold, effects_told, halts, kept_by, story}
+use Rattle.bosh_moves.specs.Story.{HistoryView, IsOf, IsTold, effects_told, halts, kept_count, story}
 
 same_history : (a b : HistoryView) → a.moves ≡ b.moves → a.free ≡ b.free → a.entries ≡ b.entries →
     a.effects ≡ b.effects → a.restart ≡ b.restart → a.halt ≡ b.halt → a.is_halted ≡ b.is_halted → a ≡ b
@@ -31,7 +31,7 @@ kept_at_least false entries place there = refl
 
 -- an entry that was kept is there
 pub least_within : (kept : Bool) (entries : List Entry) (place : ℕ) → (kept ≡ true → place < length entries) →
-    min place (length entries) + kept_by (Some kept) ≤ length entries
+    min place (length entries) + kept_count (Some kept) ≤ length entries
 least_within true entries place there = omega (arith, there refl)
 least_within false entries place there = omega arith
 
@@ -42,7 +42,7 @@ pub restarted : (was owed told now : HistoryView) (entries effects : List Entry)
     told ≡ record owed {
       moves = owed.moves ++ Stop (stop_of (kept_at kept entries owed.entries) (drop owed.effects effects)) ∷ [];
       free = told.free;
-      entries = owed.entries + kept_by (Some kept);
+      entries = owed.entries + kept_count (Some kept);
       effects = length effects;
       restart = None;
     } →
@@ -50,7 +50,7 @@ pub restarted : (was owed told now : HistoryView) (entries effects : List Entry)
     now ≡ record was {
       moves = was.moves ++ Stop (stop_of (kept_at kept entries was.entries) (drop was.effects effects)) ∷ [];
       free = now.free;
-      entries = min was.entries (length entries) + kept_by (Some kept);
+      entries = min was.entries (length entries) + kept_count (Some kept);
       effects = length effects;
       halt = halt;
       is_halted = is_some halt;
@@ -59,7 +59,7 @@ restarted was owed told now entries effects kept halt bare there owes tells stan
     same_history now (record was {
       moves = was.moves ++ Stop (stop_of (kept_at kept entries was.entries) (drop was.effects effects)) ∷ [];
       free = now.free;
-      entries = min was.entries (length entries) + kept_by (Some kept);
+      entries = min was.entries (length entries) + kept_count (Some kept);
       effects = length effects;
       halt = halt;
       is_halted = is_some halt;
@@ -69,7 +69,7 @@ restarted was owed told now entries effects kept halt bare there owes tells stan
     ∙ ap (λ it. was.moves ++ Stop (stop_of it (drop was.effects effects)) ∷ [])
     (kept_at_least kept entries was.entries there))
     refl
-    (ap (λ h. h.entries) stands ∙ ap (λ h. h.entries) tells ∙ ap (λ h. h.entries + kept_by (Some kept)) owes)
+    (ap (λ h. h.entries) stands ∙ ap (λ h. h.entries) tells ∙ ap (λ h. h.entries + kept_count (Some kept)) owes)
     (ap (λ h. h.effects) stands ∙ ap (λ h. h.effects) tells)
     (ap (λ h. h.restart) stands ∙ ap (λ h. h.restart) tells ∙ sym bare.no_restart)
     (ap (λ h. h.halt) stands)
@@ -112,7 +112,7 @@ pub record IsRestarted (was : HistoryView) (entries effects : List Entry) (kept 
   pub grows : Extends was.moves now.moves
   pub story : story now entries effects ≡
       was.moves ++ (Stop (stop_of (kept_at kept entries was.entries) (drop was.effects effects))
-      ∷ map Note (drop (min was.entries (length entries) + kept_by (Some kept)) entries) ++ halts halt)
+      ∷ map Note (drop (min was.entries (length entries) + kept_count (Some kept)) entries) ++ halts halt)
   pub same_effects : effects_told now effects ≡ length effects
   pub is_of : IsOf now entries
   pub halted : now.is_halted ≡ is_some halt
@@ -122,7 +122,7 @@ pub told_anew : (was now : HistoryView) (entries effects : List Entry) (kept : B
     now ≡ record was {
       moves = was.moves ++ Stop (stop_of (kept_at kept entries was.entries) (drop was.effects effects)) ∷ [];
       free = now.free;
-      entries = min was.entries (length entries) + kept_by (Some kept);
+      entries = min was.entries (length entries) + kept_count (Some kept);
       effects = length effects;
       halt = halt;
       is_halted = is_some halt;
@@ -137,7 +137,7 @@ told_anew was now entries effects kept halt bare there is =
           story_on now entries effects none
           ∙ ap (λ h. h.moves ++ (map Note (drop h.entries entries) ++ halts h.halt)) is
           ∙ append_assoc was.moves stop
-          (map Note (drop (min was.entries (length entries) + kept_by (Some kept)) entries) ++ halts halt);
+          (map Note (drop (min was.entries (length entries) + kept_count (Some kept)) entries) ++ halts halt);
       same_effects = effects_on now effects None none ∙ ap (λ h. h.effects) is;
       is_of = of_on now entries none
           (subst (λ (n : ℕ). n ≤ length entries) (sym (ap (λ h. h.entries) is))
@@ -161,13 +161,13 @@ owed_anew was now entries effects kept cause halted there is =
       story =
           story_by now entries effects (Some kept) restart
           ∙ ap (λ h. h.moves ++ (Stop (stop_of (kept_at kept entries h.entries) (drop h.effects effects))
-          ∷ (map Note (drop (h.entries + kept_by (Some kept)) entries) ++ halts h.halt))) is
+          ∷ (map Note (drop (h.entries + kept_count (Some kept)) entries) ++ halts h.halt))) is
           ∙ ap (λ it. was.moves ++ (Stop (stop_of it (drop was.effects effects))
-          ∷ (map Note (drop (min was.entries (length entries) + kept_by (Some kept)) entries) ++ halts (Some cause))))
+          ∷ (map Note (drop (min was.entries (length entries) + kept_count (Some kept)) entries) ++ halts (Some cause))))
           (kept_at_least kept entries was.entries there);
       same_effects = effects_on now effects (Some kept) restart;
       is_of = of_owed now entries kept restart
-          (subst (λ (n : ℕ). n + kept_by (Some kept) ≤ length entries) (sym (ap (λ h. h.entries) is))
+          (subst (λ (n : ℕ). n + kept_count (Some kept) ≤ length entries) (sym (ap (λ h. h.entries) is))
           (least_within kept entries was.entries there))
           (ap (λ h. h.is_halted) is ∙ halted);
       halted = ap (λ h. h.is_halted) is ∙ halted;

@@ -7,7 +7,7 @@ use Rattle.bosh_base.specs.declared.moves.Move.{Move}
 use Rattle.bosh_base.specs.declared.moves.Move.TheVariants.{Note}
 use Rattle.bosh_base.specs.declared.moves.Said as said
 use Rattle.bosh_moves.specs.Replies.{replies_in, reply_of}
-use Rattle.bosh_moves.specs.Story.{Follows, HistoryView, Tells, halts, notes, stops, story, to_tell, told_by}
+use Rattle.bosh_moves.specs.Story.{Follows, HistoryView, Tells, halts, notes, stops, story, to_tell, told_count}
 
 -- moves without a reply, after others
 after_none : (xs ys : List Move) → replies_in ys ≡ [] → replies_in (xs ++ ys) ≡ replies_in xs
@@ -37,10 +37,10 @@ pub story_silent : (h : HistoryView) (entries effects : List Entry) →
     replies_in (story h entries effects) ≡ replies_in h.moves
 unfolding story to_tell notes
 story_silent h entries effects =
-    after_none h.moves (stops h.restart h.entries h.effects entries effects ++ (map Note (drop (told_by h) entries) ++ halts h.halt))
-    (none_then (stops h.restart h.entries h.effects entries effects) (map Note (drop (told_by h) entries) ++ halts h.halt)
+    after_none h.moves (stops h.restart h.entries h.effects entries effects ++ (map Note (drop (told_count h) entries) ++ halts h.halt))
+    (none_then (stops h.restart h.entries h.effects entries effects) (map Note (drop (told_count h) entries) ++ halts h.halt)
     (stops_silent h.restart h.entries h.effects entries effects)
-    (none_then (map Note (drop (told_by h) entries)) (halts h.halt) (notes_silent (drop (told_by h) entries))
+    (none_then (map Note (drop (told_count h) entries)) (halts h.halt) (notes_silent (drop (told_count h) entries))
     (halts_silent h.halt)))
 
 pub tells_silent : (was now : HistoryView) (entries effects : List Entry) → Tells was entries effects now →

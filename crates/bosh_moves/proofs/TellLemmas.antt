@@ -10,7 +10,7 @@ use Rattle.bosh_base.specs.declared.moves.Move.{Move}
 use Rattle.bosh_base.specs.declared.moves.Move.TheVariants.{Note, Stop}
 use Rattle.bosh_moves.proofs.StoryLemmas.{extends_more, extends_self}
 use Rattle.bosh_moves.specs.Found.{kept_at, stop_of}
-use Rattle.bosh_moves.specs.Story.{Follows, HistoryView, IsOf, IsTold, Tells, TellsNotes, effects_by, effects_told, halts, kept_by, notes, stops, story, to_tell, told_by}
+use Rattle.bosh_moves.specs.Story.{Follows, HistoryView, IsOf, IsTold, Tells, TellsNotes, effects_by, effects_told, halts, kept_count, notes, stops, story, to_tell, told_count}
 
 plus_none : (n : ℕ) → n + 0 ≡ n
 plus_none n = omega arith
@@ -18,11 +18,11 @@ plus_none n = omega arith
 -- the story by its parts
 pub story_by : (h : HistoryView) (entries effects : List Entry) (restart : Option Bool) → h.restart ≡ restart →
     story h entries effects ≡ h.moves ++ (stops restart h.entries h.effects entries effects
-    ++ (map Note (drop (h.entries + kept_by restart) entries) ++ halts h.halt))
-unfolding story to_tell notes told_by
+    ++ (map Note (drop (h.entries + kept_count restart) entries) ++ halts h.halt))
+unfolding story to_tell notes told_count
 story_by h entries effects restart is =
     ap (λ r. h.moves ++ (stops r h.entries h.effects entries effects
-    ++ (map Note (drop (h.entries + kept_by r) entries) ++ halts h.halt))) is
+    ++ (map Note (drop (h.entries + kept_count r) entries) ++ halts h.halt))) is
 
 -- .. where no restart is to be told
 pub story_on : (h : HistoryView) (entries effects : List Entry) → h.restart ≡ None →
@@ -46,19 +46,19 @@ story_all h entries effects is all none =
     story_told h entries effects is all ∙ ap (λ c. h.moves ++ halts c) none ∙ append-nil h.moves
 
 pub of_by : (h : HistoryView) (entries : List Entry) (restart : Option Bool) → h.restart ≡ restart → IsOf h entries →
-    h.entries + kept_by restart ≤ length entries
-unfolding told_by
-of_by h entries restart is of = subst (λ (r : Option Bool). h.entries + kept_by r ≤ length entries) is of.within
+    h.entries + kept_count restart ≤ length entries
+unfolding told_count
+of_by h entries restart is of = subst (λ (r : Option Bool). h.entries + kept_count r ≤ length entries) is of.within
 
 -- it tells no more entries than there are, where no restart is to be told
 pub within_on : (h : HistoryView) (entries : List Entry) → h.restart ≡ None → IsOf h entries → h.entries ≤ length entries
 within_on h entries is of = subst (λ (n : ℕ). n ≤ length entries) (plus_none h.entries) (of_by h entries None is of)
 
 within_none : (h : HistoryView) (entries : List Entry) → h.restart ≡ None → h.entries ≤ length entries →
-    told_by h ≤ length entries
-unfolding told_by
+    told_count h ≤ length entries
+unfolding told_count
 within_none h entries is within =
-    subst (λ (r : Option Bool). h.entries + kept_by r ≤ length entries) (sym is)
+    subst (λ (r : Option Bool). h.entries + kept_count r ≤ length entries) (sym is)
     (subst (λ (n : ℕ). n ≤ length entries) (sym (plus_none h.entries)) within)
 
 -- where no restart is to be told
@@ -71,14 +71,14 @@ of_on h entries is within no_halt = record {
 }
 
 within_owed : (h : HistoryView) (entries : List Entry) (kept : Bool) → h.restart ≡ Some kept →
-    h.entries + kept_by (Some kept) ≤ length entries → told_by h ≤ length entries
-unfolding told_by
+    h.entries + kept_count (Some kept) ≤ length entries → told_count h ≤ length entries
+unfolding told_count
 within_owed h entries kept is within =
-    subst (λ (r : Option Bool). h.entries + kept_by r ≤ length entries) (sym is) within
+    subst (λ (r : Option Bool). h.entries + kept_count r ≤ length entries) (sym is) within
 
 -- where one is, the site has halted
 pub of_owed : (h : HistoryView) (entries : List Entry) (kept : Bool) → h.restart ≡ Some kept →
-    h.entries + kept_by (Some kept) ≤ length entries → h.is_halted ≡ true → IsOf h entries
+    h.entries + kept_count (Some kept) ≤ length entries → h.is_halted ≡ true → IsOf h entries
 of_owed h entries kept is within halted = record {
   within = within_owed h entries kept is within;
   no_restart = λ running. absurd (false≢true (sym running ∙ halted));
@@ -109,16 +109,16 @@ tells_self h entries effects of = record {
 
 of_freely : (was now : HistoryView) (entries : List Entry) → IsOf was entries → now ≡ record was { free = now.free } →
     IsOf now entries
-unfolding told_by
+unfolding told_count
 of_freely was now entries of is = record {
-  within = subst (λ (h : HistoryView). told_by h ≤ length entries) (sym is) of.within;
+  within = subst (λ (h : HistoryView). told_count h ≤ length entries) (sym is) of.within;
   no_restart = λ running. ap (λ h. h.restart) is ∙ of.no_restart (sym (ap (λ h. h.is_halted) is) ∙ running);
   no_halt = λ running. ap (λ h. h.halt) is ∙ of.no_halt (sym (ap (λ h. h.is_halted) is) ∙ running);
 }
 
 story_freely : (was now : HistoryView) (entries effects : List Entry) → now ≡ record was { free = now.free } →
     story now entries effects ≡ story was entries effects
-unfolding story to_tell notes told_by
+unfolding story to_tell notes told_count
 story_freely was now entries effects is = ap (λ h. story h entries effects) is
 
 -- the places that are free are no matter
@@ -152,13 +152,13 @@ pub stop_told : (was now : HistoryView) (entries effects : List Entry) (kept : B
     now ≡ record was {
       moves = was.moves ++ Stop (stop_of (kept_at kept entries was.entries) (drop was.effects effects)) ∷ [];
       free = now.free;
-      entries = was.entries + kept_by (Some kept);
+      entries = was.entries + kept_count (Some kept);
       effects = length effects;
       restart = None;
     } → Tells was entries effects now
 stop_told was now entries effects kept restart of is =
     let stop : List Move = Stop (stop_of (kept_at kept entries was.entries) (drop was.effects effects)) ∷ [] in
-    let left : List Move = map Note (drop (was.entries + kept_by (Some kept)) entries) ++ halts was.halt in
+    let left : List Move = map Note (drop (was.entries + kept_count (Some kept)) entries) ++ halts was.halt in
     let none : now.restart ≡ None = ap (λ h. h.restart) is in
     record {
       grows = (stop, ap (λ h. h.moves) is);
@@ -306,7 +306,7 @@ pub stop_or_not : {T E : Type 0} (result : Result T E) (was now : HistoryView) (
     OnOk result (now ≡ record was {
       moves = was.moves ++ Stop (stop_of (kept_at kept entries was.entries) (drop was.effects effects)) ∷ [];
       free = now.free;
-      entries = was.entries + kept_by (Some kept);
+      entries = was.entries + kept_count (Some kept);
       effects = length effects;
       restart = None;
     }) → OnErr result (now ≡ record was { free = now.free }) →

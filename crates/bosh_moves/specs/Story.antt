@@ -20,13 +20,13 @@ pub record HistoryView : Type 0 where
   pub is_halted : Bool
 
 -- how many entries a restart tells
-abbrev pub kept_by : Option Bool → ℕ
-kept_by (Some true) = 1
-kept_by restart = 0
+abbrev pub kept_count : Option Bool → ℕ
+kept_count (Some true) = 1
+kept_count restart = 0
 
 -- how many entries the moves tell, with the one of a restart that is to be told
-unfoldable pub told_by : HistoryView → ℕ
-told_by history = history.entries + kept_by history.restart
+unfoldable pub told_count : HistoryView → ℕ
+told_count history = history.entries + kept_count history.restart
 
 -- the move of a restart, where so many entries and effects were told
 abbrev pub stops : Option Bool → ℕ → ℕ → List Entry → List Entry → List Move
@@ -40,7 +40,7 @@ halts None = []
 
 -- the entries that no move tells of are notes to come
 unfoldable pub notes : HistoryView → List Entry → List Move
-notes history entries = map Note (drop (told_by history) entries)
+notes history entries = map Note (drop (told_count history) entries)
 
 -- what is to be told, in order
 unfoldable pub to_tell : HistoryView → List Entry → List Entry → List Move
@@ -67,7 +67,7 @@ pub record IsTold (history : HistoryView) : Type 0 where
 
 -- it tells no more entries than there are, and a site that has not halted has nothing to tell but notes
 pub record IsOf (history : HistoryView) (entries : List Entry) : Type 0 where
-  pub within : told_by history ≤ length entries
+  pub within : told_count history ≤ length entries
   pub no_restart : history.is_halted ≡ false → history.restart ≡ None
   pub no_halt : history.is_halted ≡ false → history.halt ≡ None
 

@@ -4,7 +4,7 @@ ghost use Rattle.bosh_base.specs.History.{chosen};
 ghost use Rattle.bosh_base.specs.declared.moves.Cause.TheVariants as causes;
 ghost use Rattle.bosh_base.specs.declared.moves.Move.TheVariants as moves;
 ghost use Rattle.bosh_moves.specs.Found.{kept_at, stop_of};
-ghost use Rattle.bosh_moves.specs.Story.{Follows, IsOf, IsTold, Tells, TellsNotes, halts, kept_by};
+ghost use Rattle.bosh_moves.specs.Story.{Follows, IsOf, IsTold, Tells, TellsNotes, halts, kept_count};
 
 use crate::found::found;
 use bosh_base::{Cause, CopyFault, Copyable, Entry, Move, Stop};
@@ -115,7 +115,7 @@ impl History {
           moves = self.old.moves ++ moves.Stop (stop_of (kept_at kept entries.now self.old.entries)
               (drop self.old.effects effects.now)) ∷ [];
           free = self.new.free;
-          entries = min self.old.entries (length entries.now) + kept_by (Some kept);
+          entries = min self.old.entries (length entries.now) + kept_count (Some kept);
           effects = length effects.now;
           halt = halt;
           is_halted = is_some halt;
@@ -197,12 +197,12 @@ impl History {
         kept: bool,
     ) -> Result<(), CopyFault>
         requires restart { self.old.restart ≡ Some kept }
-        requires of { self.old.entries + kept_by (Some kept) ≤ length entries.now }
+        requires of { self.old.entries + kept_count (Some kept) ≤ length entries.now }
         ensures ok { OnOk result (self.new ≡ record self.old {
           moves = self.old.moves ++ moves.Stop (stop_of (kept_at kept entries.now self.old.entries)
               (drop self.old.effects effects.now)) ∷ [];
           free = self.new.free;
-          entries = self.old.entries + kept_by (Some kept);
+          entries = self.old.entries + kept_count (Some kept);
           effects = length effects.now;
           restart = None;
         }) }
@@ -224,11 +224,11 @@ impl History {
 
     fn push_stop(&mut self, stop: Stop, kept: bool, effects: usize)
         requires free { 1 ≤ self.old.free }
-        requires within { self.old.entries + kept_by (Some kept) < 2 ^ 64 }
+        requires within { self.old.entries + kept_count (Some kept) < 2 ^ 64 }
         ensures { self.new ≡ record self.old {
           moves = self.old.moves ++ moves.Stop stop ∷ [];
           free = self.new.free;
-          entries = self.old.entries + kept_by (Some kept);
+          entries = self.old.entries + kept_count (Some kept);
           effects = effects;
           restart = None;
         } }

@@ -12,7 +12,7 @@ use Rattle.bosh_base.specs.declared.row.Doubt.{Doubt}
 use Rattle.bosh_base.specs.declared.row.Row.{Row}
 use Rattle.bosh_base.specs.declared.snapshot.CompileRow.{CompileRow}
 use Rattle.bosh_progress.specs.Tree.{first_marked}
-use Rattle.bosh_rows.specs.After.{bare, begun}
+use Rattle.bosh_rows.specs.After.{bare, begun_row}
 use Rattle.bosh_records.specs.Readers.{dep_of_task, row_at, work_at}
 use Rattle.bosh_plan.specs.declared.beginning.Subject.{Subject}
 use Rattle.bosh_plan.specs.declared.beginning.Subject.TheVariants as subjects
@@ -28,7 +28,7 @@ abbrev pub row_or_bare : Records → Inst → Row
 row_or_bare records inst = unwrap_or (row_at records inst) (bare inst)
 
 abbrev pub row_begun : Records → Begin → Inst → Row
-row_begun records begin inst = begun begin.n begin.call (row_or_bare records inst)
+row_begun records begin inst = begun_row begin.n begin.call (row_or_bare records inst)
 
 -- the first key that a machine may be made for
 abbrev pub next_key : Records → ℕ → Option ℕ

@@ -6,7 +6,7 @@ use Rattle.bosh_base.specs.declared.inst.Inst.{Inst}
 use Rattle.bosh_base.specs.declared.row.DiskRow.{DiskRow}
 use Rattle.bosh_base.specs.declared.row.Row.{Row}
 use Rattle.bosh_base.specs.declared.snapshot.Orphan.{Orphan}
-use Rattle.bosh_rows.specs.After.{left_behind, updated}
+use Rattle.bosh_rows.specs.After.{left_behind, updated_row}
 use Rattle.bosh_records.specs.Readers.{row_at, want_of}
 use Rattle.bosh_records.specs.declared.records.Records.{Records}
 
@@ -19,7 +19,7 @@ orphans_of inst disks = map (orphan_of inst) disks
 
 -- what is recorded of an instance that is updated as it is wanted
 abbrev pub row_by : Option Row → Option GoalRow → Option Row
-row_by (Some row) (Some want) = Some (updated want row)
+row_by (Some row) (Some want) = Some (updated_row want row)
 row_by row want = None
 
 -- the disks that it leaves behind

@@ -1,5 +1,5 @@
 ghost use Rattle.std.specs.Prelude.{◌≡◌, IfOk};
-ghost use Rattle.bosh_records.specs.Came.{came};
+ghost use Rattle.bosh_records.specs.Arrivals.{arrivals};
 ghost use Rattle.bosh_plan.specs.Opened.{IsOpened, dep_row_of, task_row_of};
 
 use crate::grouping::grouped;
@@ -23,7 +23,7 @@ pub struct Opened {
 /// What the opening of a task changes. Room is made for it, and what is recorded stays as it is.
 pub fn plan_opening(records: &mut Records, opening: &TaskOpen) -> Result<Opened, RecordsFault>
     ensures opened { IfOk result (λ opened. IsOpened opening.now opened) }
-    ensures same { came records.new ≡ came records.old }
+    ensures same { arrivals records.new ≡ arrivals records.old }
 {
     records.tasks.ensure(opening.task)?;
     records.works.ensure(opening.task)?;
@@ -36,7 +36,7 @@ pub fn plan_opening(records: &mut Records, opening: &TaskOpen) -> Result<Opened,
 
 // Room for what a goal wants.
 fn make_room(records: &mut Records, goal: &Goal) -> Result<(), RecordsFault>
-    ensures { came records.new ≡ came records.old }
+    ensures { arrivals records.new ≡ arrivals records.old }
 {
     for want in goal.rows.iter() {
         records.instances.ensure(records.alloc, &want.inst)?;

@@ -10,7 +10,7 @@ use Rattle.bosh_bands.proofs.LeastLemmas.{least-is}
 use Rattle.bosh_pool.specs.declared.fault.PoolFault.{PoolFault}
 use Rattle.bosh_pool.specs.declared.want.Want.{Want}
 use Rattle.bosh_pool.specs.Assigned.{ArePlaced, IsAssigned, IsPlaced}
-use Rattle.bosh_pool.specs.Assignment.{◌>>=◌, assignment, free_for, given, is_held, placed, unless}
+use Rattle.bosh_pool.specs.Assignment.{◌>>=◌, assignment, free_for, given_addresses, is_held, placed, unless}
 use Rattle.bosh_pool.specs.Fixed.{fixed_faults, same_addr}
 use Rattle.bosh_pool.specs.Kept.{addr_of, is_kept, own}
 
@@ -36,12 +36,12 @@ pub ok_same : {A : Type 0} {x y : A} → ◌≡◌ {A = Result A PoolFault} (Ok 
 ok_same h = cc
 
 are_placed : (plan : NetPlan) (taken kept : List Held) (used : Addr → Bool) (wants : List Want) (addrs : List Addr)
-    → given plan (own plan taken kept) used wants ≡ Ok addrs → ArePlaced plan taken kept used wants addrs
+    → given_addresses plan (own plan taken kept) used wants ≡ Ok addrs → ArePlaced plan taken kept used wants addrs
 are_placed plan taken kept used [] addrs h = subst (ArePlaced plan taken kept used []) (ok_same h) tt
 are_placed plan taken kept used (want ∷ wants) addrs h =
     let (addr, is_addr, rest) = bind-ok (placed want (first_of (own plan taken kept want) (free_for plan used want)))
-    (λ addr. given plan (own plan taken kept) (λ other. used other || same_addr other addr) wants >>= λ others. Ok (addr ∷ others)) addrs h in
-    let (others, is_others, whole) = bind-ok (given plan (own plan taken kept) (λ other. used other || same_addr other addr) wants) (λ others. Ok (addr ∷ others)) addrs rest in
+    (λ addr. given_addresses plan (own plan taken kept) (λ other. used other || same_addr other addr) wants >>= λ others. Ok (addr ∷ others)) addrs h in
+    let (others, is_others, whole) = bind-ok (given_addresses plan (own plan taken kept) (λ other. used other || same_addr other addr) wants) (λ others. Ok (addr ∷ others)) addrs rest in
     let here = is_placed plan used want addr want.fixed (find (is_kept plan taken want) kept) (placed_some want _ addr is_addr) in
     subst (ArePlaced plan taken kept used (want ∷ wants)) (ok_same whole) (here, are_placed plan taken kept (λ other. used other || same_addr other addr) wants others is_others)
 

@@ -21,7 +21,7 @@ use Rattle.bosh_bands.proofs.LeastLemmas.{least-is}
 use Rattle.bosh_pool.specs.declared.fault.PoolFault.{PoolFault}
 use Rattle.bosh_pool.specs.declared.fault.PoolFault.TheVariants.{NotStatic, StaticNotInAz, Taken}
 use Rattle.bosh_pool.specs.declared.want.Want.{Want}
-use Rattle.bosh_pool.specs.Assignment.{◌>>=◌, assignment, free_for, given, is_held, placed, unless}
+use Rattle.bosh_pool.specs.Assignment.{◌>>=◌, assignment, free_for, given_addresses, is_held, placed, unless}
 use Rattle.bosh_pool.specs.Fixed.{fault_at, fixed_fault, fixed_faults, given_to, has_fixed, holder, holds, instance_of, is_given, is_owner, other_owner, owner_in, owner_of, same_addr, same_inst}
 use Rattle.bosh_pool.specs.Kept.{addr_of, is_kept, is_taken, own}
 use Rattle.bosh_pool.specs.Safe.{AreDifferent, AreHeldOnce, AreWantedOnce, IsLent, IsUnreserved, IsUnshared, IsUntaken, lends}
@@ -121,12 +121,12 @@ own_or_free plan used want addr None h =
     inr (refl, dynamic, not_true (used addr) free)
 
 -- the addresses are those of one want and of the others
-given_parts : (plan : NetPlan) (find : Want → Option Addr) (used : Addr → Bool) (want : Want) (wants : List Want) (addrs : List Addr) → given plan find used (want ∷ wants) ≡ Ok addrs
-    → (addr : Addr) × (others : List Addr) × IsOwnOrFree plan find used want addr × (given plan find (λ other. used other || same_addr other addr) wants ≡ Ok others) × (addr ∷ others ≡ addrs)
+given_parts : (plan : NetPlan) (find : Want → Option Addr) (used : Addr → Bool) (want : Want) (wants : List Want) (addrs : List Addr) → given_addresses plan find used (want ∷ wants) ≡ Ok addrs
+    → (addr : Addr) × (others : List Addr) × IsOwnOrFree plan find used want addr × (given_addresses plan find (λ other. used other || same_addr other addr) wants ≡ Ok others) × (addr ∷ others ≡ addrs)
 given_parts plan find used want wants addrs h =
     let (addr, is_addr, rest) = bind-ok (placed want (first_of (find want) (free_for plan used want)))
-    (λ addr. given plan find (λ other. used other || same_addr other addr) wants >>= λ others. Ok (addr ∷ others)) addrs h in
-    let (others, is_others, whole) = bind-ok (given plan find (λ other. used other || same_addr other addr) wants) (λ others. Ok (addr ∷ others)) addrs rest in
+    (λ addr. given_addresses plan find (λ other. used other || same_addr other addr) wants >>= λ others. Ok (addr ∷ others)) addrs h in
+    let (others, is_others, whole) = bind-ok (given_addresses plan find (λ other. used other || same_addr other addr) wants) (λ others. Ok (addr ∷ others)) addrs rest in
     (addr, others, own_or_free plan used want addr (find want) (placed_some want _ addr is_addr), is_others, ok_same whole)
 
 free_before : (plan : NetPlan) (find : Want → Option Addr) (base used : Addr → Bool) (want : Want) (addr : Addr) → ((a : Addr) → base a ≡ true → used a ≡ true)
@@ -139,7 +139,7 @@ free_before plan find base used want addr more (inr (none, dynamic, free)) = inr
     by false e = e
 
 all_own_or_free : (plan : NetPlan) (find : Want → Option Addr) (base used : Addr → Bool) (wants : List Want) (addrs : List Addr) → ((a : Addr) → base a ≡ true → used a ≡ true)
-    → given plan find used wants ≡ Ok addrs → AllZip (IsOwnOrFree plan find base) wants addrs
+    → given_addresses plan find used wants ≡ Ok addrs → AllZip (IsOwnOrFree plan find base) wants addrs
 all_own_or_free plan find base used [] addrs more h = subst (AllZip (IsOwnOrFree plan find base) []) (ok_same h) tt
 all_own_or_free plan find base used (want ∷ wants) addrs more h =
     let (addr, others, here, is_others, whole) = given_parts plan find used want wants addrs h in
@@ -171,7 +171,7 @@ two_differ plan find used want later a b (inr (none, dynamic, free)) apart held 
     by true e = absurd (true≢false (sym (held b mine) ∙ ap used (sym (same_is a b e)) ∙ free))
     by false e = e
 
-all_differ : (plan : NetPlan) (find : Want → Option Addr) (used : Addr → Bool) (wants : List Want) (addrs : List Addr) → given plan find used wants ≡ Ok addrs
+all_differ : (plan : NetPlan) (find : Want → Option Addr) (used : Addr → Bool) (wants : List Want) (addrs : List Addr) → given_addresses plan find used wants ≡ Ok addrs
     → AllByRecursion (IsUsed find used) wants → Pairs (OwnApart find) wants → Pairs (λ one other. same_addr one other ≡ false) addrs
 all_differ plan find used [] addrs h held apart = subst (Pairs (λ one other. same_addr one other ≡ false)) (ok_same h) tt
 all_differ plan find used (want ∷ wants) addrs h (held_here, held) (apart_here, apart) =
@@ -346,7 +346,7 @@ module _ (wants : List Want) (plan : NetPlan) (taken kept : List Held) (addrs : 
   faultless : fixed_faults plan taken kept [] wants ≡ None
   faultless = unless_none (fixed_faults plan taken kept [] wants) _ addrs h
 
-  are_given : given plan (own plan taken kept) (is_held plan taken kept wants) wants ≡ Ok addrs
+  are_given : given_addresses plan (own plan taken kept) (is_held plan taken kept wants) wants ≡ Ok addrs
   are_given = unless_ok (fixed_faults plan taken kept [] wants) _ addrs h
 
   -- what is true of an address of a want that has its own, or had a free one

@@ -28,11 +28,11 @@ abbrev pub ◌>>=◌ : {A B : Type 0} → Result A PoolFault → (A → Result B
 (Err fault) >>= f = Err fault
 
 -- each want has its own address, or else the least that is free for it; what one has no later one is given
-abbrev pub given : NetPlan → (Want → Option Addr) → (Addr → Bool) → List Want → Result (List Addr) PoolFault
-given plan own used [] = Ok []
-given plan own used (want ∷ wants) = do
+abbrev pub given_addresses : NetPlan → (Want → Option Addr) → (Addr → Bool) → List Want → Result (List Addr) PoolFault
+given_addresses plan own used [] = Ok []
+given_addresses plan own used (want ∷ wants) = do
   addr ← placed want (first_of (own want) (free_for plan used want))
-  others ← given plan own (λ other. used other || same_addr other addr) wants
+  others ← given_addresses plan own (λ other. used other || same_addr other addr) wants
   Ok (addr ∷ others)
 
 -- an address is held by others, is kept for the deployment, or is one that a want has of its own
@@ -48,4 +48,4 @@ unless (Some fault) answer = Err fault
 abbrev pub assignment : List Want → NetPlan → List Held → List Held → Result (List Addr) PoolFault
 assignment wants plan taken kept =
     unless (fixed_faults plan taken kept [] wants)
-    (given plan (own plan taken kept) (is_held plan taken kept wants) wants)
+    (given_addresses plan (own plan taken kept) (is_held plan taken kept wants) wants)

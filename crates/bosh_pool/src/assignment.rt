@@ -6,7 +6,7 @@ ghost use Rattle.bosh_base.specs.declared.view.Held.{Held};
 ghost use Rattle.bosh_bands.specs.Least.{first_of};
 ghost use Rattle.bosh_bands.specs.Order.{IsInOrder};
 ghost use Rattle.bosh_pool.specs.Answer.{IsAnswer, IsTest};
-ghost use Rattle.bosh_pool.specs.Assignment.{assignment, free_for, given, placed};
+ghost use Rattle.bosh_pool.specs.Assignment.{assignment, free_for, given_addresses, placed};
 ghost use Rattle.bosh_pool.specs.Closed.{AreAllClosed};
 ghost use Rattle.bosh_pool.specs.Fixed.{fixed_faults, is_given, same_addr};
 ghost use Rattle.bosh_pool.specs.Free.{AreClosed, IsReady, is_used};
@@ -156,7 +156,7 @@ fn give(
     requires count { length own.now ≡ length wants.now }
     requires ready { AreReady plan.now.subnets closed.now used.old spots.old }
     ensures { (find : Want → Option Addr) → own.now ≡ map find wants.now
-        → IsAnswer result (given plan.now find (is_used used.old) wants.now) }
+        → IsAnswer result (given_addresses plan.now find (is_used used.old) wants.now) }
 {
     let mut addrs = Vec::new(alloc);
     for (i, want) in wants.iter().enumerate() {
@@ -179,7 +179,7 @@ fn give_unused(
     requires count { length own.now ≡ length wants.now }
     requires closed { AreAllClosed plan.now.subnets closed.now }
     ensures { (find : Want → Option Addr) → own.now ≡ map find wants.now
-        → IsAnswer result (given plan.now find (is_used used.old) wants.now) }
+        → IsAnswer result (given_addresses plan.now find (is_used used.old) wants.now) }
 {
     let mut spots = first_spots(alloc, plan.subnets.as_slice(), closed, used)?;
     give(alloc, wants, own, plan, closed, used, spots.as_mut_slice())

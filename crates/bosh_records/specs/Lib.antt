@@ -1,4 +1,4 @@
-pub mod Came
+pub mod Arrivals
 pub mod Instances
 pub mod Keys
 pub mod Kinds

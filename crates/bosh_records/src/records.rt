@@ -6,7 +6,7 @@ ghost use Rattle.std.specs.Str.{bytes_eq};
 ghost use Rattle.bosh_base.specs.declared.inst.Inst.{Inst};
 ghost use Rattle.bosh_base.specs.declared.snapshot.DepRow.{DepRow};
 ghost use Rattle.bosh_base.specs.declared.task.TaskRow.{TaskRow};
-ghost use Rattle.bosh_records.specs.Came.{came};
+ghost use Rattle.bosh_records.specs.Arrivals.{arrivals};
 ghost use Rattle.bosh_records.specs.Keys.{built_of};
 ghost use Rattle.bosh_records.specs.Readers.{call_at, dep_of_task, deployed_by, deployment_in, deployment_of};
 ghost use Rattle.bosh_records.specs.Readers.{digest_of, disk_owner, goal_of, has_disk, instance_at, is_compiling};
@@ -61,7 +61,7 @@ pub struct Records {
 impl Records {
     /// Before the first entry.
     pub fn empty(alloc: Global) -> Records
-        ensures { came result ≡ record { releases = []; stemcells = []; config = None; opened = 0; last_call = 0 } }
+        ensures { arrivals result ≡ record { releases = []; stemcells = []; config = None; opened = 0; last_call = 0 } }
     {
         Records {
             alloc,

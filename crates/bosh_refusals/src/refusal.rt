@@ -1,6 +1,6 @@
 ghost use Rattle.std.specs.Prelude.{◌≡◌, Option, Some, [], ◌∷◌, IfOk};
 ghost use Rattle.bosh_base.specs.declared.reply.Refusal.{Refusal};
-ghost use Rattle.bosh_refusals.specs.Refused.{refused, refused_both, refused_with};
+ghost use Rattle.bosh_refusals.specs.Refused.{bare_refusal, refusal_with, refusal_with_both};
 
 use bosh_base::{Refusal, Seq, Text};
 use bosh_report::{Piece, ReportFault, text_of};
@@ -76,7 +76,7 @@ fn with(
 
 /// A reason that names nothing.
 pub fn refused(alloc: Global, word: &[u8], variant: &[u8]) -> Result<Refusal, ReportFault>
-    ensures { IfOk result (λ it. it ≡ refused word.now variant.now) }
+    ensures { IfOk result (λ it. it ≡ bare_refusal word.now variant.now) }
 {
     with(alloc, word, variant, Seq::new(alloc))
 }
@@ -88,7 +88,7 @@ pub fn refused_with<T: Piece>(
     variant: &[u8],
     named: &T,
 ) -> Result<Refusal, ReportFault>
-    ensures { IfOk result (λ it. it ≡ refused_with word.now variant.now (T.text named.now)) }
+    ensures { IfOk result (λ it. it ≡ refusal_with word.now variant.now (T.text named.now)) }
 {
     let field = text_of(alloc, named)?;
     let fields = one(alloc, field)?;
@@ -103,7 +103,7 @@ pub(crate) fn refused_both<A: Piece, B: Piece>(
     first: &A,
     second: &B,
 ) -> Result<Refusal, ReportFault>
-    ensures { IfOk result (λ it. it ≡ refused_both word.now variant.now (A.text first.now) (B.text second.now)) }
+    ensures { IfOk result (λ it. it ≡ refusal_with_both word.now variant.now (A.text first.now) (B.text second.now)) }
 {
     let (first, second) = texts(alloc, first, second)?;
     let fields = two(alloc, first, second)?;

@@ -11,7 +11,7 @@ use Rattle.bosh_base.specs.declared.release.JobSpec.{JobSpec}
 use Rattle.bosh_base.specs.declared.release.PackageSpec.{PackageSpec}
 use Rattle.bosh_base.specs.declared.release.Release.{Release}
 use Rattle.bosh_release.specs.Collected.{AnswersDraft, IsDraftFault, exceeded, name_at, package_spec, package_specs, within_limits}
-use Rattle.bosh_release.specs.Draft.{check_job, drafted, graph_of, jobs_and_packages, named, needs_of, package_names, place_among, place_of, with_needs}
+use Rattle.bosh_release.specs.Draft.{check_job, draft_of, graph_of, jobs_and_packages, named, needs_of, package_names, place_among, place_of, with_needs}
 use Rattle.bosh_release.specs.Prints.{IsFit}
 use Rattle.bosh_release.specs.declared.draft.Draft.{Draft}
 use Rattle.bosh_release.specs.declared.drafted_package.PackageDraft.{PackageDraft}
@@ -85,7 +85,7 @@ graph_fits jobs packages needs h =
     )
 
 -- what is drafted fits
-pub drafted_fits : (files : List File) (draft : Draft) → drafted files ≡ Ok draft → IsFit draft
+pub drafted_fits : (files : List File) (draft : Draft) → draft_of files ≡ Ok draft → IsFit draft
 drafted_fits files draft h =
     let folder = folder_of_files files in
     let (name, was, more) = bind-ok (named folder) (λ name. jobs_and_packages folder files >>= λ both. with_needs name both.0 both.1) draft h in

@@ -14,7 +14,7 @@ use Rattle.bosh_listing.specs.Listing.{Stamped, digest_of, package_text}
 use Rattle.bosh_release.specs.Collected.{ArePrints, listing_of, no_digest, numbers_in_order, print_at, print_of, stamp_at}
 use Rattle.bosh_release.specs.Prints.{ArePrintsOf}
 use Rattle.bosh_release.specs.declared.drafted_package.PackageDraft.{PackageDraft}
-use Rattle.bosh_release_files.specs.Pattern.{taken}
+use Rattle.bosh_release_files.specs.Pattern.{taken_files}
 use Rattle.bosh_release_order.specs.Graph.{IsOrder, needs_of}
 
 -- ---- numbers in order
@@ -57,7 +57,7 @@ maps_agree f g (x ∷ xs) all =
 
 module _ (sources : List Stamped) (packages : List PackageDraft) where
   print_with : PackageDraft → List Stamped → Digest
-  print_with pack deps = digest_of (package_text (record { name = pack.name; script = pack.script; files = taken sources pack.patterns; deps = deps }))
+  print_with pack deps = digest_of (package_text (record { name = pack.name; script = pack.script; files = taken_files sources pack.patterns; deps = deps }))
 
   pub same_print :
       (old new : List Digest) (pack : PackageDraft) (needs : List ℕ) → All (λ n. print_at new n ≡ print_at old n) needs

@@ -19,7 +19,7 @@ use Rattle.bosh_base.specs.declared.release.PackageSpec.{PackageSpec}
 use Rattle.bosh_base.specs.declared.release.Release.{Release}
 use Rattle.bosh_listing.specs.Listing.{Stamped}
 use Rattle.bosh_release.specs.Collected.{Answers, Collects, IsCollected, package_spec, package_specs}
-use Rattle.bosh_release.specs.Draft.{both_files, check_job, drafted, graph_of, job_of, job_path, job_with, jobs_and_packages, jobs_of, named, needs_of, package_names, package_of, package_path, package_with, packages_of, place_among, place_of, places_of, template_in, with_needs}
+use Rattle.bosh_release.specs.Draft.{both_files, check_job, draft_of, graph_of, job_of, job_path, job_with, jobs_and_packages, jobs_of, named, needs_of, package_names, package_of, package_path, package_with, packages_of, place_among, place_of, places_of, template_in, with_needs}
 use Rattle.bosh_release.specs.Sound.{CollectedIsSound, Depends, IsSound, Lists, at_once, by, names_of}
 use Rattle.bosh_release.specs.Spec.{check_name, spec_at}
 use Rattle.bosh_release.specs.declared.draft.Draft.{Draft}
@@ -332,7 +332,7 @@ record Parts (files : List File) (draft : Draft) : Type 0 where
   packages : packages_of (folder_of_files files) files ≡ Ok draft.packages
   needs : graph_of draft.jobs draft.packages ≡ Ok draft.needs
 
-parts_of : (files : List File) (draft : Draft) → drafted files ≡ Ok draft → Parts files draft
+parts_of : (files : List File) (draft : Draft) → draft_of files ≡ Ok draft → Parts files draft
 parts_of files draft h =
     let folder = folder_of_files files in
     let (name, was, more) = bind-ok (named folder) (λ name. jobs_and_packages folder files >>= λ both. with_needs name both.0 both.1) draft h in
@@ -355,12 +355,12 @@ parts_of files draft h =
     packages_in (Err fault) other = other
 
 collected : (files : List File) (version : List ℕ) (release : Release) → Collects files version (Ok release)
-    → (draft : Draft) × (drafted files ≡ Ok draft) × IsCollected files version draft release
-collected files version release h = at (drafted files) refl h
+    → (draft : Draft) × (draft_of files ≡ Ok draft) × IsCollected files version draft release
+collected files version release h = at (draft_of files) refl h
   where
     at :
-        (r : Result Draft ReleaseFault) → drafted files ≡ r → Answers files version r (Ok release)
-        → (draft : Draft) × (drafted files ≡ Ok draft) × IsCollected files version draft release
+        (r : Result Draft ReleaseFault) → draft_of files ≡ r → Answers files version r (Ok release)
+        → (draft : Draft) × (draft_of files ≡ Ok draft) × IsCollected files version draft release
     at (Ok draft) is it = (draft, is, it)
     at (Err fault) is it = absurd it
 

@@ -7,11 +7,11 @@ use Rattle.bosh_base.specs.declared.digest.Digest.{Digest}
 use Rattle.bosh_base.specs.declared.release.PackageSpec.{PackageSpec}
 use Rattle.bosh_base.specs.declared.release.Release.{Release}
 use Rattle.bosh_listing.specs.Listing.{PackageListing, Stamped, digest_of, package_text}
-use Rattle.bosh_release.specs.Draft.{drafted}
+use Rattle.bosh_release.specs.Draft.{draft_of}
 use Rattle.bosh_release.specs.declared.draft.Draft.{Draft}
 use Rattle.bosh_release.specs.declared.drafted_package.PackageDraft.{PackageDraft}
 use Rattle.bosh_release_files.specs.Files.{files_below}
-use Rattle.bosh_release_files.specs.Pattern.{taken}
+use Rattle.bosh_release_files.specs.Pattern.{taken_files}
 use Rattle.bosh_release_files.specs.declared.fault.ReleaseFault.{ReleaseFault}
 use Rattle.bosh_release_files.specs.declared.fault.ReleaseFault.TheVariants as faults
 use Rattle.bosh_release_files.specs.declared.folder.File.{File}
@@ -40,7 +40,7 @@ abbrev pub listing_of : List Stamped → List PackageDraft → List Digest → P
 listing_of sources packages prints pack needs = record {
   name = pack.name;
   script = pack.script;
-  files = taken sources pack.patterns;
+  files = taken_files sources pack.patterns;
   deps = map (stamp_at packages prints) (numbers_in_order needs);
 }
 
@@ -123,4 +123,4 @@ Answers files version (Err fault) (Ok release) = ⊥
 Answers files version (Err fault) (Err other) = (other ≡ faults.Memory) ⊎ (other ≡ fault)
 
 abbrev pub Collects : List File → List ℕ → Result Release ReleaseFault → Type 0
-Collects files version answer = Answers files version (drafted files) answer
+Collects files version answer = Answers files version (draft_of files) answer

@@ -167,11 +167,11 @@ with_needs name jobs packages = do
   Ok (draft_with name jobs packages needs)
 
 -- a release is named, each of its jobs and packages is whole, and then none needs a package that is not there
-abbrev pub drafted_in : List Entry → List File → Result Draft ReleaseFault
-drafted_in folder files = do
+abbrev pub draft_in : List Entry → List File → Result Draft ReleaseFault
+draft_in folder files = do
   name ← named folder
   both ← jobs_and_packages folder files
   with_needs name both.0 both.1
 
-abbrev pub drafted : List File → Result Draft ReleaseFault
-drafted files = drafted_in (folder_of_files files) files
+abbrev pub draft_of : List File → Result Draft ReleaseFault
+draft_of files = draft_in (folder_of_files files) files

@@ -1,6 +1,6 @@
 //! What files say of a release, before its packages have fingerprints.
 ghost use Rattle.std.specs.Prelude.{◌≡◌, codes};
-ghost use Rattle.bosh_release.specs.Draft.{drafted, job_of, jobs_and_packages, jobs_of, named, package_of, packages_of, with_needs};
+ghost use Rattle.bosh_release.specs.Draft.{draft_of, job_of, jobs_and_packages, jobs_of, named, package_of, packages_of, with_needs};
 ghost use Rattle.bosh_release_files.specs.Answer.{IsAnswer, each};
 ghost use Rattle.bosh_release_files.specs.Files.{files_below};
 
@@ -118,7 +118,7 @@ pub(crate) fn drafted(
     files: &[File],
 ) -> Result<Draft, ReleaseFault>
     requires { sources.now ≡ files_below (codes "src/") files.now }
-    ensures { IsAnswer result (drafted files.now) }
+    ensures { IsAnswer result (draft_of files.now) }
 {
     let folder = Folder::of(alloc, files)?;
     let name = named(alloc, &folder)?;

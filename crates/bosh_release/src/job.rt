@@ -1,7 +1,7 @@
 //! Jobs.
 ghost use Rattle.std.specs.Prelude.{◌≡◌, ◌++◌, IfErr, IfOk, Ok, codes, map};
 ghost use Rattle.bosh_listing.specs.Listing.{digest_of, job_text};
-ghost use Rattle.bosh_listing.specs.Parts.{stamped as stamp_seen};
+ghost use Rattle.bosh_listing.specs.Parts.{stamp_view as stamp_seen};
 ghost use Rattle.bosh_release.specs.Draft.{both_files, job_listing, job_of, job_path, job_with, stamped, template_in, with_text};
 ghost use Rattle.bosh_release.specs.Spec.{spec_at};
 ghost use Rattle.bosh_release_files.specs.Answer.{IsAnswer, IsAnswerSeen, each};

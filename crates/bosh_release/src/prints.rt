@@ -1,6 +1,6 @@
 //! The fingerprints of packages.
 ghost use Rattle.std.specs.Prelude.{◌≡◌, ◌<◌, ℕ, All, IfErr, IfOk, length, map, slice_index_or};
-ghost use Rattle.bosh_listing.specs.Parts.{stamped};
+ghost use Rattle.bosh_listing.specs.Parts.{stamp_view};
 ghost use Rattle.bosh_release.specs.Collected.{ArePrints, numbers_in_order, print_of, stamp_at};
 ghost use Rattle.bosh_release.specs.Prints.{IsFit};
 ghost use Rattle.bosh_release.specs.declared.drafted_package.PackageDraft.{PackageDraft as DraftSeen};
@@ -40,7 +40,7 @@ fn numbers_in_order(alloc: Global, numbers: &[usize]) -> Result<Vec<usize>, Rele
 fn stamp_at<'a>(packages: &'a [PackageDraft], prints: &[Digest], place: usize) -> Stamp<'a>
     requires place { place < length packages.now }
     requires prints { length prints.now ≡ length packages.now }
-    ensures { stamped result ≡ stamp_at packages.now prints.now place }
+    ensures { stamp_view result ≡ stamp_at packages.now prints.now place }
 {
     Stamp {
         name: packages[place].name.as_bytes(),
@@ -57,7 +57,7 @@ fn stamps_at<'a>(
 ) -> Result<Vec<Stamp<'a>>, ReleaseFault>
     requires places { All (λ place. place < length packages.now) places.now }
     requires prints { length prints.now ≡ length packages.now }
-    ensures stamps { IfOk result (λ stamps. map stamped stamps.items
+    ensures stamps { IfOk result (λ stamps. map stamp_view stamps.items
         ≡ map (stamp_at packages.now prints.now) places.now) }
     ensures err { IfErr result (λ fault. fault ≡ Memory) }
 {
@@ -76,7 +76,7 @@ fn deps_of<'a>(
 ) -> Result<Vec<Stamp<'a>>, ReleaseFault>
     requires needs { All (λ place. place < length packages.now) needs.now }
     requires prints { length prints.now ≡ length packages.now }
-    ensures stamps { IfOk result (λ stamps. map stamped stamps.items
+    ensures stamps { IfOk result (λ stamps. map stamp_view stamps.items
         ≡ map (stamp_at packages.now prints.now) (numbers_in_order needs.now)) }
     ensures err { IfErr result (λ fault. fault ≡ Memory) }
 {

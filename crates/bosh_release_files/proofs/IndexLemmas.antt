@@ -18,11 +18,11 @@ use Rattle.std.proofs.lemmas.Slice.Eq.{bytes_eq-Decides}
 use denote.Ref.{Bor}
 use Rattle.bosh_base.specs.declared.digest.Digest.{Digest}
 use Rattle.bosh_listing.specs.Listing.{Stamped}
-use Rattle.bosh_listing.specs.Parts.{stamped}
+use Rattle.bosh_listing.specs.Parts.{stamp_view}
 use Rattle.bosh_listing.specs.declared.listing.Stamp.{Stamp}
 use Rattle.bosh_release_files.specs.Answer.{◌>>=◌, check_each}
 use Rattle.bosh_release_files.specs.Files.{by_path, digest_after, digests_below, stamped_by}
-use Rattle.bosh_release_files.specs.Pattern.{folder_of, is_taken, is_that, lies_in, matches, taken, takes}
+use Rattle.bosh_release_files.specs.Pattern.{folder_of, is_taken, is_that, lies_in, matches, taken_files, takes}
 use Rattle.bosh_release_files.specs.Sources.{AddsText, IsInOrder, has, path_of, with_file}
 use Rattle.bosh_release_files.specs.declared.fault.ReleaseFault.{ReleaseFault}
 use Rattle.bosh_release_files.specs.declared.folder.File.{File}
@@ -136,14 +136,14 @@ check_each-next test things i thing within is =
 -- ---- what is seen of a file
 
 pub paths_seen :
-    (files : List Stamp) (table : List (List ℕ × Digest)) → map stamped files ≡ map stamped_by table
+    (files : List Stamp) (table : List (List ℕ × Digest)) → map stamp_view files ≡ map stamped_by table
     → map path_of files ≡ keys_of table
 paths_seen [] [] e = refl
 paths_seen [] (it ∷ table) e = absurd cc
 paths_seen (file ∷ files) [] e = absurd cc
 paths_seen (file ∷ files) (it ∷ table) e =
-    let first : stamped file ≡ stamped_by it = cc in
-    let more : map stamped files ≡ map stamped_by table = cc in
+    let first : stamp_view file ≡ stamped_by it = cc in
+    let more : map stamp_view files ≡ map stamped_by table = cc in
     let name : path_of file ≡ it.0 = ap (λ s. s.name) first in
     let rest = paths_seen files table more in
     cc
@@ -173,10 +173,10 @@ folders_step files i d old new text within adds is before q =
 
 -- what is looked for among files is looked for among those that are seen
 pub form_matches :
-    (files : List Stamp) (sources : List Stamped) (form : Form) → map stamped files ≡ sources
+    (files : List Stamp) (sources : List Stamped) (form : Form) → map stamp_view files ≡ sources
     → list_any (λ file. takes form (path_of file)) files ≡ matches sources form
 form_matches files sources form is =
-    sym (any-map (λ (source : Stamped). takes form source.name) stamped files) ∙ ap (λ all. matches all form) is
+    sym (any-map (λ (source : Stamped). takes form source.name) stamp_view files) ∙ ap (λ all. matches all form) is
 
 pub some_files : {A : Type 0} (files : List A) → 1 ≤ length files → list_any (λ _. true) files ≡ true
 some_files [] h = absurd (omega arith)
@@ -190,13 +190,13 @@ map-append f (x ∷ xs) ys = ap (λ zs. f x ∷ zs) (map-append f xs ys)
 pub taken_step :
     (files : List Stamp) (i : ℕ) (d : Stamp) (patterns : List Pattern) (old new : List Stamp) (test : Bool)
     → i < length files → test ≡ is_taken patterns (path_of (get_or files i d))
-    → map stamped new ≡ map stamped old ++ cond test (stamped (get_or files i d) ∷ []) []
-    → map stamped old ≡ taken (map stamped (take i files)) patterns
-    → map stamped new ≡ taken (map stamped (take (i + 1) files)) patterns
+    → map stamp_view new ≡ map stamp_view old ++ cond test (stamp_view (get_or files i d) ∷ []) []
+    → map stamp_view old ≡ taken_files (map stamp_view (take i files)) patterns
+    → map stamp_view new ≡ taken_files (map stamp_view (take (i + 1) files)) patterns
 taken_step files i d patterns old new test within tested added before =
     let file = get_or files i d in
     added
-    ∙ ap (λ all. all ++ cond test (stamped file ∷ []) []) before
-    ∙ ap (λ t. taken (map stamped (take i files)) patterns ++ cond t (stamped file ∷ []) []) tested
-    ∙ sym (filter-append (λ (source : Stamped). is_taken patterns source.name) (map stamped (take i files)) (stamped file ∷ []))
-    ∙ ap (λ all. taken all patterns) (sym (map-append stamped (take i files) (file ∷ [])) ∙ ap (map stamped) (sym (take_more files i d within)))
+    ∙ ap (λ all. all ++ cond test (stamp_view file ∷ []) []) before
+    ∙ ap (λ t. taken_files (map stamp_view (take i files)) patterns ++ cond t (stamp_view file ∷ []) []) tested
+    ∙ sym (filter-append (λ (source : Stamped). is_taken patterns source.name) (map stamp_view (take i files)) (stamp_view file ∷ []))
+    ∙ ap (λ all. taken_files all patterns) (sym (map-append stamp_view (take i files) (file ∷ [])) ∙ ap (map stamp_view) (sym (take_more files i d within)))

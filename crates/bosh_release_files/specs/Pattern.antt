@@ -103,5 +103,5 @@ abbrev pub is_taken : List Pattern → List ℕ → Bool
 is_taken patterns path = list_any (λ pattern. takes pattern.form path) patterns
 
 -- the files that some pattern takes, by path, each once
-abbrev pub taken : List Stamped → List Pattern → List Stamped
-taken sources patterns = filter (λ source. is_taken patterns source.name) sources
+abbrev pub taken_files : List Stamped → List Pattern → List Stamped
+taken_files sources patterns = filter (λ source. is_taken patterns source.name) sources

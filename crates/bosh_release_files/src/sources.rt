@@ -2,10 +2,10 @@ ghost use Rattle.std.specs.Prelude.{◌≡◌, ℕ, List, true, IfErr, IfOk, OnO
 ghost use Rattle.std.specs.List.{list_any};
 ghost use Rattle.std.specs.Option.{option_map};
 ghost use Rattle.std.specs.Str.{bytes_eq};
-ghost use Rattle.bosh_listing.specs.Parts.{stamped};
+ghost use Rattle.bosh_listing.specs.Parts.{stamp_view};
 ghost use Rattle.bosh_release_files.specs.Answer.{IsAnswer, IsAnswerSeen, check_each};
 ghost use Rattle.bosh_release_files.specs.Files.{digest_after, digests_below, files_below, stamped_by};
-ghost use Rattle.bosh_release_files.specs.Pattern.{check_match, lies_in, matches, patterns, taken};
+ghost use Rattle.bosh_release_files.specs.Pattern.{check_match, lies_in, matches, patterns, taken_files};
 ghost use Rattle.bosh_release_files.specs.Sources.{AddsText, IsInOrder, digest_seen, has, path_of, with_file};
 ghost use Rattle.bosh_release_files.specs.declared.fault.ReleaseFault.TheVariants.{Memory};
 
@@ -33,12 +33,12 @@ pub struct Sources<'a> {
 impl<'a> Model for Sources<'a> {
     ghost use Rattle.std.specs.Prelude.{List, map};
     ghost use Rattle.bosh_listing.specs.Listing.{Stamped};
-    ghost use Rattle.bosh_listing.specs.Parts.{stamped};
+    ghost use Rattle.bosh_listing.specs.Parts.{stamp_view};
     ghost use Rattle.bosh_release_files.specs.Sources.{IsIndexed};
 
     ghost Value = { List Stamped };
 
-    ghost view = { λ sources. map stamped sources.files.items };
+    ghost view = { λ sources. map stamp_view sources.files.items };
 
     ghost invariant = { λ sources. IsIndexed sources.files.items sources.paths sources.folders };
 }
@@ -91,7 +91,7 @@ fn stamps_of<'a>(
     alloc: Global,
     table: BTreeMap<&'a [u8], Digest>,
 ) -> Result<Vec<Stamp<'a>>, ReleaseFault>
-    ensures files { IfOk result (λ files. map stamped files.items
+    ensures files { IfOk result (λ files. map stamp_view files.items
         ≡ map stamped_by (map digest_seen table.entry.entries)) }
     ensures err { IfErr result (λ fault. fault ≡ Memory) }
 {
@@ -146,7 +146,7 @@ fn folders_of<'a>(alloc: Global, files: &[Stamp<'a>]) -> Result<BTreeSet<&'a [u8
 
 fn indexed<'a>(alloc: Global, files: Vec<Stamp<'a>>) -> Result<Sources<'a>, ReleaseFault>
     requires { IsInOrder (map path_of files.items) }
-    ensures sources { IfOk result (λ sources. sources ≡ map stamped files.entry.items) }
+    ensures sources { IfOk result (λ sources. sources ≡ map stamp_view files.entry.items) }
     ensures err { IfErr result (λ fault. fault ≡ Memory) }
 {
     let paths = paths_of(alloc, &files)?;
@@ -213,7 +213,7 @@ impl<'a> Sources<'a> {
 
     /// The files that some of the patterns take, each once.
     pub fn taken(&self, alloc: Global, patterns: &[Pattern]) -> Result<Vec<Stamp<'a>>, ReleaseFault>
-        ensures files { IfOk result (λ files. map stamped files.items ≡ taken self.now patterns.now) }
+        ensures files { IfOk result (λ files. map stamp_view files.items ≡ taken_files self.now patterns.now) }
         ensures err { IfErr result (λ fault. fault ≡ Memory) }
     {
         taken(alloc, &self.files, patterns)

@@ -2,8 +2,8 @@
 ghost use Rattle.std.specs.Prelude.{◌≡◌, ◌∷◌, ◌++◌, ◌||◌, ℕ, List, [], IfErr, IfOk, OnOk, length, map, if◌then◌else◌};
 ghost use Rattle.std.specs.List.{list_any};
 ghost use Rattle.std.specs.Option.{option_map};
-ghost use Rattle.bosh_listing.specs.Parts.{stamped};
-ghost use Rattle.bosh_release_files.specs.Pattern.{is_that, taken};
+ghost use Rattle.bosh_listing.specs.Parts.{stamp_view};
+ghost use Rattle.bosh_release_files.specs.Pattern.{is_that, taken_files};
 ghost use Rattle.bosh_release_files.specs.Sources.{AddsSpan, AreReached, IsInOrder, IsReach, exact_text, folder_text, has, lies_in_some, path_of};
 ghost use Rattle.bosh_release_files.specs.declared.fault.ReleaseFault.TheVariants.{Memory};
 
@@ -120,8 +120,8 @@ fn is_taken(reached: bool, texts: &BTreeSet<&[u8]>, folders: &BTreeSet<&[u8]>, p
 }
 
 fn add_if<'a>(test: bool, file: Stamp<'a>, files: &mut Vec<Stamp<'a>>) -> Result<(), ReleaseFault>
-    ensures added { OnOk result (map stamped files.new.items
-        ≡ map stamped files.old.items ++ (if test then stamped file.entry ∷ [] else [])) }
+    ensures added { OnOk result (map stamp_view files.new.items
+        ≡ map stamp_view files.old.items ++ (if test then stamp_view file.entry ∷ [] else [])) }
     ensures err { IfErr result (λ fault. fault ≡ Memory) }
 {
     if !test {
@@ -139,7 +139,7 @@ pub(crate) fn taken<'a>(
     patterns: &[Pattern],
 ) -> Result<Vec<Stamp<'a>>, ReleaseFault>
     requires { IsInOrder (map path_of files.now) }
-    ensures files { IfOk result (λ chosen. map stamped chosen.items ≡ taken (map stamped files.now) patterns.now) }
+    ensures files { IfOk result (λ chosen. map stamp_view chosen.items ≡ taken_files (map stamp_view files.now) patterns.now) }
     ensures err { IfErr result (λ fault. fault ≡ Memory) }
 {
     let texts = exact_texts(alloc, patterns)?;

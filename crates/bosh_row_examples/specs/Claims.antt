@@ -5,18 +5,18 @@ use Rattle.bosh_base.specs.declared.entry.Entry.{Entry}
 use Rattle.bosh_base.specs.declared.entry.Entry.TheVariants.{Begin, UpdBegin, UpdDone, Gone, TaskDone}
 use Rattle.bosh_base.specs.declared.moves.Move.{Move}
 use Rattle.bosh_base.specs.declared.moves.Move.TheVariants as moves
-use Rattle.bosh_history.specs.Claim.{claimed, Noted, Over}
+use Rattle.bosh_history.specs.Claim.{claim_at, Noted, Over}
 use Rattle.bosh_history.specs.Moments.{Moment, later}
 use Rattle.bosh_history_examples.specs.Scenes.{Builder, History}
 
 -- The claim for its task gives the entry; those of an update name no worker. A task that is done is over. The other
 -- entries come by no claim.
 abbrev pub IsClaimed : Moment → Entry → Type 0
-IsClaimed m (Begin b) = claimed m b.task b.worker ≡ Noted (Begin b)
-IsClaimed m (UpdBegin u) = claimed m u.task 1 ≡ Noted (UpdBegin u)
-IsClaimed m (UpdDone u) = claimed m u.task 1 ≡ Noted (UpdDone u)
-IsClaimed m (Gone u) = claimed m u.task 1 ≡ Noted (Gone u)
-IsClaimed m (TaskDone t) = claimed m t 1 ≡ Over
+IsClaimed m (Begin b) = claim_at m b.task b.worker ≡ Noted (Begin b)
+IsClaimed m (UpdBegin u) = claim_at m u.task 1 ≡ Noted (UpdBegin u)
+IsClaimed m (UpdDone u) = claim_at m u.task 1 ≡ Noted (UpdDone u)
+IsClaimed m (Gone u) = claim_at m u.task 1 ≡ Noted (Gone u)
+IsClaimed m (TaskDone t) = claim_at m t 1 ≡ Over
 IsClaimed m entry = Unit {0}
 
 abbrev pub IsKeptClaimed : Moment → Option Entry → Type 0

@@ -5,7 +5,7 @@ use Rattle.bosh_base.specs.declared.answer.Answer.TheVariants as answers
 use Rattle.bosh_base.specs.declared.call.Call.TheVariants as calls
 use Rattle.bosh_base.specs.declared.moves.Move.TheVariants.{Note}
 use Rattle.bosh_base.specs.declared.owner.Owner.TheVariants.{Instance}
-use Rattle.bosh_history.specs.Claim.{claimed, Claimed}
+use Rattle.bosh_history.specs.Claim.{claim_at, Claimed}
 use Rattle.bosh_history.specs.Moments.{Moment}
 use Rattle.bosh_history_examples.specs.Canaries.{canaries}
 use Rattle.bosh_history_examples.specs.Flight.{flight}
@@ -16,7 +16,7 @@ use Rattle.bosh_history_examples.specs.Verdicts.{after}
 
 -- the claim of a worker of a task, after so many moves of a history
 abbrev pub Gives : Moment → ℕ → History → ℕ → ℕ → Claimed → Type 0
-Gives m k history task worker is = (built : Builder) → claimed (after m k (history built)) task worker ≡ is
+Gives m k history task worker is = (built : Builder) → claim_at (after m k (history built)) task worker ≡ is
 
 -- The second of two instances is begun first.
 abbrev pub begun_out_of_order : History

@@ -8,7 +8,7 @@ use Rattle.bosh_base.specs.declared.failure.Failure.{Failure}
 use Rattle.bosh_base.specs.declared.moves.Move.{Move}
 use Rattle.bosh_base.specs.declared.moves.Move.TheVariants.{Note}
 use Rattle.bosh_base.specs.declared.task.TaskEnd.{TaskEnd}
-use Rattle.bosh_history.specs.Claim.{claimed, Claimed, Noted, Waits, Over}
+use Rattle.bosh_history.specs.Claim.{claim_at, Claimed, Noted, Waits, Over}
 use Rattle.bosh_history.specs.Moments.{Moment, later}
 use Rattle.bosh_history.specs.Notes.{Outside}
 use Rattle.bosh_history.specs.Permitted.{IsPermitted}
@@ -36,7 +36,7 @@ tasks_at m = if m.halted then [] else filter (λ t. nat_lt m.stopped t) (numbers
 
 abbrev pub EachTask : Outside → Moment → List ℕ → Type 0
 EachTask outside m [] = Unit {0}
-EachTask outside m (t ∷ tasks) = IsClaimPermitted outside m t (claimed m t 0) × EachTask outside m tasks
+EachTask outside m (t ∷ tasks) = IsClaimPermitted outside m t (claim_at m t 0) × EachTask outside m tasks
 
 abbrev pub EachMoment : Outside → Moment → List Move → Type 0
 EachMoment outside m [] = EachTask outside m (tasks_at m)

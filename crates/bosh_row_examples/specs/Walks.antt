@@ -5,7 +5,7 @@ use Rattle.bosh_base.specs.declared.answer.Answer.TheVariants.{Done}
 use Rattle.bosh_base.specs.declared.call.Call.{Call}
 use Rattle.bosh_base.specs.declared.goal.GoalRow.{GoalRow}
 use Rattle.bosh_base.specs.declared.row.Row.{Row}
-use Rattle.bosh_rows.specs.After.{after, begun, updated}
+use Rattle.bosh_rows.specs.After.{after, begun_row, updated_row}
 use Rattle.bosh_rows.specs.CallOf.{next_call}
 use Rattle.bosh_rows.specs.NextStep.{next_step}
 use Rattle.bosh_rows.specs.Standing.{IsStanding}
@@ -24,13 +24,13 @@ done call = made call Done
 abbrev pub Walks : Option GoalRow → ℕ → List Made → Row → Type 0
 Walks want n [] row = next_step want row ≡ None
 Walks want n (it ∷ others) row =
-    (next_call want row ≡ Some it.call) × Walks want (n + 1) others (after n it.call it.answer (begun n it.call row))
+    (next_call want row ≡ Some it.call) × Walks want (n + 1) others (after n it.call it.answer (begun_row n it.call row))
 
 abbrev pub walked : ℕ → List Made → Row → Row
 walked n [] row = row
-walked n (it ∷ others) row = walked (n + 1) others (after n it.call it.answer (begun n it.call row))
+walked n (it ∷ others) row = walked (n + 1) others (after n it.call it.answer (begun_row n it.call row))
 
 -- .. and once the update is done, the instance stands
 pub record Arrives (want : GoalRow) (n : ℕ) (calls : List Made) (row : Row) : Type 0 where
   pub walks : Walks (Some want) n calls row
-  pub stands : IsStanding (Some want) (updated want (walked n calls row))
+  pub stands : IsStanding (Some want) (updated_row want (walked n calls row))

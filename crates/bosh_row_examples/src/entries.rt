@@ -7,30 +7,30 @@ ghost use Rattle.bosh_row_examples.specs.Rows.{absent, active, at_rest, drained,
 ghost use Rattle.bosh_row_examples.specs.Rows.{of_make, old, on_vm, up, up_with_disk, wanted, wanted_as};
 ghost use Rattle.bosh_row_examples.specs.Rows.{wanted_with_disk, with_disk, with_spec};
 ghost use Rattle.bosh_row_examples.specs.Says.{Answered};
-ghost use Rattle.bosh_rows.specs.After.{after, begun, left_behind, updated};
+ghost use Rattle.bosh_rows.specs.After.{after, begun_row, left_behind, updated_row};
 
 /// A call that may change something is in doubt once it began, but for a migration; a creation sets the make.
 pub fn calls_begin()
-    ensures create_vm { begun 7 (calls.CreateVm (big z2 11) []) absent ≡ of_make (Some (big z2 11))
+    ensures create_vm { begun_row 7 (calls.CreateVm (big z2 11) []) absent ≡ of_make (Some (big z2 11))
         (in_doubt (calls.CreateVm (big z2 11) []) absent) }
-    ensures delete_vm { begun 7 (calls.DeleteVm 5) at_rest ≡ in_doubt (calls.DeleteVm 5) at_rest }
-    ensures create_disk { begun 7 (calls.CreateDisk (disk 10) 5) at_rest ≡ in_doubt (calls.CreateDisk (disk 10) 5)
+    ensures delete_vm { begun_row 7 (calls.DeleteVm 5) at_rest ≡ in_doubt (calls.DeleteVm 5) at_rest }
+    ensures create_disk { begun_row 7 (calls.CreateDisk (disk 10) 5) at_rest ≡ in_doubt (calls.CreateDisk (disk 10) 5)
         at_rest }
-    ensures attach_disk { begun 7 (calls.AttachDisk 5 2) at_rest ≡ in_doubt (calls.AttachDisk 5 2) at_rest }
-    ensures detach_disk { begun 7 (calls.DetachDisk 5 2) at_rest ≡ in_doubt (calls.DetachDisk 5 2) at_rest }
-    ensures mount_disk { begun 7 (calls.MountDisk 5 2) at_rest ≡ in_doubt (calls.MountDisk 5 2) at_rest }
-    ensures unmount_disk { begun 7 (calls.UnmountDisk 5 2) at_rest ≡ in_doubt (calls.UnmountDisk 5 2) at_rest }
-    ensures apply { begun 7 (calls.Apply 5 no_jobs) at_rest ≡ in_doubt (calls.Apply 5 no_jobs) at_rest }
-    ensures start { begun 7 (calls.Start 5) at_rest ≡ in_doubt (calls.Start 5) at_rest }
-    ensures drain { begun 7 (calls.Drain 5) up ≡ in_doubt (calls.Drain 5) up }
-    ensures stop { begun 7 (calls.Stop 5) up ≡ in_doubt (calls.Stop 5) up }
-    ensures migrate_disk { begun 7 (calls.MigrateDisk 5 2 3) at_rest ≡ at_rest }
-    ensures ping { begun 7 (calls.Ping 5) up ≡ up }
-    ensures get_state { begun 8 (calls.GetState 5) (in_doubt (calls.Start 5) at_rest) ≡ in_doubt (calls.Start 5)
+    ensures attach_disk { begun_row 7 (calls.AttachDisk 5 2) at_rest ≡ in_doubt (calls.AttachDisk 5 2) at_rest }
+    ensures detach_disk { begun_row 7 (calls.DetachDisk 5 2) at_rest ≡ in_doubt (calls.DetachDisk 5 2) at_rest }
+    ensures mount_disk { begun_row 7 (calls.MountDisk 5 2) at_rest ≡ in_doubt (calls.MountDisk 5 2) at_rest }
+    ensures unmount_disk { begun_row 7 (calls.UnmountDisk 5 2) at_rest ≡ in_doubt (calls.UnmountDisk 5 2) at_rest }
+    ensures apply { begun_row 7 (calls.Apply 5 no_jobs) at_rest ≡ in_doubt (calls.Apply 5 no_jobs) at_rest }
+    ensures start { begun_row 7 (calls.Start 5) at_rest ≡ in_doubt (calls.Start 5) at_rest }
+    ensures drain { begun_row 7 (calls.Drain 5) up ≡ in_doubt (calls.Drain 5) up }
+    ensures stop { begun_row 7 (calls.Stop 5) up ≡ in_doubt (calls.Stop 5) up }
+    ensures migrate_disk { begun_row 7 (calls.MigrateDisk 5 2 3) at_rest ≡ at_rest }
+    ensures ping { begun_row 7 (calls.Ping 5) up ≡ up }
+    ensures get_state { begun_row 8 (calls.GetState 5) (in_doubt (calls.Start 5) at_rest) ≡ in_doubt (calls.Start 5)
         at_rest }
-    ensures find_vm { begun 8 (calls.FindVm 7) (in_doubt (calls.CreateVm (plain z1 10) []) absent) ≡ in_doubt
+    ensures find_vm { begun_row 8 (calls.FindVm 7) (in_doubt (calls.CreateVm (plain z1 10) []) absent) ≡ in_doubt
         (calls.CreateVm (plain z1 10) []) absent }
-    ensures ping_in_doubt { begun 8 (calls.Ping 5) (in_doubt (calls.Start 5) at_rest) ≡ in_doubt (calls.Start 5)
+    ensures ping_in_doubt { begun_row 8 (calls.Ping 5) (in_doubt (calls.Start 5) at_rest) ≡ in_doubt (calls.Start 5)
         at_rest }
 {}
 
@@ -124,12 +124,12 @@ pub fn disks_answer()
 
 /// What stays with an instance whose update is done, and what is left behind.
 pub fn updates_are_done()
-    ensures old_left { updated wanted_with_disk (having (old 1 5 false false ∷ kept ∷ []) up) ≡ up_with_disk }
-    ensures new_left { updated wanted_with_disk (having (kept ∷ new 3 20 false false ∷ []) up) ≡ up_with_disk }
-    ensures unwanted_left { updated wanted (having (active 2 10 false false ∷ []) up) ≡ up }
-    ensures unwanted_left_stopped { updated (wanted_as Stopped) (having (active 2 10 false false ∷ []) at_rest)
+    ensures old_left { updated_row wanted_with_disk (having (old 1 5 false false ∷ kept ∷ []) up) ≡ up_with_disk }
+    ensures new_left { updated_row wanted_with_disk (having (kept ∷ new 3 20 false false ∷ []) up) ≡ up_with_disk }
+    ensures unwanted_left { updated_row wanted (having (active 2 10 false false ∷ []) up) ≡ up }
+    ensures unwanted_left_stopped { updated_row (wanted_as Stopped) (having (active 2 10 false false ∷ []) at_rest)
         ≡ at_rest }
-    ensures detached_kept { updated (wanted_as Detached)
+    ensures detached_kept { updated_row (wanted_as Detached)
         (having (old 1 5 false false ∷ active 2 10 false false ∷ []) absent) ≡ having (active 2 10 false false ∷ [])
         absent }
     ensures left { left_behind wanted_with_disk (having (old 1 5 false false ∷ kept ∷ new 3 20 false false ∷ []) up)

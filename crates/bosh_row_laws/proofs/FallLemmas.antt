@@ -17,7 +17,7 @@ use Rattle.bosh_base.specs.declared.key.KeyWork.{KeyWork}
 use Rattle.bosh_base.specs.declared.row.DiskRow.{DiskRow}
 use Rattle.bosh_base.specs.declared.row.Row.{Row}
 use Rattle.bosh_base.specs.declared.row.Vm as vm
-use Rattle.bosh_rows.specs.After.{after, attach, begun, changing, let_go, mount, unmount, with_disks}
+use Rattle.bosh_rows.specs.After.{after, attach, begun_row, changing, let_go, mount, unmount, with_disks}
 use Rattle.bosh_rows.specs.Disks.{active, coming, is_spare}
 use Rattle.bosh_rows.specs.NextStep.{has_to_go, has_to_stop}
 use Rattle.bosh_rows.specs.Same.{same_make}
@@ -50,7 +50,7 @@ pub record IsLess (want : Option GoalRow) (row new : Row) : Type 0 where
 
 -- the call that begins over the row and is answered
 abbrev pub answered : ℕ → Call → Answer → Row → Row
-answered n call answer row = after n call answer (begun n call row)
+answered n call answer row = after n call answer (begun_row n call row)
 
 abbrev pub Falls : (KeyWork → List Digest → Digest) → Option GoalRow → List Entry → Row → Call → Type 0
 Falls built want effects row call =
@@ -113,15 +113,15 @@ left_resting w row it has stays rests =
 
 -- a row with other disks, of which less is to be done
 pub rested : (w : GoalRow) (row : Row) (it : vm.Vm) (n : ℕ) (call : Call) (disks : List DiskRow) →
-    (with_disks disks (begun n call row)).make ≡ row.make → row.vm ≡ Some it → has_to_go w row it ≡ false →
+    (with_disks disks (begun_row n call row)).make ≡ row.make → row.vm ≡ Some it → has_to_go w row it ≡ false →
     row.running ≡ false → disk_work w.disk disks + 1 ≤ disk_work w.disk row.disks →
-    left_known (Some w) (with_disks disks (begun n call row)) + 1 ≤ left_known (Some w) row
+    left_known (Some w) (with_disks disks (begun_row n call row)) + 1 ≤ left_known (Some w) row
 rested w row it n call disks same has stays rests less =
     let before : left_known (Some w) row ≡ left_at_rest w row = left_resting w row it has stays rests in
-    let later : left_known (Some w) (with_disks disks (begun n call row))
-    ≡ left_at_rest w (with_disks disks (begun n call row)) =
-    left_resting w (with_disks disks (begun n call row)) it has
-    ((λ i. has_to_go w (record (with_disks disks (begun n call row)) { make = same i }) it) ∙ stays) rests in
+    let later : left_known (Some w) (with_disks disks (begun_row n call row))
+    ≡ left_at_rest w (with_disks disks (begun_row n call row)) =
+    left_resting w (with_disks disks (begun_row n call row)) it has
+    ((λ i. has_to_go w (record (with_disks disks (begun_row n call row)) { make = same i }) it) ∙ stays) rests in
     omega arith
 
 -- ---- what a disk needs

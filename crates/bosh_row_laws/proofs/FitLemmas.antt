@@ -12,7 +12,7 @@ use Rattle.bosh_base.specs.declared.row.DiskRow.{DiskRow}
 use Rattle.bosh_base.specs.declared.row.Doubt as doubt
 use Rattle.bosh_base.specs.declared.row.Row.{Row}
 use Rattle.bosh_base.specs.declared.row.Vm as vm
-use Rattle.bosh_rows.specs.After.{bare, begun, leaves_doubt}
+use Rattle.bosh_rows.specs.After.{bare, begun_row, leaves_doubt}
 use Rattle.bosh_rows.specs.CallOf.{next_call}
 use Rattle.bosh_rows.specs.Disks.{is_active, is_spare}
 use Rattle.bosh_rows.specs.Tied.{IsTiedRow}
@@ -25,7 +25,7 @@ use Rattle.bosh_row_laws.specs.SoundDisks.{are_distinct, is_recorded}
 
 -- the call leaves a doubt that fits
 abbrev Fits : Row → Call → Type 0
-Fits row call = (n : ℕ) → leaves_doubt call ≡ true → fits (begun n call row) call ≡ true
+Fits row call = (n : ℕ) → leaves_doubt call ≡ true → fits (begun_row n call row) call ≡ true
 
 machine_is : (row : Row) (it : vm.Vm) → row.vm ≡ Some it → is_machine row.vm it.vm ≡ true
 machine_is row it has = ap (λ v. is_machine v it.vm) has ∙ eq-eqb it.vm it.vm refl
@@ -173,7 +173,7 @@ doubted_fits want row m c (Some it) call next =
     call next (λ n leaves. absurd cc)
 
 pub next_fits : (want : Option GoalRow) (row : Row) (n : ℕ) (call : Call) → are_distinct row.disks ≡ true →
-    next_call want row ≡ Some call → leaves_doubt call ≡ true → fits (begun n call row) call ≡ true
+    next_call want row ≡ Some call → leaves_doubt call ≡ true → fits (begun_row n call row) call ≡ true
 next_fits want row n call distinct next = by_ways row.lost refl row.doubt refl n
   where
     by_ways : (lost : Bool) → row.lost ≡ lost → (d : Option doubt.Doubt) → row.doubt ≡ d → Fits row call

@@ -20,7 +20,7 @@ use Rattle.bosh_base.specs.declared.row.DiskRow.{DiskRow}
 use Rattle.bosh_base.specs.declared.row.Row.{Row}
 use Rattle.bosh_base.specs.declared.row.Vm as vm
 use Rattle.bosh_effect_laws.specs.Orderly.{AreOrderly, is_taken}
-use Rattle.bosh_rows.specs.After.{begun, with_disk, with_machine}
+use Rattle.bosh_rows.specs.After.{begun_row, with_disk, with_machine}
 use Rattle.bosh_rows.specs.CallOf.{next_call}
 use Rattle.bosh_rows.specs.Disks.{active, active_disks, coming, is_active, is_new, is_right, is_spare, least, meets}
 use Rattle.bosh_rows.specs.Tied.{as_done, IsTiedRow, has_facts, is_named_lost, is_spoiled, number_of, without_doubt}
@@ -59,20 +59,20 @@ pub record IsTiedKnown (effects : List Entry) (row : Row) : Type 0 where
 
 -- a call that is in doubt from its beginning on, and had its effect or not
 in_doubt : (effects : List Entry) (row : Row) (n : ℕ) (dep : List ℕ) (call : Call) → IsTiedKnown effects row →
-    IsTiedTo (with_call effects row n dep call) (as_done (with_call effects row n dep call) (begun n call row)) →
-    (begun n call row).lost ≡ row.lost → (begun n call row).vm ≡ row.vm →
-    IsTiedRow (with_call effects row n dep call) (begun n call row)
+    IsTiedTo (with_call effects row n dep call) (as_done (with_call effects row n dep call) (begun_row n call row)) →
+    (begun_row n call row).lost ≡ row.lost → (begun_row n call row).vm ≡ row.vm →
+    IsTiedRow (with_call effects row n dep call) (begun_row n call row)
 in_doubt effects row n dep call it later same_lost same_vm =
-    tied-doubted (with_call effects row n dep call) (begun n call row) (same_lost ∙ it.unlost)
-    (spoiled-same effects (of_row row n dep call) (begun n call row)
+    tied-doubted (with_call effects row n dep call) (begun_row n call row) (same_lost ∙ it.unlost)
+    (spoiled-same effects (of_row row n dep call) (begun_row n call row)
     ∙ (λ i. list_any (is_named_lost effects) (number_of (same_vm i))) ∙ it.unspoiled)
     (inr later)
 
 still_begun : (effects : List Entry) (row : Row) (n : ℕ) (call : Call) → IsTiedKnown effects row →
-    without_doubt (begun n call row) ≡ row → (begun n call row).lost ≡ row.lost → (begun n call row).vm ≡ row.vm →
-    IsTiedRow effects (begun n call row)
+    without_doubt (begun_row n call row) ≡ row → (begun_row n call row).lost ≡ row.lost → (begun_row n call row).vm ≡ row.vm →
+    IsTiedRow effects (begun_row n call row)
 still_begun effects row n call it same same_lost same_vm =
-    tied-doubted effects (begun n call row) (same_lost ∙ it.unlost)
+    tied-doubted effects (begun_row n call row) (same_lost ∙ it.unlost)
     ((λ i. list_any (is_named_lost effects) (number_of (same_vm i))) ∙ it.unspoiled)
     (inl (subst (λ (r : Row). IsTiedTo effects r) (sym same) it.tied))
 
@@ -82,8 +82,8 @@ keeps_as : (built : KeyWork → List Digest → Digest) (effects : List Entry) (
     ((n : ℕ) (dep : List ℕ) → is_taken effects n ≡ false →
     IsTiedRow (with_call effects row n dep call) (answered n call a row)) →
     ((n : ℕ) (dep : List ℕ) → is_taken effects n ≡ false →
-    IsTiedRow (with_call effects row n dep call) (begun n call row)) →
-    ((n : ℕ) → IsTiedRow effects (begun n call row)) → Keeps built effects row call
+    IsTiedRow (with_call effects row n dep call) (begun_row n call row)) →
+    ((n : ℕ) → IsTiedRow effects (begun_row n call row)) → Keeps built effects row call
 keeps_as built effects row call a says takes done doubted undone n dep has_effect answer fresh (inl (is, has)) =
     subst (λ (b : Bool). IsTiedRow (done_with b effects (of_row row n dep call)) (answered n call answer row))
     (sym (has ∙ takes))
@@ -93,7 +93,7 @@ keeps_as built effects row call a says takes done doubted undone n dep has_effec
     subst (λ (it : Answer). IsTiedRow (done_with has_effect effects (of_row row n dep call)) (answered n call it row))
     (sym failed) (by_effect has_effect)
   where
-    by_effect : (b : Bool) → IsTiedRow (done_with b effects (of_row row n dep call)) (begun n call row)
+    by_effect : (b : Bool) → IsTiedRow (done_with b effects (of_row row n dep call)) (begun_row n call row)
     by_effect true = doubted n dep fresh
     by_effect false = undone n
 
@@ -102,8 +102,8 @@ keeps : (built : KeyWork → List Digest → Digest) (effects : List Entry) (row
     ((n : ℕ) (dep : List ℕ) → is_taken effects n ≡ false →
     IsTiedRow (with_call effects row n dep call) (answered n call a row)) →
     ((n : ℕ) (dep : List ℕ) → is_taken effects n ≡ false →
-    IsTiedRow (with_call effects row n dep call) (begun n call row)) →
-    ((n : ℕ) → IsTiedRow effects (begun n call row)) → IsKept built effects row call
+    IsTiedRow (with_call effects row n dep call) (begun_row n call row)) →
+    ((n : ℕ) → IsTiedRow effects (begun_row n call row)) → IsKept built effects row call
 keeps built effects row call a says takes done doubted undone = record {
   keeps = keeps_as built effects row call a says takes done doubted undone;
   here =
@@ -122,10 +122,10 @@ keeps_done : (built : KeyWork → List Digest → Digest) (effects : List Entry)
     IsTiedKnown effects row → answer_of built effects call ≡ unless_gone b answers.Done →
     is_changing (method_of call) ≡ true → b ≡ true →
     ((n : ℕ) (dep : List ℕ) → IsTiedTo (with_call effects row n dep call) (answered n call answers.Done row)) →
-    ((n : ℕ) (dep : List ℕ) → as_done (with_call effects row n dep call) (begun n call row)
+    ((n : ℕ) (dep : List ℕ) → as_done (with_call effects row n dep call) (begun_row n call row)
     ≡ answered n call answers.Done row) →
-    ((n : ℕ) → without_doubt (begun n call row) ≡ record row { doubt = None }) →
-    ((n : ℕ) → (begun n call row).vm ≡ row.vm) → ((n : ℕ) → (answered n call answers.Done row).doubt ≡ None) →
+    ((n : ℕ) → without_doubt (begun_row n call row) ≡ record row { doubt = None }) →
+    ((n : ℕ) → (begun_row n call row).vm ≡ row.vm) → ((n : ℕ) → (answered n call answers.Done row).doubt ≡ None) →
     IsKept built effects row call
 keeps_done built effects row call b it says changing here done as_is same same_vm known =
     keeps built effects row call answers.Done (says ∙ says_done b answers.Done here)
@@ -236,21 +236,21 @@ creates_vm built effects row w hint is none =
     (λ n dep fresh.
     in_doubt effects row n dep (calls.CreateVm w.make hint) is
     (subst (λ (o : Option ℕ). IsTiedTo (with_call effects row n dep (calls.CreateVm w.make hint))
-    (with_machine n o (begun n (calls.CreateVm w.make hint) row)))
+    (with_machine n o (begun_row n (calls.CreateVm w.make hint) row)))
     (sym (found-made_vm effects row w.make hint n dep fresh)) (done n dep)) refl refl)
     (λ n.
-    tied-doubted effects (begun n (calls.CreateVm w.make hint) row) is.unlost is.unspoiled
+    tied-doubted effects (begun_row n (calls.CreateVm w.make hint) row) is.unlost is.unspoiled
     (inl (remade n)))
   where
     done : (n : ℕ) (dep : List ℕ) → IsTiedTo (with_call effects row n dep (calls.CreateVm w.make hint))
         (answered n (calls.CreateVm w.make hint) (answers.Cid (vms_created effects + 1)) row)
     done n dep = make.tied-create_vm effects row w.make hint n dep is.orderly is.tied none
 
-    remade : (n : ℕ) → IsTiedTo effects (without_doubt (begun n (calls.CreateVm w.make hint) row))
+    remade : (n : ℕ) → IsTiedTo effects (without_doubt (begun_row n (calls.CreateVm w.make hint) row))
     remade n = record {
       machines = is.tied.machines;
       facts =
-          ap (has_facts effects (without_doubt (begun n (calls.CreateVm w.make hint) row))) none
+          ap (has_facts effects (without_doubt (begun_row n (calls.CreateVm w.make hint) row))) none
           ∙ sym (ap (has_facts effects row) none) ∙ is.tied.facts;
       kept = is.tied.kept;
       placed = is.tied.placed;
@@ -270,7 +270,7 @@ creates_disk built effects row it wanted is has =
     (λ n dep fresh.
     in_doubt effects row n dep (calls.CreateDisk wanted it.vm) is
     (subst (λ (o : Option ℕ). IsTiedTo (with_call effects row n dep (calls.CreateDisk wanted it.vm))
-    (with_disk n wanted o (begun n (calls.CreateDisk wanted it.vm) row)))
+    (with_disk n wanted o (begun_row n (calls.CreateDisk wanted it.vm) row)))
     (sym (found-made_disk effects row wanted it.vm n dep fresh)) (done n dep)) refl refl)
     (λ n.
     still_begun effects row n (calls.CreateDisk wanted it.vm) is (λ i. record row { doubt = sym is.known i }) refl

@@ -28,7 +28,7 @@ use Rattle.bosh_base.specs.declared.row.Vm as vm
 use Rattle.bosh_effect_laws.proofs.CreationLemmas.{is_vm_there-grown, vm_creation-grown}
 use Rattle.bosh_effect_laws.proofs.HolderLemmas.{held_by_own}
 use Rattle.bosh_effect_laws.specs.Holders.{AreHeldByTheirOwn}
-use Rattle.bosh_rows.specs.After.{begun, with_disk, without_machine}
+use Rattle.bosh_rows.specs.After.{begun_row, with_disk, without_machine}
 use Rattle.bosh_rows.specs.CallOf.{next_call}
 use Rattle.bosh_rows.specs.Same.{same_make, same_want}
 use Rattle.bosh_rows.specs.Tied.{IsTiedRow, is_disk_kept, is_made_for, is_named_lost, is_spoiled, number_of, was_provided}
@@ -73,15 +73,15 @@ deletes built effects row it loose has n dep has_effect answer fresh step = by_s
     disks = record { creates = refl; stays = λ d m. refl }
 
     begun_tied : (b : Bool) →
-        IsTiedRow (done_with b effects (of_row row n dep (calls.DeleteVm it.vm))) (begun n (calls.DeleteVm it.vm) row)
+        IsTiedRow (done_with b effects (of_row row n dep (calls.DeleteVm it.vm))) (begun_row n (calls.DeleteVm it.vm) row)
     begun_tied true =
-        done-tied effects row (begun n (calls.DeleteVm it.vm) row) n dep (calls.DeleteVm it.vm) loose
-        (unchanged row (begun n (calls.DeleteVm it.vm) row) refl refl refl refl)
+        done-tied effects row (begun_row n (calls.DeleteVm it.vm) row) n dep (calls.DeleteVm it.vm) loose
+        (unchanged row (begun_row n (calls.DeleteVm it.vm) row) refl refl refl refl)
         (λ v mine. deleted_mine effects row n dep it.vm v mine)
         (same_kept effects row n dep (calls.DeleteVm it.vm) disks)
     begun_tied false =
-        still-tied effects row (begun n (calls.DeleteVm it.vm) row) loose
-        (unchanged row (begun n (calls.DeleteVm it.vm) row) refl refl refl refl)
+        still-tied effects row (begun_row n (calls.DeleteVm it.vm) row) loose
+        (unchanged row (begun_row n (calls.DeleteVm it.vm) row) refl refl refl refl)
 
     done_weak : IsWeak (with_call effects row n dep (calls.DeleteVm it.vm)) row
     done_weak =
@@ -111,14 +111,14 @@ deletes built effects row it loose has n dep has_effect answer fresh step = by_s
     by_there false gone = by_loss row.lost refl
       where
         by_loss : (lost : Bool) → row.lost ≡ lost → IsTiedRow effects
-            (if lost then without_machine (begun n (calls.DeleteVm it.vm) row)
-            else record (begun n (calls.DeleteVm it.vm) row) { doubt = None })
+            (if lost then without_machine (begun_row n (calls.DeleteVm it.vm) row)
+            else record (begun_row n (calls.DeleteVm it.vm) row) { doubt = None })
         by_loss true is =
             tied-whole effects (without_machine row) refl
             (bare-tied effects row it has loose.weak loose.right.own gone)
         by_loss false is =
-            still-tied effects row (record (begun n (calls.DeleteVm it.vm) row) { doubt = None }) loose
-            (unchanged row (record (begun n (calls.DeleteVm it.vm) row) { doubt = None }) refl refl refl refl)
+            still-tied effects row (record (begun_row n (calls.DeleteVm it.vm) row) { doubt = None }) loose
+            (unchanged row (record (begun_row n (calls.DeleteVm it.vm) row) { doubt = None }) refl refl refl refl)
 
     by_step : CallStep built effects (calls.DeleteVm it.vm) has_effect answer →
         IsTiedRow (done_with has_effect effects (of_row row n dep (calls.DeleteVm it.vm)))
@@ -193,22 +193,22 @@ creates_disk built effects row it wanted loose n dep has_effect answer fresh ste
         }))
 
     begun_tied : (b : Bool) → IsTiedRow (done_with b effects (of_row row n dep (calls.CreateDisk wanted it.vm)))
-        (begun n (calls.CreateDisk wanted it.vm) row)
+        (begun_row n (calls.CreateDisk wanted it.vm) row)
     begun_tied true =
         tied-weak (with_call effects row n dep (calls.CreateDisk wanted it.vm))
-        (begun n (calls.CreateDisk wanted it.vm) row)
-        (marked (begun n (calls.CreateDisk wanted it.vm) row) refl refl)
+        (begun_row n (calls.CreateDisk wanted it.vm) row)
+        (marked (begun_row n (calls.CreateDisk wanted it.vm) row) refl refl)
         (weak-from (with_call effects row n dep (calls.CreateDisk wanted it.vm))
-        (begun n (calls.CreateDisk wanted it.vm) row) (record {
+        (begun_row n (calls.CreateDisk wanted it.vm) row) (record {
           machines = λ v mine. loose.weak.machines v
               (less_mine effects row n dep (calls.CreateDisk wanted it.vm) machines v mine);
           kept =
-              created_kept effects row (begun n (calls.CreateDisk wanted it.vm) row) wanted it.vm n dep refl
+              created_kept effects row (begun_row n (calls.CreateDisk wanted it.vm) row) wanted it.vm n dep refl
               loose.weak.kept;
         }))
     begun_tied false =
-        still-tied effects row (begun n (calls.CreateDisk wanted it.vm) row) loose
-        (unchanged row (begun n (calls.CreateDisk wanted it.vm) row) refl refl refl refl)
+        still-tied effects row (begun_row n (calls.CreateDisk wanted it.vm) row) loose
+        (unchanged row (begun_row n (calls.CreateDisk wanted it.vm) row) refl refl refl refl)
 
     by_there : (b : Bool) →
         IsTiedRow (done_with (true && not (is_gone (unless_gone b (answers.Cid (disks_created effects + 1))))) effects
@@ -216,8 +216,8 @@ creates_disk built effects row it wanted loose n dep has_effect answer fresh ste
         (answered n (calls.CreateDisk wanted it.vm) (unless_gone b (answers.Cid (disks_created effects + 1))) row)
     by_there true = with_new
     by_there false =
-        still-tied effects row (record (begun n (calls.CreateDisk wanted it.vm) row) { doubt = None }) loose
-        (unchanged row (record (begun n (calls.CreateDisk wanted it.vm) row) { doubt = None }) refl refl refl refl)
+        still-tied effects row (record (begun_row n (calls.CreateDisk wanted it.vm) row) { doubt = None }) loose
+        (unchanged row (record (begun_row n (calls.CreateDisk wanted it.vm) row) { doubt = None }) refl refl refl refl)
 
     by_step : CallStep built effects (calls.CreateDisk wanted it.vm) has_effect answer →
         IsTiedRow (done_with has_effect effects (of_row row n dep (calls.CreateDisk wanted it.vm)))

@@ -7,7 +7,7 @@ use Rattle.bosh_base.specs.declared.disk_want.DiskWant.{DiskWant}
 use Rattle.bosh_base.specs.declared.row.DiskRow.{DiskRow}
 use Rattle.bosh_base.specs.declared.row.Role.{Role}
 use Rattle.bosh_base.specs.declared.row.Role.TheVariants.{Active, New, Old}
-use Rattle.bosh_rows.specs.After.{migrated}
+use Rattle.bosh_rows.specs.After.{migrated_disks}
 use Rattle.bosh_rows.specs.Disks.{active, coming, is_active, is_new, is_old, is_right, is_spare_beside, least, meets}
 use Rattle.bosh_row_laws.proofs.ListLemmas.{IsFound, IsIn, active_found, active_none, all_in, least_found, same_disk}
 use Rattle.bosh_row_laws.proofs.NewDiskLemmas.{in-map, map-in, sum_grows}
@@ -33,7 +33,7 @@ map_twice : (f g : DiskRow → DiskRow) (xs : List DiskRow) → map g (map f xs)
 map_twice f g [] = refl
 map_twice f g (x ∷ xs) = ap (λ rest. g (f x) ∷ rest) (map_twice f g xs)
 
-pub migrated-map : (from to : ℕ) (xs : List DiskRow) → migrated from to xs ≡ map (moved from to) xs
+pub migrated-map : (from to : ℕ) (xs : List DiskRow) → migrated_disks from to xs ≡ map (moved from to) xs
 migrated-map from to xs =
     map_twice (λ d. if d.disk == from then as_old d else d) (λ d. if d.disk == to then as_active d else d) xs
 
@@ -263,7 +263,7 @@ left_moved wanted xs old new it two moves d is other = by_number (d.disk == new.
             by_truth false same = refl
 
 pub migrated-falls : (wanted : DiskWant) (xs : List DiskRow) (old new : DiskRow) → IsMigration wanted xs old new →
-    disk_work (Some wanted) (migrated old.disk new.disk xs) + 1 ≤ disk_work (Some wanted) xs
+    disk_work (Some wanted) (migrated_disks old.disk new.disk xs) + 1 ≤ disk_work (Some wanted) xs
 migrated-falls wanted xs old new it =
     let two : AreTwo wanted xs old new = two_of wanted xs old new it.distinct it.was it.wrong it.comes in
     let moves : IsMoved wanted xs old new = is_moved wanted xs old new it two in

@@ -12,7 +12,7 @@ use Rattle.bosh_base.specs.declared.owner.Owner.TheVariants.{Instance}
 use Rattle.bosh_base.specs.declared.row.Doubt as doubt
 use Rattle.bosh_base.specs.declared.row.Row.{Row}
 use Rattle.bosh_effect_laws.specs.Orderly.{is_taken}
-use Rattle.bosh_rows.specs.After.{after, begun}
+use Rattle.bosh_rows.specs.After.{after, begun_row}
 use Rattle.bosh_rows.specs.CallOf.{next_call}
 use Rattle.bosh_rows.specs.Tied.{as_done, IsTiedRow, is_spoiled, is_tied_to, is_tied_to_lost, without_doubt}
 use Rattle.bosh_row_laws.proofs.KnownTieLemmas.{Keeps, known-keeps}
@@ -77,7 +77,7 @@ pub one_call : (built : KeyWork → List Digest → Digest) (want : Option GoalR
     IsRightful effects row → next_call want row ≡ Some call → is_taken effects n ≡ false →
     CallStep built effects call has_effect answer →
     IsTiedRow (done_with has_effect effects (record { n = n; owner = Instance row.inst; dep = dep; call = call }))
-    (after n call answer (begun n call row))
+    (after n call answer (begun_row n call row))
 one_call built want effects row n dep call has_effect answer tied right next fresh step =
     keeps_tie built want effects row tied right call next n dep has_effect answer fresh step
 

@@ -25,7 +25,7 @@ use Rattle.bosh_effect_laws.proofs.CreationLemmas.{vm_creation_next}
 use Rattle.bosh_effect_laws.specs.Holders.{disk_owner, vm_owner}
 use Rattle.bosh_effect_laws.specs.Orderly.{is_taken}
 use Rattle.bosh_rows.proofs.SameLemmas as instances
-use Rattle.bosh_rows.specs.After.{attach, begun, leaves_doubt, let_go, mount, unmount, without_machine}
+use Rattle.bosh_rows.specs.After.{attach, begun_row, leaves_doubt, let_go, mount, unmount, without_machine}
 use Rattle.bosh_rows.specs.Disks.{active_disks}
 use Rattle.bosh_rows.specs.Same.{same_owner}
 use Rattle.bosh_rows.specs.Tied.{is_disk_kept, was_made, was_provided}
@@ -55,7 +55,7 @@ pub record IsPlain (effects : List Entry) (row : Row) : Type 0 where
 -- .. of which a call leaves a doubt that fits
 abbrev pub RightsFit : (KeyWork → List Digest → Digest) → List Entry → Row → Call → Type 0
 RightsFit built effects row call =
-    ((n : ℕ) → leaves_doubt call ≡ true → fits (begun n call row) call ≡ true) → Rights built effects row call
+    ((n : ℕ) → leaves_doubt call ≡ true → fits (begun_row n call row) call ≡ true) → Rights built effects row call
 
 calm : (effects : List Entry) (row new : Row) → IsPlain effects row → new.doubt ≡ None → new.inst ≡ row.inst →
     new.make ≡ row.make → new.vm ≡ row.vm → are_sound new.disks ≡ true → IsCalm effects row new
@@ -179,13 +179,13 @@ deletes built effects row it right sound fit =
     (λ n. by_loss n row.lost)
   where
     by_loss : (n : ℕ) (b : Bool) → IsCalm effects row
-        (if b then without_machine (begun n (calls.DeleteVm it.vm) row)
-        else record (begun n (calls.DeleteVm it.vm) row) { doubt = None })
+        (if b then without_machine (begun_row n (calls.DeleteVm it.vm) row)
+        else record (begun_row n (calls.DeleteVm it.vm) row) { doubt = None })
     by_loss n true =
-        calm_none effects row (without_machine (begun n (calls.DeleteVm it.vm) row)) refl refl
+        calm_none effects row (without_machine (begun_row n (calls.DeleteVm it.vm) row)) refl refl
         (sound-map let_go keeps-let_go row.disks ∙ sound)
     by_loss n false =
-        calm_same effects row (record (begun n (calls.DeleteVm it.vm) row) { doubt = None }) right refl refl refl refl
+        calm_same effects row (record (begun_row n (calls.DeleteVm it.vm) row) { doubt = None }) right refl refl refl refl
         sound
 
 creates_disk : (built : KeyWork → List Digest → Digest) (effects : List Entry) (row : Row) (it : vm.Vm)
@@ -217,7 +217,7 @@ creates_disk built effects row it wanted plain fit =
 
     found_new : (n : ℕ) (dep : List ℕ) (b : Bool) → is_taken effects n ≡ false →
         is_found_new (done_with b effects (of_row row n dep (calls.CreateDisk wanted it.vm)))
-        (begun n (calls.CreateDisk wanted it.vm) row)
+        (begun_row n (calls.CreateDisk wanted it.vm) row)
         ≡ true
     found_new n dep true fresh =
         ap (is_new_disk row.disks) (found-made_disk effects row wanted it.vm n dep fresh) ∙ ap not next
@@ -265,7 +265,7 @@ creates_vm built effects row w hint plain none fit n dep has_effect answer fresh
               has_effect takes)
               fresh refl (fit n refl) refl
               (ap (is_made (done_with has_effect effects (of_row row n dep (calls.CreateVm w.make hint)))
-              (begun n (calls.CreateVm w.make hint) row)) none);
+              (begun_row n (calls.CreateVm w.make hint) row)) none);
           sound = plain.sound;
         })
 

@@ -27,7 +27,7 @@ use Rattle.bosh_base.specs.declared.row.Vm as vm
 use Rattle.bosh_effect_laws.proofs.FollowLemmas.{IsWithin, made}
 use Rattle.bosh_effect_laws.specs.Holders.{AreHeldByTheirOwn, disk_owner}
 use Rattle.bosh_rows.proofs.SameLemmas as instances
-use Rattle.bosh_rows.specs.After.{begun, let_go, with_disk, with_machine, without_machine}
+use Rattle.bosh_rows.specs.After.{begun_row, let_go, with_disk, with_machine, without_machine}
 use Rattle.bosh_rows.specs.Same.{same_owner, same_want}
 use Rattle.bosh_rows.specs.Tied.{as_done, has_no_other_disk, IsTiedRow, is_disk_kept, is_disk_placed, is_made_for, number_of, vms_of, was_made, was_provided, without_doubt}
 use Rattle.bosh_row_laws.proofs.FallLemmas.{answered}
@@ -50,7 +50,7 @@ IsTiedEither effects row = IsTiedTo effects (without_doubt row) ⊎ IsTiedTo eff
 
 -- a call that only asks has no effect, also where it fails
 pub asks_only : (built : KeyWork → List Digest → Digest) (effects : List Entry) (row : Row) (call : Call) →
-    is_changing (method_of call) ≡ false → IsTiedRow effects row → ((n : ℕ) → begun n call row ≡ row) →
+    is_changing (method_of call) ≡ false → IsTiedRow effects row → ((n : ℕ) → begun_row n call row ≡ row) →
     ((n : ℕ) → IsTiedRow effects (answered n call (answer_of built effects call) row)) → Keeps built effects row call
 asks_only built effects row call asks tied same told n dep has_effect answer fresh (inl (is, has)) =
     subst (λ (b : Bool). IsTiedRow (done_with b effects (of_row row n dep call)) (answered n call answer row))
@@ -61,7 +61,7 @@ asks_only built effects row call asks tied same told n dep has_effect answer fre
     (sym failed) (by_effect has_effect may)
   where
     by_effect : (b : Bool) → (b ≡ true → takes_effect built effects call ≡ true) →
-        IsTiedRow (done_with b effects (of_row row n dep call)) (begun n call row)
+        IsTiedRow (done_with b effects (of_row row n dep call)) (begun_row n call row)
     by_effect true may =
         absurd (let none : takes_effect built effects call ≡ false =
         ap (λ b. b && not (is_gone (answer_of built effects call))) asks in

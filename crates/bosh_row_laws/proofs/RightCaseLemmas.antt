@@ -27,7 +27,7 @@ use Rattle.bosh_base.specs.declared.row.Row.{Row}
 use Rattle.bosh_base.specs.declared.row.Vm as vm
 use Rattle.bosh_effect_laws.specs.Orderly.{is_taken}
 use Rattle.bosh_rows.proofs.SameLemmas as instances
-use Rattle.bosh_rows.specs.After.{after, attached_by, begun, let_go, mounted_by, with_disk, with_machine, without_machine}
+use Rattle.bosh_rows.specs.After.{after, attached_by, begun_row, let_go, mounted_by, with_disk, with_machine, without_machine}
 use Rattle.bosh_rows.specs.CallOf.{next_call}
 use Rattle.bosh_rows.specs.Same.{same_make, same_owner}
 use Rattle.bosh_rows.specs.Tied.{IsTiedRow, is_disk_kept, is_spoiled, was_made}
@@ -108,7 +108,7 @@ asks_there built effects row it right sound fit =
 -- a probe that answers unless something is gone
 asks_told : (built : KeyWork → List Digest → Digest) (effects : List Entry) (row : Row) (c : Call) (here : Bool)
     (a : Answer) → is_changing (method_of c) ≡ false → answer_of built effects c ≡ unless_gone here a →
-    IsRightful effects row → are_sound row.disks ≡ true → ((n : ℕ) → begun n c row ≡ row) →
+    IsRightful effects row → are_sound row.disks ≡ true → ((n : ℕ) → begun_row n c row ≡ row) →
     ((n : ℕ) → IsCalm effects row (answered n c a row)) → ((n : ℕ) → IsCalm effects row
     (answered n c answers.Gone row)) →
     RightsFit built effects row c
@@ -298,13 +298,13 @@ pub still_right : (built : KeyWork → List Digest → Digest) (want : Option Go
     IsRightful effects row → are_sound row.disks ≡ true → next_call want row ≡ Some call → is_taken effects n ≡ false →
     CallStep built effects call has_effect answer →
     IsRightful (done_with has_effect effects (record { n = n; owner = Instance row.inst; dep = dep; call = call }))
-    (after n call answer (begun n call row))
+    (after n call answer (begun_row n call row))
 still_right built want effects row n dep call has_effect answer tied right sound next fresh step =
     (stays_right built want effects row tied right sound call next n dep has_effect answer fresh step).right
 
 pub sound_after : (built : KeyWork → List Digest → Digest) (want : Option GoalRow) (effects : List Entry) (row : Row)
     (n : ℕ) (call : Call) (has_effect : Bool) (answer : Answer) → IsTiedRow effects row →
     IsRightful effects row → are_sound row.disks ≡ true → next_call want row ≡ Some call → is_taken effects n ≡ false →
-    CallStep built effects call has_effect answer → are_sound (after n call answer (begun n call row)).disks ≡ true
+    CallStep built effects call has_effect answer → are_sound (after n call answer (begun_row n call row)).disks ≡ true
 sound_after built want effects row n call has_effect answer tied right sound next fresh step =
     (stays_right built want effects row tied right sound call next n [] has_effect answer fresh step).sound

@@ -24,7 +24,7 @@ use Rattle.bosh_effect_laws.proofs.FollowLemmas.{orderly_follows}
 use Rattle.bosh_effect_laws.proofs.HolderLemmas.{held_by_own}
 use Rattle.bosh_effect_laws.specs.Holders.{AreHeldByTheirOwn, JoinsBy}
 use Rattle.bosh_effect_laws.specs.Orderly.{AreOrderly, is_taken}
-use Rattle.bosh_rows.specs.After.{begun}
+use Rattle.bosh_rows.specs.After.{begun_row}
 use Rattle.bosh_rows.specs.Tied.{was_made}
 use Rattle.bosh_row_laws.proofs.FallLemmas.{answered}
 use Rattle.bosh_row_laws.proofs.FoundLemmas.{taken}
@@ -147,14 +147,14 @@ own_effect effects row n dep call fresh false e among same =
 pub right_begun : (effects : List Entry) (row : Row) (n : ℕ) (dep : List ℕ) (call : Call) (b : Bool) →
     AreOrderly (done_with b effects (of_row row n dep call)) →
     AreHeldByTheirOwn (done_with b effects (of_row row n dep call)) → is_taken effects n ≡ false →
-    (begun n call row).doubt ≡ Some (record { n = n; call = call }) → fits (begun n call row) call ≡ true →
-    is_found_new (done_with b effects (of_row row n dep call)) (begun n call row) ≡ true →
-    is_made (done_with b effects (of_row row n dep call)) (begun n call row) (begun n call row).vm ≡ true →
-    IsRightful (done_with b effects (of_row row n dep call)) (begun n call row)
+    (begun_row n call row).doubt ≡ Some (record { n = n; call = call }) → fits (begun_row n call row) call ≡ true →
+    is_found_new (done_with b effects (of_row row n dep call)) (begun_row n call row) ≡ true →
+    is_made (done_with b effects (of_row row n dep call)) (begun_row n call row) (begun_row n call row).vm ≡ true →
+    IsRightful (done_with b effects (of_row row n dep call)) (begun_row n call row)
 right_begun effects row n dep call b orderly own fresh doubts fit new made = record {
   orderly = orderly;
   own = own;
-  fit = ap (is_doubt_fit (begun n call row)) doubts ∙ fit;
+  fit = ap (is_doubt_fit (begun_row n call row)) doubts ∙ fit;
   found_new = new;
   made = made;
   call = λ d e is among same.
@@ -174,10 +174,10 @@ right_begun effects row n dep call b orderly own fresh doubts fit new made = rec
 pub rights : (built : KeyWork → List Digest → Digest) (effects : List Entry) (row : Row) (call : Call) (here : Bool)
     (a : Answer) → IsRightful effects row → are_sound row.disks ≡ true →
     answer_of built effects call ≡ unless_gone here a → creates_vm call ≡ false → JoinsBy effects call →
-    ((n : ℕ) → (begun n call row).doubt ≡ Some (record { n = n; call = call })) →
-    ((n : ℕ) → (begun n call row).make ≡ row.make) → ((n : ℕ) → fits (begun n call row) call ≡ true) →
+    ((n : ℕ) → (begun_row n call row).doubt ≡ Some (record { n = n; call = call })) →
+    ((n : ℕ) → (begun_row n call row).make ≡ row.make) → ((n : ℕ) → fits (begun_row n call row) call ≡ true) →
     ((n : ℕ) (dep : List ℕ) (b : Bool) → is_taken effects n ≡ false →
-    is_found_new (done_with b effects (of_row row n dep call)) (begun n call row) ≡ true) →
+    is_found_new (done_with b effects (of_row row n dep call)) (begun_row n call row) ≡ true) →
     ((n : ℕ) → IsCalm effects row (answered n call a row)) →
     ((n : ℕ) → IsCalm effects row (answered n call answers.Gone row)) → Rights built effects row call
 rights built effects row call here a right sound says makes joins doubts make fit new done gone n dep has_effect answer
@@ -203,11 +203,11 @@ rights built effects row call here a right sound says makes joins doubts make fi
       sound = it.sound;
     }
 
-    same : IsCalm effects row (record (begun n call row) { doubt = None })
-    same = calm_same effects row (record (begun n call row) { doubt = None }) right refl refl (make n) refl sound
+    same : IsCalm effects row (record (begun_row n call row) { doubt = None })
+    same = calm_same effects row (record (begun_row n call row) { doubt = None }) right refl refl (make n) refl sound
 
-    begun_made : IsCalm effects row (record (begun n call row) { doubt = None }) →
-        is_made (done_with has_effect effects (of_row row n dep call)) (begun n call row) (begun n call row).vm ≡ true
+    begun_made : IsCalm effects row (record (begun_row n call row) { doubt = None }) →
+        is_made (done_with has_effect effects (of_row row n dep call)) (begun_row n call row) (begun_row n call row).vm ≡ true
     begun_made it =
         it.made (done_with has_effect effects (of_row row n dep call))
         (done_made effects row n dep call makes has_effect)
@@ -237,7 +237,7 @@ rights built effects row call here a right sound says makes joins doubts make fi
 
 pub asks_right : (built : KeyWork → List Digest → Digest) (effects : List Entry) (row : Row) (call : Call) →
     is_changing (method_of call) ≡ false → IsRightful effects row → are_sound row.disks ≡ true →
-    ((n : ℕ) → begun n call row ≡ row) →
+    ((n : ℕ) → begun_row n call row ≡ row) →
     ((n : ℕ) → IsCalm effects row (answered n call (answer_of built effects call) row)) → Rights built effects row call
 asks_right built effects row call asks right sound same told n dep has_effect answer fresh step =
     subst (λ (b : Bool). IsRightAfter (done_with b effects (of_row row n dep call)) (answered n call answer row))

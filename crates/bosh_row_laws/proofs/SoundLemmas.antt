@@ -6,7 +6,7 @@ use Rattle.std.proofs.lemmas.Bool.{and_parts, and_from, eqb-true, eq-eqb, not-tr
 use Rattle.std.proofs.lemmas.List.Sums.{sum_by_push}
 use Rattle.bosh_base.specs.declared.disk_want.DiskWant.{DiskWant}
 use Rattle.bosh_base.specs.declared.row.DiskRow.{DiskRow}
-use Rattle.bosh_rows.specs.After.{migrated}
+use Rattle.bosh_rows.specs.After.{migrated_disks}
 use Rattle.bosh_rows.specs.Disks.{active, is_active}
 use Rattle.bosh_row_laws.proofs.ListLemmas.{IsIn, active_none}
 use Rattle.bosh_row_laws.proofs.MigrationLemmas.{AreTwo, IsMigration, distinct-map, migrated-map, moved, moved-from, moved-number, moved-other, two_of}
@@ -156,7 +156,7 @@ false_from : (a b : ℕ) → a ≡ b → (a == b) ≡ false → ⊥
 false_from a b same other = let is : (a == b) ≡ true = eq-eqb a b same in cc
 
 pub sound-migrated : (wanted : DiskWant) (xs : List DiskRow) (old new : DiskRow) → IsMigration wanted xs old new →
-    are_sound (migrated old.disk new.disk xs) ≡ true
+    are_sound (migrated_disks old.disk new.disk xs) ≡ true
 sound-migrated wanted xs old new it =
     subst (λ (ys : List DiskRow). are_sound ys ≡ true) (sym (migrated-map old.disk new.disk xs))
     (and_from (are_distinct (map (moved old.disk new.disk) xs)) (has_one_active (map (moved old.disk new.disk) xs))

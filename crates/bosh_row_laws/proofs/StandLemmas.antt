@@ -13,7 +13,7 @@ use Rattle.bosh_base.specs.declared.row.DiskRow.{DiskRow}
 use Rattle.bosh_base.specs.declared.row.Doubt as doubt
 use Rattle.bosh_base.specs.declared.row.Row.{Row}
 use Rattle.bosh_base.specs.declared.row.Vm as vm
-use Rattle.bosh_rows.specs.After.{updated}
+use Rattle.bosh_rows.specs.After.{updated_row}
 use Rattle.bosh_rows.specs.Disks.{active, is_active, is_detached, is_running, least, meets, stays}
 use Rattle.bosh_rows.specs.NextStep.{applying, clearing, creation, disk_step, first_of, has_to_go, has_to_stop, is_disk_settled, is_in_place, known_step, lost_step, machine_step, next_step, on, pausing, plain, removal, spec_differs, starting, tending}
 use Rattle.bosh_rows.specs.Same.{same_make, same_spec}
@@ -215,13 +215,13 @@ settled_disks w row one here settled =
             ∙ and_from (is_active a) (is_in_place wanted a) (active_found a row.disks is).meets placed
 
 pub stands_done : (w : GoalRow) (row : Row) → has_one_active row.disks ≡ true → next_step (Some w) row ≡ None →
-    stands (Some w) (updated w row) ≡ true
+    stands (Some w) (updated_row w row) ≡ true
 stands_done w row one none = by_vm row.vm refl it.none (is_detached w.state) refl
   where
     it : IsQuiet (Some w) row
     it = quiet (Some w) row none
 
-    put_away : row.vm ≡ None → is_put_away (updated w row) ≡ true
+    put_away : row.vm ≡ None → is_put_away (updated_row w row) ≡ true
     put_away has =
         and_from (not (is_some row.doubt)) _ (λ i. not (is_some (it.known i)))
         (and_from (not (is_some row.vm)) _ (λ i. not (is_some (has i)))
@@ -238,7 +238,7 @@ stands_done w row one none = by_vm row.vm refl it.none (is_detached w.state) ref
         (or_parts (not (is_running w.state)) _ (or_parts (spec_differs w row) _ stays_up).1).0
 
     up : (v : vm.Vm) → row.vm ≡ Some v → has_to_go w row v ≡ false → is_detached w.state ≡ false →
-        IsTendedWhole w row → is_up w (updated w row) ≡ true
+        IsTendedWhole w row → is_up w (updated_row w row) ≡ true
     up v has stays_here here tended =
         let first : ((not (option_eq same_make row.make (Some w.make))) ≡ false) ×
         (nat_le v.agent w.fresh_after ≡ false) =
@@ -255,24 +255,24 @@ stands_done w row one none = by_vm row.vm refl it.none (is_detached w.state) ref
         (truth row.running (is_running w.state) (λ runs. runs_wanted (tended.running runs)) tended.idle))) in
         and_from (not (is_some row.doubt)) _ (λ i. not (is_some (it.known i)))
         (and_from (not row.lost) _ (ap not it.unlost)
-        (and_from (has_machine w (updated w row) row.vm) _
-        (ap (has_machine w (updated w row)) has ∙ machine)
+        (and_from (has_machine w (updated_row w row) row.vm) _
+        (ap (has_machine w (updated_row w row)) has ∙ machine)
         (settled_disks w row one here (settled_then w row tended.disks).settled)))
 
     by_vm : (v : Option vm.Vm) → row.vm ≡ v → machine_step (Some w) row v ≡ None → (away : Bool) →
         is_detached w.state ≡ away →
-        (if is_detached w.state then is_put_away (updated w row) else is_up w (updated w row)) ≡ true
+        (if is_detached w.state then is_put_away (updated_row w row) else is_up w (updated_row w row)) ≡ true
     by_vm None has none true is =
-        ap (λ (b : Bool). if b then is_put_away (updated w row) else is_up w (updated w row)) is ∙ put_away has
+        ap (λ (b : Bool). if b then is_put_away (updated_row w row) else is_up w (updated_row w row)) is ∙ put_away has
     by_vm None has none false is =
         absurd (let made : creation w ≡ Some (plain CreateVm) =
         ap (λ (b : Bool). when (not b) (plain CreateVm)) is in cc)
     by_vm (Some v) has none away is = by_way (has_to_go w row v) refl none
       where
         by_way : (b : Bool) → has_to_go w row v ≡ b → (if b then removal row else tending w row) ≡ None →
-            (if is_detached w.state then is_put_away (updated w row) else is_up w (updated w row)) ≡ true
+            (if is_detached w.state then is_put_away (updated_row w row) else is_up w (updated_row w row)) ≡ true
         by_way true goes none = absurd (always_removes row none)
         by_way false goes none =
             let here : is_detached w.state ≡ false = (or_parts (is_detached w.state) _ goes).0 in
-            ap (λ (b : Bool). if b then is_put_away (updated w row) else is_up w (updated w row)) here
+            ap (λ (b : Bool). if b then is_put_away (updated_row w row) else is_up w (updated_row w row)) here
             ∙ up v has goes here (tended_whole w row none)

@@ -25,7 +25,7 @@ use Rattle.bosh_base.specs.declared.row.DiskRow.{DiskRow}
 use Rattle.bosh_base.specs.declared.row.Row.{Row}
 use Rattle.bosh_base.specs.declared.row.Vm as vm
 use Rattle.bosh_effect_laws.proofs.FollowLemmas.{IsWithin, made}
-use Rattle.bosh_rows.specs.After.{attach, attached_by, begun, let_go, mount, mounted_by, unmount, with_disks, with_facts}
+use Rattle.bosh_rows.specs.After.{attach, attached_by, begun_row, let_go, mount, mounted_by, unmount, with_disks, with_facts}
 use Rattle.bosh_rows.specs.CallOf.{next_call}
 use Rattle.bosh_rows.specs.Same.{same_make}
 use Rattle.bosh_rows.specs.Tied.{as_done, IsTiedRow, is_named_lost, is_spoiled, number_of, without_doubt}
@@ -265,7 +265,7 @@ answers_either effects row it has also whole too (inr later) =
 -- what is shown of a call that only asks, and of the one that is the next
 asked : (built : KeyWork → List Digest → Digest) (effects : List Entry) (row : Row) (call : Call) →
     is_changing (method_of call) ≡ false → is_gone (answer_of built effects call) ≡ false → IsTiedRow effects row →
-    ((n : ℕ) → begun n call row ≡ row) →
+    ((n : ℕ) → begun_row n call row ≡ row) →
     ((n : ℕ) → IsTiedRow effects (answered n call (answer_of built effects call) row)) → IsKept built effects row call
 asked built effects row call asks here tied same told =
     record { keeps = asks_only built effects row call asks tied same told; here = here }

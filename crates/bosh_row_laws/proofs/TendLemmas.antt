@@ -14,7 +14,7 @@ use Rattle.bosh_base.specs.declared.row.Role.TheVariants.{Active, New}
 use Rattle.bosh_base.specs.declared.row.Row.{Row}
 use Rattle.bosh_base.specs.declared.row.Vm as vm
 use Rattle.bosh_rows.proofs.DiskLemmas.{has_active}
-use Rattle.bosh_rows.specs.After.{attach, changing, let_go, migrated, mount, new_role, unmount}
+use Rattle.bosh_rows.specs.After.{attach, changing, let_go, migrated_disks, mount, new_role, unmount}
 use Rattle.bosh_rows.specs.Disks.{active, coming, is_active, is_detached, is_new, is_right, is_running, is_spare, is_spare_beside, meets}
 use Rattle.bosh_rows.specs.NextStep.{disk_step, has_to_go, has_to_stop, is_disk_settled, is_in_place, spec_differs}
 use Rattle.bosh_row_laws.proofs.FallLemmas.{IsAsked, IsLess, IsSteady, answered, attach_places, changed-falls, freed, left_resting, let_go_frees, mount_places, placed, rested, sound-changed, spare_of_no_use, unmount_frees}
@@ -403,9 +403,9 @@ replace_migrate w row steady known it wanted old new replaced comes held is n =
       attached = held;
       mounted = is;
     } in
-    let falls : disk_work w.disk (migrated old.disk new.disk row.disks) + 1 ≤ disk_work w.disk row.disks =
+    let falls : disk_work w.disk (migrated_disks old.disk new.disk row.disks) + 1 ≤ disk_work w.disk row.disks =
     subst (λ (want : Option DiskWant).
-    disk_work want (migrated old.disk new.disk row.disks) + 1 ≤ disk_work want row.disks) (sym replaced.wants)
+    disk_work want (migrated_disks old.disk new.disk row.disks) + 1 ≤ disk_work want row.disks) (sym replaced.wants)
     (migrated-falls wanted row.disks old new migration) in
     let rests : row.running ≡ false = replaced_stops w row it wanted old replaced in
     let before : left_known (Some w) row ≡ left_at_rest w row =

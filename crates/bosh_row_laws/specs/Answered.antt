@@ -10,7 +10,7 @@ use Rattle.bosh_base.specs.declared.goal.GoalRow.{GoalRow}
 use Rattle.bosh_base.specs.declared.key.KeyWork.{KeyWork}
 use Rattle.bosh_base.specs.declared.row.Doubt.{Doubt}
 use Rattle.bosh_base.specs.declared.row.Row.{Row}
-use Rattle.bosh_rows.specs.After.{after, begun}
+use Rattle.bosh_rows.specs.After.{after, begun_row}
 use Rattle.bosh_rows.specs.CallOf.{next_call}
 use Rattle.bosh_rows.specs.Tied.{IsTiedRow, is_spoiled}
 use Rattle.bosh_row_laws.specs.Left.{one_if}
@@ -25,7 +25,7 @@ pub record Answered : Type 0 where
 
 -- the row, once the call began and was answered
 abbrev pub row_after : Answered → Row → Row
-row_after it row = after it.n it.call it.answer (begun it.n it.call row)
+row_after it row = after it.n it.call it.answer (begun_row it.n it.call row)
 
 -- The call is that of the next step, is young enough for what is wanted, and is answered as the cloud has it; and the
 -- row is what the cloud has. Where the row is lost its machine may be gone already.

@@ -7,7 +7,7 @@ ghost use Rattle.bosh_base.specs.declared.entry.Entry.{Entry};
 ghost use Rattle.bosh_base.specs.declared.goal.GoalRow.{GoalRow};
 ghost use Rattle.bosh_base.specs.declared.key.KeyWork.{KeyWork};
 ghost use Rattle.bosh_base.specs.declared.row.Row.{Row};
-ghost use Rattle.bosh_rows.specs.After.{after, updated};
+ghost use Rattle.bosh_rows.specs.After.{after, updated_row};
 ghost use Rattle.bosh_rows.specs.NextStep.{next_step};
 ghost use Rattle.bosh_rows.specs.Standing.{IsStanding};
 ghost use Rattle.bosh_row_laws.specs.Answered.{Answered, AreAnswered, IsAnswered, has_room_for_disks, row_after};
@@ -44,7 +44,7 @@ pub fn the_steps_end()
 #[tactic(auto, using(crate::proofs::StandLemmas::stands_done, crate::proofs::StandLemmas::nothing_asked, crate::proofs::StandLemmas::nothing_there))]
 pub fn a_row_without_a_step_stands()
     ensures done { (want : GoalRow) (row : Row) → has_one_active row.disks ≡ true → next_step (Some want) row ≡ None →
-        IsStanding (Some want) (updated want row) }
+        IsStanding (Some want) (updated_row want row) }
     ensures no_doubt { (row : Row) → next_step None row ≡ None → row.doubt ≡ None }
     ensures no_machine { (row : Row) → next_step None row ≡ None → row.vm ≡ None }
 {}

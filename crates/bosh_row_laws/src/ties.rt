@@ -13,7 +13,7 @@ ghost use Rattle.bosh_base.specs.declared.entry.Entry.TheVariants.{Effect};
 ghost use Rattle.bosh_base.specs.declared.row.Doubt as doubt;
 ghost use Rattle.bosh_base.specs.declared.row.Row.{Row};
 ghost use Rattle.bosh_effect_laws.specs.Orderly.{AreOrderly, is_taken};
-ghost use Rattle.bosh_rows.specs.After.{after, bare, begun, leaves_doubt};
+ghost use Rattle.bosh_rows.specs.After.{after, bare, begun_row, leaves_doubt};
 ghost use Rattle.bosh_rows.specs.CallOf.{next_call};
 ghost use Rattle.bosh_rows.specs.Tied.{as_done, IsTiedRow, is_spoiled, is_tied_to, without_doubt};
 ghost use Rattle.bosh_row_laws.specs.Rightful.{IsRightful, done_with, fits};
@@ -31,7 +31,7 @@ pub fn one_call_keeps_a_tie()
         IsTiedRow effects row → IsRightful effects row → next_call want row ≡ Some call →
         is_taken effects n ≡ false → CallStep built effects call has_effect answer →
         IsTiedRow (done_with has_effect effects (record { n = n; owner = Instance row.inst; dep = dep; call = call }))
-        (after n call answer (begun n call row)) }
+        (after n call answer (begun_row n call row)) }
 {}
 
 /// .. and it leaves a row that is rightful, in which no disk stands twice and at most one is active, where that was so
@@ -44,13 +44,13 @@ pub fn one_call_keeps_a_row_rightful()
         CallStep built effects call has_effect answer →
         IsRightful
         (done_with has_effect effects (record { n = n; owner = Instance row.inst; dep = dep; call = call }))
-        (after n call answer (begun n call row)) }
+        (after n call answer (begun_row n call row)) }
     ensures sound { (built : KeyWork → List Digest → Digest) (want : Option GoalRow) (effects : List Entry)
         (row : Row) (n : ℕ) (call : Call) (has_effect : Bool) (answer : Answer) →
         IsTiedRow effects row → IsRightful effects row → are_sound row.disks ≡ true →
         next_call want row ≡ Some call → is_taken effects n ≡ false →
         CallStep built effects call has_effect answer →
-        are_sound (after n call answer (begun n call row)).disks ≡ true }
+        are_sound (after n call answer (begun_row n call row)).disks ≡ true }
 {}
 
 /// The call of a next step of a row that is neither lost nor spoiled is never answered that something is gone.
@@ -66,7 +66,7 @@ pub fn what_a_call_names_is_there()
 #[tactic(auto, using(crate::proofs::FitLemmas::next_fits))]
 pub fn a_call_leaves_a_doubt_that_fits()
     ensures { (want : Option GoalRow) (row : Row) (n : ℕ) (call : Call) → are_distinct row.disks ≡ true →
-        next_call want row ≡ Some call → leaves_doubt call ≡ true → fits (begun n call row) call ≡ true }
+        next_call want row ≡ Some call → leaves_doubt call ≡ true → fits (begun_row n call row) call ≡ true }
 {}
 
 /// A row that is tied without its doubt is tied as the call in doubt leaves it, once that call took effect.

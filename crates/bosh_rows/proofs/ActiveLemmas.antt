@@ -12,7 +12,7 @@ use Rattle.bosh_base.specs.declared.disk_want.DiskWant.{DiskWant}
 use Rattle.bosh_base.specs.declared.row.DiskRow.{DiskRow}
 use Rattle.bosh_base.specs.declared.row.Doubt.{Doubt}
 use Rattle.bosh_base.specs.declared.row.Row.{Row}
-use Rattle.bosh_rows.specs.After.{after, attach, mount, unmount, let_go, attached_by, mounted_by, changing, migrated, new_role, with_disk, with_found}
+use Rattle.bosh_rows.specs.After.{after, attach, mount, unmount, let_go, attached_by, mounted_by, changing, migrated_disks, new_role, with_disk, with_found}
 use Rattle.bosh_rows.specs.Disks.{is_active}
 use Rattle.bosh_rows.specs.Told.{active_number, disk_made, disk_told, first_number, is_migration, CanMigrate}
 
@@ -99,12 +99,12 @@ abbrev only_active : ℕ → List DiskRow → Bool
 only_active from disks = list_all (λ d. not (is_active d) || d.disk == from) disks
 
 active_of_migrated : (from to : ℕ) (disks : List DiskRow) → (from == to) ≡ false → only_active from disks ≡ true
-    → active_number (migrated from to disks) ≡ (if list_any (λ d. d.disk == to) disks then Some to else None)
+    → active_number (migrated_disks from to disks) ≡ (if list_any (λ d. d.disk == to) disks then Some to else None)
 active_of_migrated from to [] other only = refl
 active_of_migrated from to (d ∷ disks) other only =
     grind (arith, eqb_tells d.disk to, eqb_tells d.disk from, eqb_tells from to, active_of_migrated from to disks other)
 
 pub active_migrated : (from to : ℕ) (disks : List DiskRow) → CanMigrate from to disks
-    → active_number (migrated from to disks) ≡ Some to
+    → active_number (migrated_disks from to disks) ≡ Some to
 active_migrated from to disks can =
     active_of_migrated from to disks can.other can.only ∙ ap (λ b. if b then Some to else None) can.is_there

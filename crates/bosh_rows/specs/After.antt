@@ -46,8 +46,8 @@ make_asked (CreateVm make disks) old = Some make
 make_asked call old = old
 
 -- the row, once the call n began
-abbrev pub begun : ℕ → Call → Row → Row
-begun n call row = record row {
+abbrev pub begun_row : ℕ → Call → Row → Row
+begun_row n call row = record row {
   make = make_asked call row.make;
   doubt = if leaves_doubt call then Some (record { n = n; call = call }) else row.doubt;
 }
@@ -126,45 +126,45 @@ with_found tag found (Some d) row = by_call d.call
 with_found tag found None row = row
 
 -- the contents were moved
-abbrev pub migrated : ℕ → ℕ → List DiskRow → List DiskRow
-migrated from to disks =
+abbrev pub migrated_disks : ℕ → ℕ → List DiskRow → List DiskRow
+migrated_disks from to disks =
     changing to (λ d. record d { role = Active }) (changing from (λ d. record d { role = Old }) disks)
 
 -- an answer that tells what there is; one that is not of the call's kind tells nothing
-abbrev pub told : ℕ → Call → Answer → Row → Row
-told n (CreateVm make disks) (answers.Cid v) row = with_machine n (Some v) row
-told n (FindVm agent) (answers.Found found) row = with_machine agent found row
-told n (DeleteVm vm) answers.Done row = without_machine row
-told n (HasVm vm) answers.No row = without_machine row
-told n (HasVm vm) answers.Yes row = record row { doubt = None }
-told n (CreateDisk wanted vm) (answers.Cid d) row = with_disk n wanted (Some d) row
-told n (FindDisk tag) (answers.Found found) row = with_found tag found row.doubt row
-told n (AttachDisk vm d) answers.Done row = with_disks (changing d attach row.disks) row
-told n (DetachDisk vm d) answers.Done row = with_disks (changing d let_go row.disks) row
-told n (GetDisks vm) (answers.Disks numbers) row = with_disks (map (attached_by numbers) row.disks) row
-told n (MountDisk vm d) answers.Done row = with_disks (changing d mount row.disks) row
-told n (UnmountDisk vm d) answers.Done row = with_disks (changing d unmount row.disks) row
-told n (ListDisk vm) (answers.Disks numbers) row = with_disks (map (mounted_by numbers) row.disks) row
-told n (MigrateDisk vm from to) answers.Done row = record row { disks = migrated from to row.disks }
-told n (Apply vm spec) answers.Done row = record row { spec = Some spec; doubt = None }
-told n (Start vm) answers.Done row = record row { running = true; drained = false; doubt = None }
-told n (Drain vm) answers.Done row = record row { drained = true; doubt = None }
-told n (Stop vm) answers.Done row = record row { running = false; doubt = None }
-told n (GetState vm) (answers.Facts spec running drained) row = with_facts spec running drained row
-told n call answer row = row
+abbrev pub row_by_answer : ℕ → Call → Answer → Row → Row
+row_by_answer n (CreateVm make disks) (answers.Cid v) row = with_machine n (Some v) row
+row_by_answer n (FindVm agent) (answers.Found found) row = with_machine agent found row
+row_by_answer n (DeleteVm vm) answers.Done row = without_machine row
+row_by_answer n (HasVm vm) answers.No row = without_machine row
+row_by_answer n (HasVm vm) answers.Yes row = record row { doubt = None }
+row_by_answer n (CreateDisk wanted vm) (answers.Cid d) row = with_disk n wanted (Some d) row
+row_by_answer n (FindDisk tag) (answers.Found found) row = with_found tag found row.doubt row
+row_by_answer n (AttachDisk vm d) answers.Done row = with_disks (changing d attach row.disks) row
+row_by_answer n (DetachDisk vm d) answers.Done row = with_disks (changing d let_go row.disks) row
+row_by_answer n (GetDisks vm) (answers.Disks numbers) row = with_disks (map (attached_by numbers) row.disks) row
+row_by_answer n (MountDisk vm d) answers.Done row = with_disks (changing d mount row.disks) row
+row_by_answer n (UnmountDisk vm d) answers.Done row = with_disks (changing d unmount row.disks) row
+row_by_answer n (ListDisk vm) (answers.Disks numbers) row = with_disks (map (mounted_by numbers) row.disks) row
+row_by_answer n (MigrateDisk vm from to) answers.Done row = record row { disks = migrated_disks from to row.disks }
+row_by_answer n (Apply vm spec) answers.Done row = record row { spec = Some spec; doubt = None }
+row_by_answer n (Start vm) answers.Done row = record row { running = true; drained = false; doubt = None }
+row_by_answer n (Drain vm) answers.Done row = record row { drained = true; doubt = None }
+row_by_answer n (Stop vm) answers.Done row = record row { running = false; doubt = None }
+row_by_answer n (GetState vm) (answers.Facts spec running drained) row = with_facts spec running drained row
+row_by_answer n call answer row = row
 
 -- What a call names is not there. A ping then finds the machine lost; the deletion of a lost machine is as good as
 -- done; any other call had no effect.
-abbrev pub gone : Call → Row → Row
-gone (Ping vm) row = record row { lost = true }
-gone (DeleteVm vm) row = if row.lost then without_machine row else record row { doubt = None }
-gone call row = record row { doubt = None }
+abbrev pub row_at_gone : Call → Row → Row
+row_at_gone (Ping vm) row = record row { lost = true }
+row_at_gone (DeleteVm vm) row = if row.lost then without_machine row else record row { doubt = None }
+row_at_gone call row = record row { doubt = None }
 
 -- the row, once the call n was answered; a failure tells nothing
 abbrev pub after : ℕ → Call → Answer → Row → Row
 after n call answers.Failed row = row
-after n call answers.Gone row = gone call row
-after n call answer row = told n call answer row
+after n call answers.Gone row = row_at_gone call row
+after n call answer row = row_by_answer n call answer row
 
 -- Only what is new in a row asks for memory: a disk, a spec, and the facts of a machine.
 abbrev pub asks_for_memory : Call → Answer → Bool
@@ -177,8 +177,8 @@ asks_for_memory call answer = false
 -- ---- an update is done
 
 -- the disks that stay with the instance
-abbrev pub updated : GoalRow → Row → Row
-updated want row = record row { disks = filter (stays want) row.disks }
+abbrev pub updated_row : GoalRow → Row → Row
+updated_row want row = record row { disks = filter (stays want) row.disks }
 
 -- those that are orphaned
 abbrev pub left_behind : GoalRow → Row → List DiskRow

@@ -8,16 +8,16 @@ use Rattle.bosh_rows.specs.declared.disk_change.Change.TheVariants.{Attach, LetG
 use Rattle.bosh_rows.specs.declared.disk_change.DiskChange.{DiskChange}
 use Rattle.bosh_rows.specs.declared.disk_change.DiskChange.TheVariants.{Each, One, AttachedBy, MountedBy}
 
-abbrev pub changed : Change → DiskRow → DiskRow
-changed Attach d = attach d
-changed LetGo d = let_go d
-changed Mount d = mount d
-changed Unmount d = unmount d
-changed BecomeActive d = record d { role = roles.Active }
-changed BecomeOld d = record d { role = roles.Old }
+abbrev pub changed_disk : Change → DiskRow → DiskRow
+changed_disk Attach d = attach d
+changed_disk LetGo d = let_go d
+changed_disk Mount d = mount d
+changed_disk Unmount d = unmount d
+changed_disk BecomeActive d = record d { role = roles.Active }
+changed_disk BecomeOld d = record d { role = roles.Old }
 
 abbrev pub disk_after : DiskChange → DiskRow → DiskRow
-disk_after (Each change) d = changed change d
-disk_after (One number change) d = if d.disk == number then changed change d else d
+disk_after (Each change) d = changed_disk change d
+disk_after (One number change) d = if d.disk == number then changed_disk change d else d
 disk_after (AttachedBy numbers) d = attached_by numbers.now d
 disk_after (MountedBy numbers) d = mounted_by numbers.now d

@@ -1,7 +1,7 @@
 //! What an answer leaves of what is recorded of an instance.
 ghost use Rattle.std.specs.Prelude.{◌≡◌, ℕ, false, None, Some, IsOk, OnOk, OnErr, map};
 ghost use Rattle.bosh_base.specs.declared.answer.Answer.TheVariants as answers;
-ghost use Rattle.bosh_rows.specs.After.{after, asks_for_memory, gone, migrated, new_role, told, with_disk, with_disks, with_facts, with_found, with_machine, without_machine};
+ghost use Rattle.bosh_rows.specs.After.{after, asks_for_memory, migrated_disks, new_role, row_at_gone, row_by_answer, with_disk, with_disks, with_facts, with_found, with_machine, without_machine};
 ghost use Rattle.bosh_rows.specs.DiskChange.{disk_after};
 
 use crate::RowFault;
@@ -81,7 +81,7 @@ fn with_disk(row: &mut Row, disk: u64, tag: u64, want: DiskWant) -> Result<(), R
 
 // What the call n made has this number.
 fn with_made(alloc: Global, row: &mut Row, n: u64, call: &Call, number: u64) -> Result<(), RowFault>
-    ensures ok { OnOk result (row.new ≡ told n call.now (answers.Cid number) row.old) }
+    ensures ok { OnOk result (row.new ≡ row_by_answer n call.now (answers.Cid number) row.old) }
     ensures err { OnErr result (row.new ≡ row.old) }
     ensures succeeds { asks_for_memory call.now (answers.Cid number) ≡ false → IsOk result }
 {
@@ -126,7 +126,7 @@ fn with_found_disk(
 
 // What a call looked for is there, with this number, or is not there.
 fn with_found(alloc: Global, row: &mut Row, call: &Call, found: Option<u64>) -> Result<(), RowFault>
-    ensures ok { OnOk result ((n : ℕ) → row.new ≡ told n call.now (answers.Found found) row.old) }
+    ensures ok { OnOk result ((n : ℕ) → row.new ≡ row_by_answer n call.now (answers.Found found) row.old) }
     ensures err { OnErr result (row.new ≡ row.old) }
     ensures succeeds { asks_for_memory call.now (answers.Found found) ≡ false → IsOk result }
 {
@@ -140,7 +140,7 @@ fn with_found(alloc: Global, row: &mut Row, call: &Call, found: Option<u64>) -> 
 
 // The machine has just these disks attached, or mounted.
 fn with_listed(alloc: Global, row: &mut Row, call: &Call, numbers: &[u64])
-    ensures { (n : ℕ) → row.new ≡ told n call.now (answers.Disks numbers.now) row.old }
+    ensures { (n : ℕ) → row.new ≡ row_by_answer n call.now (answers.Disks numbers.now) row.old }
 {
     match call {
         Call::GetDisks { .. } => change_disks(alloc, row, DiskChange::AttachedBy(numbers)),
@@ -178,7 +178,7 @@ fn with_spec(alloc: Global, row: &mut Row, spec: &Spec) -> Result<(), RowFault>
 
 // The contents were moved.
 fn migrate(alloc: Global, row: &mut Row, from: u64, to: u64)
-    ensures { row.new ≡ record row.old { disks = migrated from to row.old.disks } }
+    ensures { row.new ≡ record row.old { disks = migrated_disks from to row.old.disks } }
 {
     DiskChange::One(from, Change::BecomeOld).make(alloc, &mut row.disks);
     DiskChange::One(to, Change::BecomeActive).make(alloc, &mut row.disks);
@@ -194,7 +194,7 @@ fn with_jobs(row: &mut Row, running: bool, drained: bool)
 }
 
 fn with_done(alloc: Global, row: &mut Row, call: &Call) -> Result<(), RowFault>
-    ensures ok { OnOk result ((n : ℕ) → row.new ≡ told n call.now answers.Done row.old) }
+    ensures ok { OnOk result ((n : ℕ) → row.new ≡ row_by_answer n call.now answers.Done row.old) }
     ensures err { OnErr result (row.new ≡ row.old) }
     ensures succeeds { asks_for_memory call.now answers.Done ≡ false → IsOk result }
 {
@@ -231,7 +231,7 @@ fn with_done(alloc: Global, row: &mut Row, call: &Call) -> Result<(), RowFault>
 }
 
 fn with_gone(alloc: Global, row: &mut Row, call: &Call)
-    ensures { row.new ≡ gone call.now row.old }
+    ensures { row.new ≡ row_at_gone call.now row.old }
 {
     match call {
         Call::Ping { .. } => row.lost = true,

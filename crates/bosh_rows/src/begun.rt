@@ -1,5 +1,5 @@
 ghost use Rattle.std.specs.Prelude.{◌≡◌, false, IsOk, OnOk, OnErr};
-ghost use Rattle.bosh_rows.specs.After.{bare, begun, leaves_doubt};
+ghost use Rattle.bosh_rows.specs.After.{bare, begun_row, leaves_doubt};
 
 use crate::RowFault;
 use crate::place::put;
@@ -26,7 +26,7 @@ pub fn bare(alloc: Global, inst: Inst) -> Row
 /// What is recorded of an instance, once the call `n` began: a changing call is in doubt until it is answered, but for
 /// a migration, and the creation of a machine tells what it is made from.
 pub fn begin(alloc: Global, row: &mut Row, n: u64, call: &Call) -> Result<(), RowFault>
-    ensures ok { OnOk result (row.new ≡ begun n call.now row.old) }
+    ensures ok { OnOk result (row.new ≡ begun_row n call.now row.old) }
     ensures err { OnErr result (row.new ≡ row.old) }
     ensures succeeds { leaves_doubt call.now ≡ false → IsOk result }
 {

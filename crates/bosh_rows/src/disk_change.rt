@@ -16,10 +16,10 @@ pub(crate) enum Change {
 }
 
 impl Change {
-    ghost use Rattle.bosh_rows.specs.DiskChange.{changed};
+    ghost use Rattle.bosh_rows.specs.DiskChange.{changed_disk};
 
     fn make(self, disk: &mut DiskRow)
-        ensures { disk.new ≡ changed self disk.old }
+        ensures { disk.new ≡ changed_disk self disk.old }
     {
         match self {
             Change::Attach => disk.attached = true,

@@ -1,5 +1,5 @@
 ghost use Rattle.std.specs.Prelude.{◌≡◌, ◌∷◌, [], ◌++◌, IfOk, OnErr, OnOk, filter};
-ghost use Rattle.bosh_rows.specs.After.{bare, left_behind, updated};
+ghost use Rattle.bosh_rows.specs.After.{bare, left_behind, updated_row};
 ghost use Rattle.bosh_rows.specs.Disks.{stays};
 ghost use Rattle.bosh_rows.specs.Standing.{same_truth};
 
@@ -50,7 +50,7 @@ fn disks_where(
 /// given back, are orphaned.
 pub fn update_done(alloc: Global, row: &mut Row, want: &GoalRow) -> Result<Seq<DiskRow>, RowFault>
     ensures left { IfOk result (λ left. left ≡ left_behind want.now row.old) }
-    ensures ok { OnOk result (row.new ≡ updated want.now row.old) }
+    ensures ok { OnOk result (row.new ≡ updated_row want.now row.old) }
     ensures err { OnErr result (row.new ≡ row.old) }
 {
     let kept = disks_where(alloc, row.disks.as_slice(), want, true)?;

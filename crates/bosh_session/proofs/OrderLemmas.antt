@@ -10,7 +10,7 @@ use Rattle.bosh_session.specs.declared.together.Running as running
 use Rattle.bosh_transcript.proofs.CarryLemmas.{answers_nothing, for_after, part_after}
 use Rattle.bosh_transcript.proofs.ReplyLemmas.{answered_append, answers_up_to}
 use Rattle.bosh_transcript.specs.Carried.{AnswersAny, AnswersFor, AnswersPart, AnswersSome}
-use Rattle.bosh_transcript.specs.Replies.{answered}
+use Rattle.bosh_transcript.specs.Replies.{answered_commands}
 use Rattle.bosh_transcript.specs.Shared.{Shares}
 use Rattle.bosh_transcript.specs.declared.status.Status.{Status}
 use Rattle.bosh_transcript.specs.declared.status.Status.TheVariants.{Memory}
@@ -60,8 +60,8 @@ pub shares_some : {O : Type 0} (written : O → Option (List ℕ)) (faults : O �
     (o p q : O) (fails : Bool) (status : Status) → Shares written faults commands [] running a b o p fails →
     AnswersSome written faults running b c p q status → AnswersSome written faults commands a c o q status
 shares_some written faults commands running a b c o p q fails status x y =
-    let ax : List ℕ = answered x.replies in
-    let ay : List ℕ = answered y.replies in
+    let ax : List ℕ = answered_commands x.replies in
+    let ay : List ℕ = answered_commands y.replies in
     record {
       replies = x.replies ++ y.replies;
       left = y.left;

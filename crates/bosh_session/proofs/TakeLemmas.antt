@@ -2,7 +2,7 @@
 use Rattle.std.proofs.Common.{◌≡◌, ℕ, ◌-◌, ◌<◌, ◌≤◌, ◌||◌, Bool, List, ◌∷◌, [], ◌++◌, Option, None, Some, arith, length, refl, sym, subst, append-nil}
 use Rattle.std.proofs.lemmas.List.{length-append}
 use Rattle.bosh_base.specs.declared.moves.Move.{Move}
-use Rattle.bosh_input.specs.Ended.{View, judged}
+use Rattle.bosh_input.specs.Ended.{View, bounded_request}
 use Rattle.bosh_input.specs.declared.input.Ended.{Ended}
 use Rattle.bosh_input.specs.declared.request.Request as request
 use Rattle.bosh_transcript.proofs.EndLemmas.{over_at_end, over_by_event, over_in_turn}
@@ -27,7 +27,7 @@ way_taken left read_faults written write_faults source_before s t u out_before o
     way_more left read_faults written write_faults source_before s t u out_before o p a b c next.command moves after fails failed
     way next.was_open next.next (next.reads source_before (requests_of way.turns) way.reads)
     (subst
-    (λ (k : ℕ). Carries left read_faults written write_faults (extent_of (judged next.command).asked) k b c t u moves after o p failed)
+    (λ (k : ℕ). Carries left read_faults written write_faults (extent_of (bounded_request next.command).asked) k b c t u moves after o p failed)
     next.number
     (subst
     (λ (r : request.Request). Carries left read_faults written write_faults (extent_of r.asked) taken.number b c t u moves after o p failed)
@@ -45,7 +45,7 @@ over_taken left read_faults written write_faults source_before s t u out_before 
     over_in_turn left read_faults written write_faults source_before s t u out_before o p a b c next.command moves after fails status
     way next.was_open next.next (next.reads source_before (requests_of way.turns) way.reads)
     (subst
-    (λ (k : ℕ). CarriesUpTo left read_faults written write_faults (extent_of (judged next.command).asked) k b c t u moves after o p status)
+    (λ (k : ℕ). CarriesUpTo left read_faults written write_faults (extent_of (bounded_request next.command).asked) k b c t u moves after o p status)
     next.number
     (subst
     (λ (r : request.Request). CarriesUpTo left read_faults written write_faults (extent_of r.asked) taken.number b c t u moves after o p status)

@@ -9,7 +9,7 @@ use Rattle.std.proofs.lemmas.Map.Text.{btree_map_updates_str}
 use Rattle.std.proofs.lemmas.Slice.Eq.{bytes_eq-Decides}
 use denote.Ref.{Bor}
 use Rattle.bosh_base.specs.declared.offer.DepOffers.{DepOffers}
-use Rattle.bosh_links.specs.Candidate.{offered}
+use Rattle.bosh_links.specs.Candidate.{offered_provider}
 use Rattle.bosh_links.specs.Table.{AreOf}
 use Rattle.bosh_links.specs.declared.candidates.Candidates.{Candidates}
 use Rattle.bosh_share.specs.Directory.{AreThose, IsDirectory, candidates_at}
@@ -54,7 +54,7 @@ none_there (Some k) (Some c) n h = absurd (cc)
 
 -- what another deployment offers is added
 pub IsDirectory-put : (before : List DepOffers) (d : DepOffers) (name : List ℕ) (m n : BTreeMap (Bor (List ℕ)) Candidates) (candidates : Candidates)
-    → name ≡ d.dep → is_some (candidates_at m name) ≡ false → AreOf (map offered d.offers) candidates
+    → name ≡ d.dep → is_some (candidates_at m name) ≡ false → AreOf (map offered_provider d.offers) candidates
     → UpdatesBy (λ x y. slice_cmp nat_cmp x.now y.now) (λ k. slice_cmp nat_cmp name k.now) m n (Some candidates) → IsDirectory before m → IsDirectory (before ++ d ∷ []) n
 IsDirectory-put before d name m n candidates same absent those updates h = λ key.
     let now : candidates_at n key ≡ cond (bytes_eq name key) (Some candidates) (candidates_at m key) = btree_map_updates_str name m n (Some candidates) updates key in

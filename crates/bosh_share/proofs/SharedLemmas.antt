@@ -2,7 +2,7 @@
 use Rattle.std.proofs.Common.{◌≡◌, List, Option, Some, None, Result, Ok, Err, map, refl, ap, inl, inr}
 use Rattle.bosh_base.specs.declared.link.Tie.{Tie}
 use Rattle.bosh_base.specs.declared.offer.DepOffers.{DepOffers}
-use Rattle.bosh_links.specs.Candidate.{offered}
+use Rattle.bosh_links.specs.Candidate.{offered_provider}
 use Rattle.bosh_links.specs.Links as links
 use Rattle.bosh_links.specs.Table.{AreOf}
 use Rattle.bosh_links.specs.declared.candidates.Candidates.{Candidates}
@@ -23,7 +23,7 @@ shared-answers (Err fault) answer (inr t) = inr (ap shared_answer t)
 pub among-those : (found : Option DepOffers) (candidates : Candidates) (a : Across) (result : Result (Option Tie) ShareFault) → AreThose found (Some candidates)
     → ((ps : List Provider) → AreOf ps candidates → IsAnswer result (shared_answer (links.outcome ps (consumer_of a)))) → IsAnswer result (outcome_in found a)
 among-those None candidates a result h answers = absurd h
-among-those (Some known) candidates a result h answers = answers (map offered known.offers) h
+among-those (Some known) candidates a result h answers = answers (map offered_provider known.offers) h
 
 pub not-there : (found : Option DepOffers) → AreThose found None → None ≡ found
 not-there None h = refl

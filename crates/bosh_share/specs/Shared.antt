@@ -3,7 +3,7 @@ use Rattle.std.specs.Prelude.{◌≡◌, ◌⊎◌, ℕ, List, Option, None, Som
 use Rattle.std.specs.Str.{bytes_eq}
 use Rattle.bosh_base.specs.declared.link.Tie.{Tie}
 use Rattle.bosh_base.specs.declared.offer.DepOffers.{DepOffers}
-use Rattle.bosh_links.specs.Candidate.{offered}
+use Rattle.bosh_links.specs.Candidate.{offered_provider}
 use Rattle.bosh_links.specs.Links.{all_tied, outcome}
 use Rattle.bosh_links.specs.declared.consumer.Consumer.{Consumer}
 use Rattle.bosh_links.specs.declared.consumer.Source.{Source}
@@ -15,12 +15,12 @@ use Rattle.bosh_share.specs.declared.fault.ShareFault.{ShareFault}
 use Rattle.bosh_share.specs.declared.fault.ShareFault.TheVariants.{NoDeployment, NotShared, NoProvider, Ambiguous, TypeDiffers, Memory}
 
 -- where a consumer's provider is sought: under a name, or among those of its type
-abbrev pub sought : Option (List ℕ) → Source
-sought None = Implicit
-sought (Some name) = Named name
+abbrev pub source_of : Option (List ℕ) → Source
+source_of None = Implicit
+source_of (Some name) = Named name
 
 abbrev pub consumer_of : Across → Consumer
-consumer_of a = record { joint = a.consumer; kind = a.kind; optional = a.optional; from = sought a.from }
+consumer_of a = record { joint = a.consumer; kind = a.kind; optional = a.optional; from = source_of a.from }
 
 -- the refusals are those of links within a deployment; an unknown name is one that is not shared
 abbrev pub fault_of : LinkFault → ShareFault
@@ -37,7 +37,7 @@ shared_answer (Err fault) = Err (fault_of fault)
 -- a consumer is tied among the offers of its deployment as one of its own would be among the providers
 abbrev pub outcome_in : Option DepOffers → Across → Result (Option Tie) ShareFault
 outcome_in None a = Err (NoDeployment a.dep)
-outcome_in (Some known) a = shared_answer (outcome (map offered known.offers) (consumer_of a))
+outcome_in (Some known) a = shared_answer (outcome (map offered_provider known.offers) (consumer_of a))
 
 abbrev pub of_name : List ℕ → List DepOffers → Option DepOffers
 of_name name known = find (λ d. bytes_eq d.dep name) known

@@ -1,6 +1,6 @@
 //! A link that another deployment is to provide.
 ghost use Rattle.std.specs.Prelude.{◌≡◌, IfOk};
-ghost use Rattle.bosh_share.specs.Shared.{consumer_of, sought};
+ghost use Rattle.bosh_share.specs.Shared.{consumer_of, source_of};
 
 use bosh_base::{CopyFault, Copyable, Joint, Name, Text, copy_both};
 use bosh_links::{Consumer, Source};
@@ -20,7 +20,7 @@ pub struct Across {
 }
 
 fn source_of(alloc: Global, from: &Option<Text>) -> Result<Source, CopyFault>
-    ensures { IfOk result (λ source. source ≡ sought from.now) }
+    ensures { IfOk result (λ source. source ≡ source_of from.now) }
 {
     match from {
         None => Ok(Source::Implicit),

@@ -1,7 +1,7 @@
 //! What deployments offer, by their names.
 ghost use Rattle.std.specs.Prelude.{◌≡◌, ◌∷◌, [], ◌++◌, List, map, IfOk, IsOkUnless, OnOk};
 ghost use Rattle.bosh_base.specs.declared.offer.DepOffers.{DepOffers};
-ghost use Rattle.bosh_links.specs.Candidate.{offered, seen};
+ghost use Rattle.bosh_links.specs.Candidate.{offered_provider, provider_of};
 ghost use Rattle.bosh_links.specs.Table.{AreOf};
 ghost use Rattle.bosh_links.specs.declared.fault.LinkFault.TheVariants as link;
 ghost use Rattle.bosh_share.specs.Directory.{IsDirectory};
@@ -17,7 +17,7 @@ pub(crate) type Directory<'a> = BTreeMap<&'a [u8], Candidates<'a>>;
 
 // The offers as candidates, in their order.
 fn all_offered(alloc: Global, offers: &[Offer]) -> Result<Vec<Candidate<'_>>, AllocError>
-    ensures { IfOk result (λ candidates. map seen candidates.items ≡ map offered offers.now) }
+    ensures { IfOk result (λ candidates. map provider_of candidates.items ≡ map offered_provider offers.now) }
 {
     let mut candidates = Vec::with_capacity(alloc, offers.len())?;
     for offer in offers {
@@ -28,7 +28,7 @@ fn all_offered(alloc: Global, offers: &[Offer]) -> Result<Vec<Candidate<'_>>, Al
 
 // What a deployment offers, by type and by public name.
 fn candidates_of(alloc: Global, known: &DepOffers) -> Result<Candidates<'_>, LinkFault>
-    ensures ok { IfOk result (AreOf (map offered known.now.offers)) }
+    ensures ok { IfOk result (AreOf (map offered_provider known.now.offers)) }
     ensures err { IsOkUnless result link.Memory }
 {
     let offered = all_offered(alloc, known.offers.as_slice())?;

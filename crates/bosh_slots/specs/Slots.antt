@@ -1,4 +1,4 @@
--- What the machines are made from that compile packages (bosh.io, "Cloud config": `compilation`).
+-- What compile machines are made from (bosh.io, "Cloud config": `compilation`).
 use Rattle.std.specs.Prelude.{ℕ, zero, suc, List, [], ◌∷◌, ◌++◌, Option, Some, None, Result, Ok, Err, map, min, option_map, unwrap_or}
 use Rattle.std.specs.List.{flat_map, list_any}
 use Rattle.bosh_base.specs.declared.addr.Addr.{Addr}
@@ -11,7 +11,7 @@ use Rattle.bosh_base.specs.declared.view.Held.{Held}
 use Rattle.bosh_base.specs.declared.view.View.{View}
 use Rattle.bosh_cloudcfg.specs.declared.config.Compilation.{Compilation}
 use Rattle.bosh_cloudcfg.specs.declared.config.Config.{Config}
-use Rattle.bosh_lookup.specs.Table.{named}
+use Rattle.bosh_lookup.specs.Table.{first_named}
 use Rattle.bosh_pool.specs.Fixed.{same_addr}
 use Rattle.bosh_pool.specs.Spare.{spares}
 use Rattle.bosh_pool.specs.declared.fault.PoolFault.TheVariants.{Empty}
@@ -56,7 +56,7 @@ held_addrs view =
 -- the cloud properties of the machines
 abbrev pub machine : Config → List ℕ
 machine config =
-    unwrap_or (option_map machine_properties (named machine_name config.vm_types config.compilation.vm_type)) no_properties
+    unwrap_or (option_map machine_properties (first_named machine_name config.vm_types config.compilation.vm_type)) no_properties
 
 -- a machine of these properties; it takes the operating system of the key that it compiles
 abbrev pub slot_with : Compilation → List ℕ → Addr → Make

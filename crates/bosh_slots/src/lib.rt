@@ -1,4 +1,4 @@
-//! What the machines are made from that compile the packages of a deployment.
+//! What the compile machines of a deployment are made from.
 #![tactic(auto)]
 
 mod holding;

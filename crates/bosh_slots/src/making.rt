@@ -1,7 +1,7 @@
 //! The machines, each with an address of its own.
 ghost use Rattle.std.specs.Prelude.{◌≡◌, ◌∷◌, [], IfOk, map, option_map};
 ghost use Rattle.std.specs.Option.{option_copied};
-ghost use Rattle.bosh_lookup.specs.Table.{named};
+ghost use Rattle.bosh_lookup.specs.Table.{first_named};
 ghost use Rattle.bosh_slots.specs.Slots.{addrs_for, machine, slot_with, slots, with_addrs};
 ghost use Rattle.bosh_uses.specs.Answer.{IsAnswer};
 ghost use Rattle.bosh_uses.specs.Uses.{machine_name, machine_properties};
@@ -14,7 +14,7 @@ use bosh_uses::GoalFault;
 use std::alloc::{AllocError, Global};
 
 fn properties_of<'a>(config: &'a Config, name: &Name) -> Option<&'a Text>
-    ensures { option_copied result ≡ option_map machine_properties (named machine_name config.now.vm_types name.now) }
+    ensures { option_copied result ≡ option_map machine_properties (first_named machine_name config.now.vm_types name.now) }
 {
     match config.vm_types.iter().find(|kind| kind.name == *name) {
         Some(kind) => Some(&kind.properties),
@@ -104,7 +104,7 @@ fn addrs_for(
     )
 }
 
-/// The makes of the machines that compile so many keys: as many as there are workers, keys and spare addresses. `own` are the
+/// The makes of the compile machines for so many keys: as many as there are workers, keys and spare addresses. `own` are the
 /// addresses that the goal itself takes. Where there are keys and no address is spare, `Empty` names the network.
 pub fn slots(
     alloc: Global,

@@ -1,7 +1,7 @@
 -- The keys of a dotted name.
 use Rattle.std.proofs.Common.{◌≡◌, ℕ, List, [], ◌∷◌, Option, Some, None, refl, ap, ◌∙◌, inl, inr, eq-eqb, ne_eqb}
 use Rattle.std.proofs.lemmas.Bool.{cases_eq}
-use Rattle.bosh_yaml.specs.Keys.{found}
+use Rattle.bosh_yaml.specs.Keys.{value_of_key}
 use Rattle.bosh_yaml.specs.Tree.{Tree}
 use Rattle.bosh_template.specs.Reading.{Read, with_first, cut_at}
 use Rattle.bosh_template.specs.Setting.{path_of, with_byte, at_path}
@@ -25,12 +25,12 @@ path_of-cut (b ∷ name) = elim (cases_eq b 46) [
 ]
 
 -- a key and the rest of the path
-pub at_path-more : (name : List ℕ) (read : List ℕ × List ℕ) (from : Option Tree) (t : Tree) → from ≡ Some t → cut_at 46 name ≡ Some read → at_path (path_of name) from ≡ at_path (path_of read.1) (found read.0 t)
+pub at_path-more : (name : List ℕ) (read : List ℕ × List ℕ) (from : Option Tree) (t : Tree) → from ≡ Some t → cut_at 46 name ≡ Some read → at_path (path_of name) from ≡ at_path (path_of read.1) (value_of_key read.0 t)
 unfolding keys_by
 at_path-more name read from t is h = ap (λ n. at_path (path_of name) n) is ∙ ap (λ path. at_path path (Some t)) (path_of-cut name ∙ ap (keys_by name) h)
 
 -- the last key
-pub at_path-last : (name : List ℕ) (t : Tree) → cut_at 46 name ≡ None → at_path (path_of name) (Some t) ≡ found name t
+pub at_path-last : (name : List ℕ) (t : Tree) → cut_at 46 name ≡ None → at_path (path_of name) (Some t) ≡ value_of_key name t
 unfolding keys_by
 at_path-last name t h = ap (λ path. at_path path (Some t)) (path_of-cut name ∙ ap (keys_by name) h)
 

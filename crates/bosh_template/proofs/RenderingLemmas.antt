@@ -8,7 +8,7 @@ use Rattle.bosh_template.specs.Environment.{Env}
 use Rattle.bosh_template.specs.declared.fault.TemplateFault.{TemplateFault}
 use Rattle.bosh_template.specs.declared.output.Output.{Output}
 use Rattle.bosh_template.specs.declared.template.Part.{Part}
-use Rattle.bosh_template.specs.Answer.{after, joined}
+use Rattle.bosh_template.specs.Answer.{after, joined_texts}
 use Rattle.bosh_template.specs.Output.{Holds, Grows, Adds}
 use Rattle.bosh_template.specs.Rendering.{part_text, parts_text}
 
@@ -20,13 +20,13 @@ Grows-none out text h = subst (Holds out) (sym (append-nil text)) h
 pub Grows-more : (a b c : Output) (one other : List ℕ) → Grows a b one → Grows b c other → Grows a c (one ++ other)
 Grows-more a b c one other h k text holds = subst (Holds c) (append_assoc text one other) (k (text ++ one) (h text holds))
 
-pub after-joined : (text piece : List ℕ) (others : Result (List ℕ) TemplateFault) → after text (joined (Ok piece) others) ≡ after (text ++ piece) others
+pub after-joined : (text piece : List ℕ) (others : Result (List ℕ) TemplateFault) → after text (joined_texts (Ok piece) others) ≡ after (text ++ piece) others
 after-joined text piece (Ok more) = ap (λ t. Ok t) (sym (append_assoc text piece more))
 after-joined text piece (Err fault) = refl
 
 -- what the parts from one on come to
 pub parts_text-next : (env : Env) (parts : List Part) (i : ℕ) (part : Part) → i < length parts → part ≡ get_or parts i part
-    → parts_text env (drop i parts) ≡ joined (part_text env part) (parts_text env (drop (i + 1) parts))
+    → parts_text env (drop i parts) ≡ joined_texts (part_text env part) (parts_text env (drop (i + 1) parts))
 parts_text-next env parts i part within is =
     let e : drop i parts ≡ part ∷ drop (i + 1) parts = rw (add-one, drop-cons parts i part, ← is) refl in
     ap (parts_text env) e
@@ -57,13 +57,13 @@ IsWritten-more done env parts i part old out new w within is h =
     record {
       text = w.text ++ piece;
       grown = Grows-more old out new w.text piece w.grown grows;
-      whole = w.whole ∙ ap (after w.text) (parts_text-next env parts i part within is ∙ ap (λ a. joined a others) told) ∙ after-joined w.text piece others;
+      whole = w.whole ∙ ap (after w.text) (parts_text-next env parts i part within is ∙ ap (λ a. joined_texts a others) told) ∙ after-joined w.text piece others;
     }
 
 pub IsWritten-fault : (env : Env) (parts : List Part) (i : ℕ) (part : Part) (old out : Output) (fault : TemplateFault) → IsWritten env parts i old out → i < length parts → part ≡ get_or parts i part
     → part_text env part ≡ Err fault → parts_text env parts ≡ Err fault
 IsWritten-fault env parts i part old out fault w within is told =
-    w.whole ∙ ap (after w.text) (parts_text-next env parts i part within is ∙ ap (λ a. joined a (parts_text env (drop (i + 1) parts))) told)
+    w.whole ∙ ap (after w.text) (parts_text-next env parts i part within is ∙ ap (λ a. joined_texts a (parts_text env (drop (i + 1) parts))) told)
 
 pub IsWritten-end : {T : Type 0} (done : T) (env : Env) (parts : List Part) (i : ℕ) (old out : Output) → IsWritten env parts i old out → length parts ≤ i → Adds (Ok done) old out (parts_text env parts)
 IsWritten-end done env parts i old out w past =

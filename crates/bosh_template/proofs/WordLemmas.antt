@@ -14,7 +14,7 @@ use Rattle.std.specs.Str.{bytes_eq, all_ascii_digits, IsUtf8}
 use Rattle.std.proofs.lemmas.Str.{IsUtf8-from_ascii}
 use Rattle.std.specs.Str.Parse.{digits_value, starts_with_minus, ParsesUnsigned}
 use Rattle.bosh_ip.specs.Bytes.{Lacks}
-use Rattle.bosh_yaml.specs.Scalar.{is_counting, counted}
+use Rattle.bosh_yaml.specs.Scalar.{is_counting, number_below}
 use Rattle.bosh_template.specs.Grammar.{is_plain, is_quote}
 use Rattle.bosh_template.specs.Reading.{index_of, quoted_at}
 
@@ -141,7 +141,7 @@ index_of-sound word n h =
           let zero_is : 0 ≡ n = same_Some 0 n is in
           (omega arith, (bytes_eq-Decides word (codes "0")).0 nought ∙ sym (decimal_digit 0 (omega arith)) ∙ ap decimal zero_is)
       | inr other ↦
-          let read : counted (2 ^ 32) word ≡ Some n = rw other at h in
+          let read : number_below (2 ^ 32) word ≡ Some n = rw other at h in
           let (tests, value) = cond_some _ (digits_value 10 word) n read in
           let (counting, below) = and-parts (is_counting word) _ tests in
           let parts = counting_parts word counting in
@@ -158,10 +158,10 @@ ok_if : {E : Type 0} (r : Result ℕ E) (Q : Type 0) (x : ℕ) (y : Option ℕ) 
 ok_if (Ok z) Q x y h have lack = ap (λ n. Some n) h.1 ∙ have h.0
 ok_if (Err e) Q x y h have lack = lack h
 
-counted_at : (bound : ℕ) (ds : List ℕ) → is_counting ds ≡ true → digits_value 10 ds < bound → counted bound ds ≡ Some (digits_value 10 ds)
+counted_at : (bound : ℕ) (ds : List ℕ) → is_counting ds ≡ true → digits_value 10 ds < bound → number_below bound ds ≡ Some (digits_value 10 ds)
 counted_at bound ds c h = rw c (grind (arith, nat_tests))
 
-counted_over : (bound : ℕ) (ds : List ℕ) → bound ≤ digits_value 10 ds → counted bound ds ≡ None
+counted_over : (bound : ℕ) (ds : List ℕ) → bound ≤ digits_value 10 ds → number_below bound ds ≡ None
 counted_over bound ds h = grind (arith, nat_tests)
 
 pub index_parsed : {E : Type 0} (s : List ℕ) (r : Result ℕ E) → ParsesUnsigned 32 10 s r → bytes_eq s (codes "0") ≡ false → is_counting s ≡ true → result_ok r ≡ index_of s

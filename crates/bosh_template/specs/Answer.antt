@@ -14,6 +14,6 @@ after text (Ok others) = Ok (text ++ others)
 after text (Err fault) = Err fault
 
 -- what comes first before what others come to: the first fault decides
-abbrev pub joined : Result (List ℕ) TemplateFault → Result (List ℕ) TemplateFault → Result (List ℕ) TemplateFault
-joined (Ok text) others = after text others
-joined (Err fault) others = Err fault
+abbrev pub joined_texts : Result (List ℕ) TemplateFault → Result (List ℕ) TemplateFault → Result (List ℕ) TemplateFault
+joined_texts (Ok text) others = after text others
+joined_texts (Err fault) others = Err fault

@@ -2,7 +2,7 @@
 use Rattle.std.specs.Prelude.{ℕ, suc, ◌^◌, ◌==◌, List, [], ◌∷◌, length, take, drop, codes, Option, None, Some, if◌then◌else◌}
 use Rattle.std.specs.Str.{bytes_eq}
 use Rattle.bosh_ip.specs.Bytes.{without_leading}
-use Rattle.bosh_yaml.specs.Scalar.{counted}
+use Rattle.bosh_yaml.specs.Scalar.{number_below}
 use Rattle.bosh_template.specs.declared.template.Part.{Part}
 use Rattle.bosh_template.specs.declared.template.Part.TheVariants.{Literal, Own, Linked, OneAddr, AllAddrs, Word}
 use Rattle.bosh_template.specs.declared.template.SpecWord.{SpecWord}
@@ -66,7 +66,7 @@ property_at text =
 
 -- a decimal below 2^32 without leading zeros
 abbrev pub index_of : List ℕ → Option ℕ
-index_of word = if bytes_eq word (codes "0") then Some 0 else counted (2 ^ 32) word
+index_of word = if bytes_eq word (codes "0") then Some 0 else number_below (2 ^ 32) word
 
 -- the index of an instance
 unfoldable pub one_addr_at : List ℕ → Read ℕ

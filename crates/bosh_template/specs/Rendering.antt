@@ -15,7 +15,7 @@ use Rattle.bosh_template.specs.declared.template.Part.TheVariants.{Literal, Own,
 use Rattle.bosh_template.specs.declared.template.SpecWord.{SpecWord}
 use Rattle.bosh_template.specs.declared.template.SpecWord.TheVariants.{Name, Index, Az, Address, Deployment, Bootstrap}
 use Rattle.bosh_template.specs.declared.template.Template.{Template}
-use Rattle.bosh_template.specs.Answer.{joined}
+use Rattle.bosh_template.specs.Answer.{joined_texts}
 use Rattle.bosh_template.specs.Setting.{given_setting, literal, or_else, setting_text, truth}
 
 -- the address in dotted decimal
@@ -81,7 +81,7 @@ part_text env (Word word) = Ok (word_text env word)
 -- the parts' texts one after another, or the fault of the first that has one
 abbrev pub parts_text : Env → List Part → Result (List ℕ) TemplateFault
 parts_text env [] = Ok []
-parts_text env (part ∷ parts) = joined (part_text env part) (parts_text env parts)
+parts_text env (part ∷ parts) = joined_texts (part_text env part) (parts_text env parts)
 
 -- a text has at most 1,048,576 bytes
 abbrev pub limited : Result (List ℕ) TemplateFault → Result (List ℕ) TemplateFault

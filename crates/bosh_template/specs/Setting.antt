@@ -3,7 +3,7 @@ use Rattle.std.specs.Prelude.{ℕ, Bool, List, [], ◌∷◌, ◌==◌, codes, O
 use Rattle.std.specs.Fmt.{signed_decimal}
 use Rattle.bosh_base.specs.declared.release.Setting.{Setting}
 use Rattle.bosh_base.specs.declared.release.Setting.TheVariants.{Scalar, Compound}
-use Rattle.bosh_yaml.specs.Keys.{found}
+use Rattle.bosh_yaml.specs.Keys.{value_of_key}
 use Rattle.bosh_yaml.specs.Tree.{Tree, null, boolean, integer, text, list, map}
 use Rattle.bosh_template.specs.declared.fault.TemplateFault.{TemplateFault}
 use Rattle.bosh_template.specs.declared.fault.TemplateFault.TheVariants.{Missing, NotScalar}
@@ -22,7 +22,7 @@ path_of (b ∷ name) = if b == 46 then [] ∷ path_of name else with_byte b (pat
 abbrev pub at_path : List (List ℕ) → Option Tree → Option Tree
 at_path [] node = node
 at_path (key ∷ path) None = None
-at_path (key ∷ path) (Some node) = at_path path (found key node)
+at_path (key ∷ path) (Some node) = at_path path (value_of_key key node)
 
 abbrev pub truth : Bool → List ℕ
 truth b = cond b (codes "true") (codes "false")

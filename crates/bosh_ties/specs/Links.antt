@@ -18,7 +18,7 @@ use Rattle.bosh_manifest_parts.specs.declared.link.Provide.{Provide}
 use Rattle.bosh_share.specs.Shared.{across_resolution}
 use Rattle.bosh_share.specs.declared.across.Across.{Across}
 use Rattle.bosh_uses.specs.Answer.{◌>>=◌, with_fault}
-use Rattle.bosh_lookup.specs.Table.{named}
+use Rattle.bosh_lookup.specs.Table.{first_named}
 use Rattle.bosh_uses.specs.Used.{UsedGroup, UsedJob}
 use Rattle.bosh_uses.specs.declared.fault.GoalFault.{GoalFault}
 use Rattle.bosh_uses.specs.declared.fault.GoalFault.TheVariants.{Link, Share}
@@ -34,7 +34,7 @@ of_groups of_job dep groups = flat_map (λ group. flat_map (of_job dep group.gro
 
 -- what the manifest says of a link that a job provides
 abbrev pub provide_of : UsedJob → LinkSpec → Option Provide
-provide_of job link = named (λ provide. provide.link) job.job.provides link.name
+provide_of job link = first_named (λ provide. provide.link) job.job.provides link.name
 
 -- a link that the manifest does not name is offered under its own name; one that it names may be withdrawn
 abbrev pub offering_in : Option Provide → Option Offering
@@ -64,7 +64,7 @@ providers = of_groups job_providers
 
 -- what the manifest says of a link that a job consumes
 abbrev pub consume_of : UsedJob → LinkSpec → Option Consume
-consume_of job link = named (λ consume. consume.link) job.job.consumes link.name
+consume_of job link = first_named (λ consume. consume.link) job.job.consumes link.name
 
 abbrev pub named_or_implicit : Option (List ℕ) → Source
 named_or_implicit None = Implicit

@@ -11,7 +11,7 @@ use Rattle.bosh_moves.specs.Replies.{replies_in}
 use Rattle.bosh_transcript.proofs.ReadLemmas.{on_none}
 use Rattle.bosh_transcript.proofs.ReplyLemmas.{answered_append, answers_none, answers_then, answers_up_to, error_append, writes_none}
 use Rattle.bosh_transcript.specs.Carried.{AnswersFor, AnswersPart, Carries, CarriesUpTo}
-use Rattle.bosh_transcript.specs.Replies.{answered, has_error, is_error}
+use Rattle.bosh_transcript.specs.Replies.{answered_commands, has_error, is_error}
 use Rattle.bosh_transcript.specs.Sessions.{IsBroken, IsEvent}
 use Rattle.bosh_transcript.specs.Turns.{due_later, most_others}
 use Rattle.bosh_transcript.specs.Writing.{WritesFront}
@@ -109,7 +109,7 @@ pub for_then : {O : Type 0} (written : O → Option (List ℕ)) (faults : O → 
     AnswersFor written faults ys b c p q failed → AnswersFor written faults (xs ++ ys) a c o q (fails || failed)
 for_then written faults xs ys a b c o p q fails failed x y = record {
   replies = x.replies ++ y.replies;
-  due = answered_append x.replies y.replies ∙ ap (λ (l : List ℕ). l ++ answered y.replies) x.due ∙ ap (λ (l : List ℕ). xs ++ l) y.due;
+  due = answered_append x.replies y.replies ∙ ap (λ (l : List ℕ). l ++ answered_commands y.replies) x.due ∙ ap (λ (l : List ℕ). xs ++ l) y.due;
   answers = answers_then written faults x.replies y.replies a b c o p q x.answers y.answers;
   tells = error_append x.replies y.replies ∙ ap (λ (flag : Bool). flag || has_error y.replies) x.tells ∙ ap (λ (flag : Bool). fails || flag) y.tells;
 }
@@ -121,8 +121,8 @@ part_then written faults xs ys a b c o p q fails status x y = record {
   replies = x.replies ++ y.replies;
   left = y.left;
   due = ap (λ (l : List ℕ). l ++ y.left) (answered_append x.replies y.replies)
-      ∙ append_assoc (answered x.replies) (answered y.replies) y.left
-      ∙ ap (λ (l : List ℕ). answered x.replies ++ l) y.due
+      ∙ append_assoc (answered_commands x.replies) (answered_commands y.replies) y.left
+      ∙ ap (λ (l : List ℕ). answered_commands x.replies ++ l) y.due
       ∙ ap (λ (l : List ℕ). l ++ ys) x.due;
   answers = answers_up_to written faults status x.replies y.replies a b c o p q x.answers y.answers;
 }
@@ -134,7 +134,7 @@ pub part_first : {O : Type 0} (written : O → Option (List ℕ)) (faults : O �
 part_first written faults xs ys a b o p status x = record {
   replies = x.replies;
   left = x.left ++ ys;
-  due = sym (append_assoc (answered x.replies) x.left ys) ∙ ap (λ (l : List ℕ). l ++ ys) x.due;
+  due = sym (append_assoc (answered_commands x.replies) x.left ys) ∙ ap (λ (l : List ℕ). l ++ ys) x.due;
   answers = x.answers;
 }
 

@@ -3,7 +3,7 @@ use Rattle.std.proofs.Common.{◌≡◌, ℕ, ◌+◌, ◌≤◌, List, [], ◌�
 use Rattle.bosh_input.proofs.FrontLemmas.{front_before}
 use Rattle.bosh_input.proofs.ReadsLemmas.{reads_none, reads_then}
 use Rattle.bosh_input.specs.Commands.{commands}
-use Rattle.bosh_input.specs.Ended.{IsFixed, IsGiven, View, judged}
+use Rattle.bosh_input.specs.Ended.{IsFixed, IsGiven, View, bounded_request}
 use Rattle.bosh_input.specs.Reading.{FailsByCount, Front, InputView, IsAtEnd, IsEvent, IsNext, Reads}
 use Rattle.bosh_input.specs.declared.fault.InputFault.{InputFault}
 use Rattle.bosh_input.specs.declared.fault.InputFault.TheVariants as fault
@@ -240,7 +240,7 @@ pub record AreTaken {I : Type 0}
     (left : I → Option (List ℕ)) (faults : I → ℕ) (count : ℕ) (old new : View) (s t : I)
     (taken : List numbered.Numbered) : Type 0 where
   pub others : List request.Request
-  pub judged_so : map (λ it. it.request) taken ≡ map judged others
+  pub judged_so : map (λ it. it.request) taken ≡ map bounded_request others
   pub number : map (λ it. it.number) taken ≡ numbers (old.reader.given + 1) (length others)
   pub many : length others ≡ count
   pub given : new.reader.given ≡ old.reader.given + count
@@ -269,8 +269,8 @@ taken_more left faults count a b c s t u taken one are next =
       others = are.others ++ next.command ∷ [];
       judged_so = map-append (λ (it : numbered.Numbered). it.request) taken (one ∷ [])
           ∙ ap (λ (l : List request.Request). l ++ one.request ∷ []) are.judged_so
-          ∙ ap (λ (r : request.Request). map judged are.others ++ r ∷ []) next.judged_so
-          ∙ sym (map-append judged are.others (next.command ∷ []));
+          ∙ ap (λ (r : request.Request). map bounded_request are.others ++ r ∷ []) next.judged_so
+          ∙ sym (map-append bounded_request are.others (next.command ∷ []));
       number = map-append (λ (it : numbered.Numbered). it.number) taken (one ∷ [])
           ∙ ap (λ (l : List ℕ). l ++ one.number ∷ []) are.number
           ∙ ap (λ (k : ℕ). numbers (a.reader.given + 1) (length are.others) ++ k ∷ []) number

@@ -11,7 +11,7 @@ use Rattle.bosh_ports.specs.Faults.{Rose}
 use Rattle.bosh_report.specs.Reply.{text_of}
 use Rattle.bosh_moves.specs.Replies.{replies_in, reply_of}
 use Rattle.bosh_transcript.specs.Carried.{Answers, AnswersUpTo}
-use Rattle.bosh_transcript.specs.Replies.{answered, has_error, is_bad, transcript}
+use Rattle.bosh_transcript.specs.Replies.{answered_commands, has_error, is_bad, transcript}
 use Rattle.bosh_transcript.specs.Sessions.{IsBroken}
 use Rattle.bosh_transcript.specs.Writing.{Writes, WritesFront, WritesUpTo}
 use Rattle.bosh_transcript.specs.declared.status.Status.{Status}
@@ -25,7 +25,7 @@ rose_since a b c stood (inr last) = inr last
 pub transcript_append : (xs ys : List said.Said) → transcript (xs ++ ys) ≡ transcript xs ++ transcript ys
 transcript_append xs ys = flat_map-append (λ (reply : said.Said). text_of reply.reply) xs ys
 
-pub answered_append : (xs ys : List said.Said) → answered (xs ++ ys) ≡ answered xs ++ answered ys
+pub answered_append : (xs ys : List said.Said) → answered_commands (xs ++ ys) ≡ answered_commands xs ++ answered_commands ys
 answered_append xs ys = map-append (λ (reply : said.Said). reply.command) xs ys
 
 pub error_append : (xs ys : List said.Said) → has_error (xs ++ ys) ≡ (has_error xs || has_error ys)

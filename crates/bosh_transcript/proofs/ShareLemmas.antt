@@ -7,7 +7,7 @@ use Rattle.bosh_base.specs.declared.moves.Said as said
 use Rattle.bosh_moves.specs.Replies.{replies_in}
 use Rattle.bosh_transcript.proofs.ReplyLemmas.{answered_append, answers_none, answers_then, answers_up_to, error_append}
 use Rattle.bosh_transcript.specs.Carried.{AnswersAny, AnswersFor, AnswersPart, AnswersSome}
-use Rattle.bosh_transcript.specs.Replies.{answered, has_error}
+use Rattle.bosh_transcript.specs.Replies.{answered_commands, has_error}
 use Rattle.bosh_transcript.specs.Shared.{Shares}
 use Rattle.bosh_transcript.specs.declared.status.Status.{Status}
 
@@ -49,8 +49,8 @@ pub shares_then : {O : Type 0} (written : O → Option (List ℕ)) (faults : O �
     (a b c : List Move) (o p q : O) (fails failed : Bool) → Shares written faults xs r0 r1 a b o p fails →
     Shares written faults ys r1 r2 b c p q failed → Shares written faults (xs ++ ys) r0 r2 a c o q (fails || failed)
 shares_then written faults xs ys r0 r1 r2 a b c o p q fails failed x y =
-    let ax : List ℕ = answered x.replies in
-    let ay : List ℕ = answered y.replies in
+    let ax : List ℕ = answered_commands x.replies in
+    let ay : List ℕ = answered_commands y.replies in
     record {
       replies = x.replies ++ y.replies;
       due = subst (λ (l : List ℕ). IsPermutation (r0 ++ (xs ++ ys)) (l ++ r2)) (sym (answered_append x.replies y.replies))
@@ -71,8 +71,8 @@ pub shares_whole : {O : Type 0} (written : O → Option (List ℕ)) (faults : O 
     (a b c : List Move) (o p q : O) (fails failed : Bool) → Shares written faults xs [] running a b o p fails →
     AnswersAny written faults running b c p q failed → AnswersAny written faults xs a c o q (fails || failed)
 shares_whole written faults xs running a b c o p q fails failed x y =
-    let ax : List ℕ = answered x.replies in
-    let ay : List ℕ = answered y.replies in
+    let ax : List ℕ = answered_commands x.replies in
+    let ay : List ℕ = answered_commands y.replies in
     record {
       replies = x.replies ++ y.replies;
       due = subst (λ (l : List ℕ). IsPermutation l xs) (sym (answered_append x.replies y.replies))
@@ -89,8 +89,8 @@ pub shares_cut : {O : Type 0} (written : O → Option (List ℕ)) (faults : O �
     (a b c : List Move) (o p q : O) (fails : Bool) (status : Status) → Shares written faults xs [] running a b o p fails →
     AnswersPart written faults ys b c p q status → AnswersSome written faults (xs ++ (ys ++ zs)) a c o q status
 shares_cut written faults xs ys zs running a b c o p q fails status x y =
-    let ax : List ℕ = answered x.replies in
-    let ay : List ℕ = answered y.replies in
+    let ax : List ℕ = answered_commands x.replies in
+    let ay : List ℕ = answered_commands y.replies in
     record {
       replies = x.replies ++ y.replies;
       left = y.left ++ (zs ++ running);

@@ -9,7 +9,7 @@ use Rattle.bosh_moves.specs.Replies.{replies_in}
 use Rattle.bosh_transcript.proofs.CarryLemmas.{broken_event}
 use Rattle.bosh_transcript.proofs.ReplyLemmas.{answered_append, answers_then, answers_up_to, error_append}
 use Rattle.bosh_transcript.specs.Carried.{AnswersAny, AnswersFor, AnswersSome, Carries, CarriesUpTo, EndsReading, IsReadingEvent, TakesOthers}
-use Rattle.bosh_transcript.specs.Replies.{answered, has_error}
+use Rattle.bosh_transcript.specs.Replies.{answered_commands, has_error}
 use Rattle.bosh_transcript.specs.Sessions.{IsEvent}
 use Rattle.bosh_transcript.specs.Turns.{numbers}
 use Rattle.bosh_transcript.specs.Writing.{Writes}
@@ -23,8 +23,8 @@ due_numbers : (number given others : ℕ) (taken : List ℕ) → number ≡ give
     taken ≡ numbers (number + 1) others
 due_numbers number given others taken is so = so ∙ ap (λ (k : ℕ). numbers (k + 1) others) (sym is)
 
-first_due : (number : ℕ) (x y : List said.Said) → answered x ≡ number ∷ [] → answered (x ++ y) ≡ number ∷ answered y
-first_due number x y is = answered_append x y ∙ ap (λ (l : List ℕ). l ++ answered y) is
+first_due : (number : ℕ) (x y : List said.Said) → answered_commands x ≡ number ∷ [] → answered_commands (x ++ y) ≡ number ∷ answered_commands y
+first_due number x y is = answered_append x y ∙ ap (λ (l : List ℕ). l ++ answered_commands y) is
 
 -- each was answered
 pub together_whole : {I O : Type 0} (left : I → Option (List ℕ)) (read_faults : I → ℕ) (written : O → Option (List ℕ))
@@ -39,9 +39,9 @@ together_whole left read_faults written write_faults count number was now s t ta
   done = record {
     few = others.few;
     due = record {
-      later = answered y.replies;
+      later = answered_commands y.replies;
       first = first_due number x.replies y.replies x.due;
-      each = subst (λ (l : List ℕ). IsPermutation (answered y.replies) l)
+      each = subst (λ (l : List ℕ). IsPermutation (answered_commands y.replies) l)
           (due_numbers number was.reader.given (length others.others) (map (λ it. it.number) taken) is others.number) y.due;
     };
   };
@@ -101,9 +101,9 @@ together_cut left read_faults written write_faults count number was now s t take
         few = others.few;
         left = y.left;
         due = record {
-          later = answered y.replies ++ y.left;
+          later = answered_commands y.replies ++ y.left;
           first = ap (λ (l : List ℕ). l ++ y.left) (first_due number x.replies y.replies x.due);
-          each = subst (λ (l : List ℕ). IsPermutation (answered y.replies ++ y.left) l)
+          each = subst (λ (l : List ℕ). IsPermutation (answered_commands y.replies ++ y.left) l)
               (due_numbers number was.reader.given (length others.others) (map (λ it. it.number) taken) is others.number)
               y.due;
         };

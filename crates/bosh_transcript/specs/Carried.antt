@@ -3,14 +3,14 @@ use Rattle.std.specs.Prelude.{◌≡◌, ◌⊎◌, ℕ, ◌+◌, ◌≤◌, Boo
 use Rattle.std.specs.List.Sorted.{IsPermutation}
 use Rattle.bosh_base.specs.declared.moves.Move.{Move}
 use Rattle.bosh_base.specs.declared.moves.Said as said
-use Rattle.bosh_input.specs.Ended.{View, judged}
+use Rattle.bosh_input.specs.Ended.{View, bounded_request}
 use Rattle.bosh_input.specs.declared.fault.InputFault.{InputFault}
 use Rattle.bosh_input.specs.declared.fault.InputFault.TheVariants as fault
 use Rattle.bosh_input.specs.declared.input.Ended.TheVariants.{Whole, Stopped}
 use Rattle.bosh_input.specs.declared.request.Request as request
 use Rattle.bosh_moves.specs.Replies.{replies_in}
 use Rattle.bosh_transcript.specs.Reading.{AreRead}
-use Rattle.bosh_transcript.specs.Replies.{answered, has_error}
+use Rattle.bosh_transcript.specs.Replies.{answered_commands, has_error}
 use Rattle.bosh_transcript.specs.Sessions.{IsBroken, IsEvent}
 use Rattle.bosh_transcript.specs.declared.extent.Extent.{Extent}
 use Rattle.bosh_transcript.specs.declared.numbered.Numbered as numbered
@@ -31,7 +31,7 @@ pub record TakesNext {I : Type 0}
     (left : I → Option (List ℕ)) (faults : I → ℕ) (input_was input_now : View) (was now : I) (taken : numbered.Numbered) :
     Type 0 where
   pub command : request.Request
-  pub judged_so : taken.request ≡ judged command
+  pub judged_so : taken.request ≡ bounded_request command
   pub number : taken.number ≡ input_now.reader.given
   pub next : input_now.reader.given ≡ input_was.reader.given + 1
   pub was_open : input_was.ended ≡ None
@@ -59,7 +59,7 @@ pub record TakesOthers {I : Type 0}
     (left : I → Option (List ℕ)) (faults : I → ℕ) (count : ℕ) (input_was input_now : View) (was now : I)
     (taken : List numbered.Numbered) : Type 0 where
   pub others : List request.Request
-  pub judged_so : map (λ it. it.request) taken ≡ map judged others
+  pub judged_so : map (λ it. it.request) taken ≡ map bounded_request others
   pub number : map (λ it. it.number) taken ≡ numbers (input_was.reader.given + 1) (length others)
   pub few : length others ≤ count
   pub full : (length others ≡ count) ⊎ (input_now.ended ≡ Some Whole)
@@ -100,7 +100,7 @@ pub record AnswersFor {O : Type 0}
     (written : O → Option (List ℕ)) (faults : O → ℕ) (commands : List ℕ) (moves_was moves_now : List Move)
     (out_was out_now : O) (fails : Bool) : Type 0 where
   pub replies : List said.Said
-  pub due : answered replies ≡ commands
+  pub due : answered_commands replies ≡ commands
   pub answers : Answers written faults replies moves_was moves_now out_was out_now
   pub tells : has_error replies ≡ fails
 
@@ -110,7 +110,7 @@ pub record AnswersPart {O : Type 0}
     (out_was out_now : O) (status : Status) : Type 0 where
   pub replies : List said.Said
   pub left : List ℕ
-  pub due : answered replies ++ left ≡ commands
+  pub due : answered_commands replies ++ left ≡ commands
   pub answers : AnswersUpTo written faults status replies moves_was moves_now out_was out_now
 
 -- A command of a number was carried out, with those that were read for it; `fails` tells whether a reply is an error.
@@ -143,7 +143,7 @@ pub record AnswersAny {O : Type 0}
     (written : O → Option (List ℕ)) (faults : O → ℕ) (commands : List ℕ) (moves_was moves_now : List Move)
     (out_was out_now : O) (fails : Bool) : Type 0 where
   pub replies : List said.Said
-  pub due : IsPermutation (answered replies) commands
+  pub due : IsPermutation (answered_commands replies) commands
   pub answers : Answers written faults replies moves_was moves_now out_was out_now
   pub tells : has_error replies ≡ fails
 
@@ -153,5 +153,5 @@ pub record AnswersSome {O : Type 0}
     (out_was out_now : O) (status : Status) : Type 0 where
   pub replies : List said.Said
   pub left : List ℕ
-  pub due : IsPermutation (answered replies ++ left) commands
+  pub due : IsPermutation (answered_commands replies ++ left) commands
   pub answers : AnswersUpTo written faults status replies moves_was moves_now out_was out_now

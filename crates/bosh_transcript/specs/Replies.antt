@@ -25,5 +25,5 @@ abbrev pub transcript : List said.Said → List ℕ
 transcript replies = flat_map (λ reply. text_of reply.reply) replies
 
 -- the commands that were answered
-abbrev pub answered : List said.Said → List ℕ
-answered replies = map (λ reply. reply.command) replies
+abbrev pub answered_commands : List said.Said → List ℕ
+answered_commands replies = map (λ reply. reply.command) replies

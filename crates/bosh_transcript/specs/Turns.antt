@@ -6,9 +6,9 @@ use Rattle.bosh_base.specs.declared.moves.Said as said
 use Rattle.bosh_words.specs.declared.fault.LineFault.{LineFault}
 use Rattle.bosh_lines.specs.declared.command.Command.{Command}
 use Rattle.bosh_lines.specs.declared.command.Command.TheVariants.{Generate, Together}
-use Rattle.bosh_input.specs.Ended.{judged}
+use Rattle.bosh_input.specs.Ended.{bounded_request}
 use Rattle.bosh_input.specs.declared.request.Request as request
-use Rattle.bosh_transcript.specs.Replies.{answered}
+use Rattle.bosh_transcript.specs.Replies.{answered_commands}
 use Rattle.bosh_transcript.specs.declared.extent.Extent.{Extent}
 use Rattle.bosh_transcript.specs.declared.extent.Extent.TheVariants as extent
 
@@ -49,7 +49,7 @@ pub record Turn : Type 0 where
 
 -- what its command is answered with
 abbrev pub extent_in : Turn → Extent
-extent_in turn = extent_of (judged turn.command).asked
+extent_in turn = extent_of (bounded_request turn.command).asked
 
 -- all commands of a turn, in order
 abbrev pub commands_of : Turn → List request.Request
@@ -60,7 +60,7 @@ pub record IsDone
     (extent : Extent) (number : ℕ) (others : List request.Request) (replies : List said.Said) : Type 0
   where
     pub few : length others ≤ most_others extent
-    pub due : AreDue extent number (length others) (answered replies)
+    pub due : AreDue extent number (length others) (answered_commands replies)
 
 -- .. up to an event, and these commands were still to be answered
 pub record IsCut
@@ -68,7 +68,7 @@ pub record IsCut
   where
     pub few : length others ≤ most_others extent
     pub left : List ℕ
-    pub due : AreDue extent number (length others) (answered replies ++ left)
+    pub due : AreDue extent number (length others) (answered_commands replies ++ left)
 
 abbrev pub IsTurn : ℕ → Turn → Type 0
 IsTurn number turn = IsDone (extent_in turn) number turn.others turn.replies

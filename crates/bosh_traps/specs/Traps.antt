@@ -31,11 +31,11 @@ firing_of (Stop before its whose k all) = record { before = before; all = all }
 firing_of trap = record { before = false; all = false }
 
 -- the first that was set decides of those whose call it is
-abbrev pub decided : Method → Owner → List Armed → Option Firing
-decided method owner armed = option_map (λ it. firing_of it.trap) (find (is_due method owner) armed)
+abbrev pub decision : Method → Owner → List Armed → Option Firing
+decision method owner armed = option_map (λ it. firing_of it.trap) (find (is_due method owner) armed)
 
-abbrev pub seen_by : Method → Owner → Armed → Armed
-seen_by method owner armed =
+abbrev pub trap_after : Method → Owner → Armed → Armed
+trap_after method owner armed =
     if waits_for method owner armed.trap then record armed { seen = min (armed.seen + 1) (2 ^ 64 - 1) } else armed
 
 abbrev pub is_waiting : Armed → Bool
@@ -43,4 +43,4 @@ is_waiting armed = nat_lt armed.seen (place_of armed.trap)
 
 -- the traps after a call: those that it matches have seen it, and those whose call it was leave
 abbrev pub traps_after : Method → Owner → List Armed → List Armed
-traps_after method owner armed = filter is_waiting (map (seen_by method owner) armed)
+traps_after method owner armed = filter is_waiting (map (trap_after method owner) armed)

@@ -1,6 +1,6 @@
 ghost use Rattle.std.specs.Prelude.{◌≡◌, filter, map};
 ghost use Rattle.bosh_fates.specs.Fates.{is_whose};
-ghost use Rattle.bosh_traps.specs.Traps.{decided, firing_of, is_due, is_waiting, seen_by, traps_after, waits_for};
+ghost use Rattle.bosh_traps.specs.Traps.{decision, firing_of, is_due, is_waiting, trap_after, traps_after, waits_for};
 
 use bosh_base::{Method, Owner};
 use bosh_fates::Fate;
@@ -106,7 +106,7 @@ impl Armed {
     }
 
     fn see(&mut self, method: Method, owner: &Owner)
-        ensures { self.new ≡ seen_by method owner.now self.old }
+        ensures { self.new ≡ trap_after method owner.now self.old }
     {
         if self.waits_for(method, owner) {
             self.seen = self.seen.saturating_add(1);
@@ -116,7 +116,7 @@ impl Armed {
 
 /// What happens in a call: the first that was set decides of the traps whose call it is.
 pub fn decided(traps: &[Armed], method: Method, owner: &Owner) -> Option<Firing>
-    ensures { result ≡ decided method owner.now traps.now }
+    ensures { result ≡ decision method owner.now traps.now }
 {
     traps
         .iter()
@@ -133,7 +133,7 @@ pub fn see(traps: &mut Vec<Armed>, method: Method, owner: &Owner)
 }
 
 fn see_all(traps: &mut [Armed], method: Method, owner: &Owner)
-    ensures { traps.new ≡ map (seen_by method owner.now) traps.old }
+    ensures { traps.new ≡ map (trap_after method owner.now) traps.old }
 {
     for trap in traps {
         trap.see(method, owner);

@@ -6,7 +6,7 @@ use Rattle.std.specs.Str.{bytes_eq}
 use denote.Ref.{Bor}
 use Rattle.bosh_base.specs.declared.release.Release.{Release}
 use Rattle.bosh_base.specs.declared.stemcell.Stemcell.{Stemcell}
-use Rattle.bosh_lookup.specs.Table.{IsAdded, found_at, named}
+use Rattle.bosh_lookup.specs.Table.{IsAdded, first_named, found_at}
 use Rattle.bosh_lookup.proofs.TableLemmas.{mapped-or, named-push}
 use Rattle.bosh_uses.specs.Sources.{AreReleases, AreStemcells}
 use Rattle.bosh_uses.specs.Uses.{release_name}
@@ -17,7 +17,7 @@ pub AreReleases-add :
 AreReleases-add all release name old new same before added = λ key.
     added key
     ∙ (ap (λ found. option_or found (cond (bytes_eq name key) (Some release) None)) (before key)
-    ∙ (ap (λ n. option_or (named release_name all key) (cond (bytes_eq n key) (Some release) None)) same
+    ∙ (ap (λ n. option_or (first_named release_name all key) (cond (bytes_eq n key) (Some release) None)) same
     ∙ sym (named-push release_name all release key)))
 
 pub AreStemcells-add :
@@ -28,4 +28,4 @@ AreStemcells-add all alias stemcell old new before added = λ key.
     ∙ (mapped-or (λ (b : Bor Stemcell). b.now) (found_at old key) (bytes_eq alias key) stemcell
     ∙ (ap (λ found. option_or found (cond (bytes_eq alias key) (Some stemcell.now) None)) (before key)
     ∙ sym (ap (option_map (λ s. s.1)) (named-push (λ s. s.0) all (alias, stemcell.now) key)
-    ∙ mapped-or (λ (s : List ℕ × Stemcell). s.1) (named (λ s. s.0) all key) (bytes_eq alias key) (alias, stemcell.now))))
+    ∙ mapped-or (λ (s : List ℕ × Stemcell). s.1) (first_named (λ s. s.0) all key) (bytes_eq alias key) (alias, stemcell.now))))

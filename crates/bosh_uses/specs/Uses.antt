@@ -20,7 +20,7 @@ use Rattle.bosh_manifest_parts.specs.declared.source.ReleaseUse.{ReleaseUse}
 use Rattle.bosh_manifest_parts.specs.declared.source.StemcellUse.{StemcellUse}
 use Rattle.bosh_uses.specs.Answer.{◌>>=◌, each, or_fault}
 use Rattle.bosh_uses.specs.Edition.{edition}
-use Rattle.bosh_lookup.specs.Table.{named}
+use Rattle.bosh_lookup.specs.Table.{first_named}
 use Rattle.bosh_uses.specs.Used.{UsedGroup, UsedJob}
 use Rattle.bosh_uses.specs.declared.fault.GoalFault.{GoalFault}
 use Rattle.bosh_uses.specs.declared.fault.GoalFault.TheVariants.{Unknown}
@@ -28,8 +28,8 @@ use Rattle.bosh_uses.specs.declared.fault.Kind.{Kind}
 use Rattle.bosh_uses.specs.declared.fault.Kind.TheVariants as kinds
 
 -- what a name stands for
-abbrev pub known : {A : Type 0} → Kind → List ℕ → Option A → Result A GoalFault
-known kind name = or_fault (Unknown kind name)
+abbrev pub or_unknown : {A : Type 0} → Kind → List ℕ → Option A → Result A GoalFault
+or_unknown kind name = or_fault (Unknown kind name)
 
 abbrev pub none_unknown : Kind → Option (List ℕ) → Result Bool GoalFault
 none_unknown kind None = Ok true
@@ -55,11 +55,11 @@ stemcell_version stemcell = stemcell.version
 
 abbrev pub used_release : List Release → ReleaseUse → Result Release GoalFault
 used_release releases asked =
-    known kinds.Release asked.name (edition release_name release_version releases asked.name asked.version)
+    or_unknown kinds.Release asked.name (edition release_name release_version releases asked.name asked.version)
 
 abbrev pub stemcell_for : List Stemcell → StemcellUse → Result Stemcell GoalFault
 stemcell_for stemcells asked =
-    known kinds.Stemcell asked.os (edition stemcell_os stemcell_version stemcells asked.os asked.version)
+    or_unknown kinds.Stemcell asked.os (edition stemcell_os stemcell_version stemcells asked.os asked.version)
 
 -- a stemcell, by its alias
 abbrev pub used_stemcell : List Stemcell → StemcellUse → Result (List ℕ × Stemcell) GoalFault
@@ -90,7 +90,7 @@ machine_properties machine = machine.properties
 -- the cloud properties of a type of machines
 abbrev pub used_machine : Config → List ℕ → Result (List ℕ) GoalFault
 used_machine config name =
-    known kinds.VmType name (option_map machine_properties (named machine_name config.vm_types name))
+    or_unknown kinds.VmType name (option_map machine_properties (first_named machine_name config.vm_types name))
 
 abbrev pub disk_name : DiskKind → List ℕ
 disk_name disk = disk.name
@@ -100,7 +100,7 @@ disk_want disk = disk.want
 
 abbrev pub disk_of_type : Config → List ℕ → Result DiskWant GoalFault
 disk_of_type config name =
-    known kinds.DiskType name (option_map disk_want (named disk_name config.disk_types name))
+    or_unknown kinds.DiskType name (option_map disk_want (first_named disk_name config.disk_types name))
 
 -- no cloud properties
 abbrev pub no_properties : List ℕ
@@ -117,14 +117,14 @@ abbrev pub job_name : JobSpec → List ℕ
 job_name job = job.name
 
 -- the stemcell of an alias
-abbrev pub aliased : List (List ℕ × Stemcell) → List ℕ → Option Stemcell
-aliased stemcells alias = option_map (λ s. s.1) (find (λ s. bytes_eq s.0 alias) stemcells)
+abbrev pub stemcell_of_alias : List (List ℕ × Stemcell) → List ℕ → Option Stemcell
+stemcell_of_alias stemcells alias = option_map (λ s. s.1) (find (λ s. bytes_eq s.0 alias) stemcells)
 
 -- a job, whose release is among those that the manifest lists
 abbrev pub used_job : List Release → JobUse → Result UsedJob GoalFault
 used_job releases asked = do
-  release ← known kinds.Release asked.release (named release_name releases asked.release)
-  spec ← known kinds.Job asked.name (named job_name release.jobs asked.name)
+  release ← or_unknown kinds.Release asked.release (first_named release_name releases asked.release)
+  spec ← or_unknown kinds.Job asked.name (first_named job_name release.jobs asked.name)
   Ok (record { job = asked; release = release; spec = spec })
 
 -- an alias that is none of the manifest's is what is not known
@@ -132,7 +132,7 @@ abbrev pub used_group : Config → List Release → List (List ℕ × Stemcell) 
 used_group config releases stemcells group = do
   zones ← all_known kinds.Az config.azs group.azs
   machine ← used_machine config group.vm_type
-  stemcell ← known kinds.Stemcell group.stemcell (aliased stemcells group.stemcell)
+  stemcell ← or_unknown kinds.Stemcell group.stemcell (stemcell_of_alias stemcells group.stemcell)
   networks ← all_known kinds.Network config.networks (map net_name group.networks)
   disk ← used_disk config group.disk
   jobs ← each (used_job releases) group.jobs

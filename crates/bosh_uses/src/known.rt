@@ -2,7 +2,7 @@
 ghost use Rattle.std.specs.Prelude.{◌≡◌, true};
 ghost use Rattle.std.specs.Option.{option_copied};
 ghost use Rattle.bosh_uses.specs.Answer.{IsAnswerSeen};
-ghost use Rattle.bosh_uses.specs.Uses.{known, none_unknown};
+ghost use Rattle.bosh_uses.specs.Uses.{none_unknown, or_unknown};
 
 use crate::{GoalFault, Kind};
 use bosh_base::{Copyable, Name};
@@ -15,7 +15,7 @@ pub(crate) fn known<'a, T>(
     name: &Name,
     found: Option<&'a T>,
 ) -> Result<&'a T, GoalFault>
-    ensures { IsAnswerSeen (λ thing. thing.now) result (known kind name.now (option_copied found.entry)) }
+    ensures { IsAnswerSeen (λ thing. thing.now) result (or_unknown kind name.now (option_copied found.entry)) }
 {
     match found {
         Some(thing) => Ok(thing),

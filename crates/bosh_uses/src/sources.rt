@@ -5,8 +5,8 @@ ghost use Rattle.bosh_base.specs.declared.release.Release.{Release};
 ghost use Rattle.bosh_base.specs.declared.stemcell.Stemcell.{Stemcell};
 ghost use Rattle.bosh_uses.specs.Answer.{IsAnswerFor, IsAnswerSeen, each};
 ghost use Rattle.bosh_uses.specs.Sources.{AreReleases, AreSources, AreStemcells};
-ghost use Rattle.bosh_lookup.specs.Table.{named};
-ghost use Rattle.bosh_uses.specs.Uses.{aliased, job_name, known, release_name, sources, stemcell_for, used_release, used_stemcell};
+ghost use Rattle.bosh_lookup.specs.Table.{first_named};
+ghost use Rattle.bosh_uses.specs.Uses.{job_name, or_unknown, release_name, sources, stemcell_for, stemcell_of_alias, used_release, used_stemcell};
 ghost use Rattle.bosh_uses.specs.declared.fault.Kind.TheVariants as kinds;
 
 use crate::edition::edition;
@@ -58,7 +58,7 @@ impl<'a> Listed<'a> {
 
     /// What the release says of a job.
     pub(crate) fn job(&self, alloc: Global, name: &Name) -> Result<&'a JobSpec, GoalFault>
-        ensures { IsAnswerSeen (λ spec. spec.now) result (known kinds.Job name.now (named job_name self.now.jobs name.now)) }
+        ensures { IsAnswerSeen (λ spec. spec.now) result (or_unknown kinds.Job name.now (first_named job_name self.now.jobs name.now)) }
     {
         known(alloc, Kind::Job, name, find(&self.jobs, name.as_bytes()))
     }
@@ -149,7 +149,7 @@ impl<'a> Sources<'a> {
 
     pub(crate) fn release(&self, alloc: Global, name: &Name) -> Result<&Listed<'a>, GoalFault>
         ensures { (releases : List Release) → AreReleases releases self.now.releases
-            → IsAnswerSeen (λ listed. listed.now) result (known kinds.Release name.now (named release_name releases name.now)) }
+            → IsAnswerSeen (λ listed. listed.now) result (or_unknown kinds.Release name.now (first_named release_name releases name.now)) }
     {
         known(
             alloc,
@@ -161,7 +161,7 @@ impl<'a> Sources<'a> {
 
     pub(crate) fn stemcell(&self, alloc: Global, alias: &Name) -> Result<&'a Stemcell, GoalFault>
         ensures { (stemcells : List (List ℕ × Stemcell)) → AreStemcells stemcells self.now.stemcells
-            → IsAnswerSeen (λ stemcell. stemcell.now) result (known kinds.Stemcell alias.now (aliased stemcells alias.now)) }
+            → IsAnswerSeen (λ stemcell. stemcell.now) result (or_unknown kinds.Stemcell alias.now (stemcell_of_alias stemcells alias.now)) }
     {
         let found = self.stemcells.get(alias.as_bytes()).copied();
         known(alloc, Kind::Stemcell, alias, found)

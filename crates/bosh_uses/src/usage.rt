@@ -7,7 +7,7 @@ ghost use Rattle.bosh_base.specs.declared.stemcell.Stemcell.{Stemcell};
 ghost use Rattle.bosh_uses.specs.Answer.{IsAnswer, IsAnswerSeen, each};
 ghost use Rattle.bosh_uses.specs.Disk.{want_of};
 ghost use Rattle.bosh_uses.specs.Sources.{AreReleases, AreSources};
-ghost use Rattle.bosh_lookup.specs.Table.{named};
+ghost use Rattle.bosh_lookup.specs.Table.{first_named};
 ghost use Rattle.bosh_uses.specs.Uses.{all_known, disk_name, disk_of_type, disk_want, machine_name, machine_properties, net_name, used_disk, used_group, used_job, used_machine, uses};
 ghost use Rattle.bosh_uses.specs.declared.fault.Kind.TheVariants as kinds;
 
@@ -71,7 +71,7 @@ fn check_networks(alloc: Global, config: &Config, group: &Group) -> Result<(), G
 }
 
 fn machine_of<'a>(config: &'a Config, name: &Name) -> Option<&'a Text>
-    ensures { option_copied result ≡ option_map machine_properties (named machine_name config.now.vm_types name.now) }
+    ensures { option_copied result ≡ option_map machine_properties (first_named machine_name config.now.vm_types name.now) }
 {
     match config.vm_types.iter().find(|kind| kind.name == *name) {
         Some(kind) => Some(&kind.properties),
@@ -86,7 +86,7 @@ fn used_machine<'a>(alloc: Global, config: &'a Config, name: &Name) -> Result<&'
 }
 
 fn disk_named<'a>(config: &'a Config, name: &Name) -> Option<&'a DiskWant>
-    ensures { option_copied result ≡ option_map disk_want (named disk_name config.now.disk_types name.now) }
+    ensures { option_copied result ≡ option_map disk_want (first_named disk_name config.now.disk_types name.now) }
 {
     match config.disk_types.iter().find(|kind| kind.name == *name) {
         Some(kind) => Some(&kind.want),

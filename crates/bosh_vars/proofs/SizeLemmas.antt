@@ -6,10 +6,10 @@ use Rattle.bosh_yaml.specs.Tree.{Tree, Trees, Fields, null, boolean, integer, te
 use Rattle.bosh_yaml.specs.View.{tree_of}
 use Rattle.bosh_yaml.specs.declared.node.Node.{Node}
 use Rattle.bosh_vars.specs.declared.fault.VarsFault.{VarsFault}
-use Rattle.bosh_vars.specs.Filled.{Values, inner_text, text_for, value_for, part_text, joined, only_name, filled_from, filled, filled_items, filled_fields}
+use Rattle.bosh_vars.specs.Filled.{Values, inner_text, text_for, value_for, part_text, joined_text, only_name, filled_from, filled, filled_items, filled_fields}
 use Rattle.bosh_vars.specs.Placeholder.{Part, plain, placeholder, parts}
 use Rattle.bosh_vars.specs.Result.{◌>>=◌, Gives}
-use Rattle.bosh_vars.specs.Size.{node_bytes, most_bytes, fits, size, size_of_items, size_of_fields, text_size, value_size, inner_size, part_size, joined_size, size_from, filled_size, filled_items_size, filled_fields_size}
+use Rattle.bosh_vars.specs.Size.{node_bytes, most_bytes, fits, size, size_of_items, size_of_fields, text_size, value_size, inner_size, part_size, joined_text_size, size_from, filled_size, filled_items_size, filled_fields_size}
 
 ok_is : {A : Type 0} (a b : A) → ◌≡◌ {A = Result A VarsFault} (Ok a) (Ok b) → a ≡ b
 ok_is a b h = cc
@@ -31,13 +31,13 @@ part_made : (values : Values) (part : Part) (s : List ℕ) → part_text values 
 part_made values (plain b) s h = ap length (ok_is (b ∷ []) s h)
 part_made values (placeholder name) s h = inner_made name s (values name) values refl h
 
-joined_made : (values : Values) (ps : List Part) (s : List ℕ) → joined values ps ≡ Ok s → joined_size values ps ≡ length s
+joined_made : (values : Values) (ps : List Part) (s : List ℕ) → joined_text values ps ≡ Ok s → joined_text_size values ps ≡ length s
 joined_made values [] s h = ap length (ok_is [] s h)
 joined_made values (part ∷ rest) s h =
-    let front = bound (part_text values part) (λ front. joined values rest >>= λ more. Ok (front ++ more)) s h in
-    let more = bound (joined values rest) (λ more. Ok (front.0 ++ more)) s front.1.1 in
+    let front = bound (part_text values part) (λ front. joined_text values rest >>= λ more. Ok (front ++ more)) s h in
+    let more = bound (joined_text values rest) (λ more. Ok (front.0 ++ more)) s front.1.1 in
     let whole : front.0 ++ more.0 ≡ s = ok_is (front.0 ++ more.0) s more.1.1 in
-    ap (λ n. n + joined_size values rest) (part_made values part front.0 front.1.0)
+    ap (λ n. n + joined_text_size values rest) (part_made values part front.0 front.1.0)
     ∙ (ap (λ n. length front.0 + n) (joined_made values rest more.0 more.1.0) ∙ (sym (length-append front.0 more.0) ∙ ap length whole))
 
 value_made : (name : List ℕ) (u : Tree) (o : Option Tree) (values : Values) → values name ≡ o → value_for values name ≡ Ok u → value_size o ≡ size u
@@ -47,7 +47,7 @@ value_made name u (Some value) values is h = cc
 text_filled : (values : Values) (o : Option (List ℕ)) (ps : List Part) (u : Tree) → filled_from values o ps ≡ Ok u → size_from values o ps ≡ size u
 text_filled values (Some name) ps u h = value_made name u (values name) values refl h
 text_filled values None ps u h =
-    let s = bound (joined values ps) (λ s. Ok (text s)) u h in
+    let s = bound (joined_text values ps) (λ s. Ok (text s)) u h in
     ap (λ n. node_bytes + n) (joined_made values ps s.0 s.1.0) ∙ ap size (ok_is (text s.0) u s.1.1)
 
 mutual

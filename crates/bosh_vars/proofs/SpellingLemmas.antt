@@ -7,7 +7,7 @@ use Rattle.std.proofs.lemmas.Bool.Decides.{nat_tests}
 use Rattle.std.proofs.lemmas.List.{take-append-drop}
 use Rattle.std.proofs.Math.Seq.{take-append_seam, drop-append_seam}
 use Rattle.bosh_vars.specs.Placeholder.{is_name_letter, name_len, closed_name, name_at, part_of, more_of, parts_past}
-use Rattle.bosh_vars.specs.Spelling.{IsName, AreRight, BeginsWith, written}
+use Rattle.bosh_vars.specs.Spelling.{IsName, AreRight, BeginsWith, text_of_parts}
 use Rattle.bosh_vars.proofs.PlaceholderLemmas.{after_name}
 
 letters_step : (c : Bool) (b : ℕ) (bs : List ℕ) → (is_name_letter b ≡ c) → list_all is_name_letter (take (name_len bs) bs) ≡ true → list_all is_name_letter (take (cond c (suc (name_len bs)) 0) (b ∷ bs)) ≡ true
@@ -75,16 +75,16 @@ written-name_at (a ∷ b ∷ bs) name h =
     let rest : bs ≡ name ++ 41 ∷ 41 ∷ closed.0 = sym (take-append-drop (name_len bs) bs) ∙ closed.1.1 in
     (closed.0, (closed.1.0, ap (λ (a : ℕ). a ∷ b ∷ bs) first ∙ (ap (λ (b : ℕ). 40 ∷ b ∷ bs) second ∙ ap (λ (bs : List ℕ). 40 ∷ 40 ∷ bs) rest)))
 
-part_written : (o : Option (List ℕ)) (b : ℕ) (bs : List ℕ) → name_at (b ∷ bs) ≡ o → written (parts_past (more_of o) bs) ≡ drop (more_of o) bs → written (part_of o b ∷ parts_past (more_of o) bs) ≡ b ∷ bs
+part_written : (o : Option (List ℕ)) (b : ℕ) (bs : List ℕ) → name_at (b ∷ bs) ≡ o → text_of_parts (parts_past (more_of o) bs) ≡ drop (more_of o) bs → text_of_parts (part_of o b ∷ parts_past (more_of o) bs) ≡ b ∷ bs
 part_written None b bs is rest = ap (λ (xs : List ℕ). b ∷ xs) rest
 part_written (Some name) b bs is rest =
     let found = written-name_at (b ∷ bs) name is in
     let tail : bs ≡ 40 ∷ (name ++ 41 ∷ 41 ∷ found.0) = ap (drop 1) found.1.1 in
-    let end : written (parts_past (length name + 3) bs) ≡ found.0 = rest ∙ (ap (drop (length name + 3)) tail ∙ after_name name found.0) in
+    let end : text_of_parts (parts_past (length name + 3) bs) ≡ found.0 = rest ∙ (ap (drop (length name + 3)) tail ∙ after_name name found.0) in
     ap (λ (xs : List ℕ). codes "((" ++ (name ++ (codes "))" ++ xs))) end ∙ sym found.1.1
 
 -- parts past some bytes are written as what follows these
-pub written-past : (n : ℕ) (bs : List ℕ) → written (parts_past n bs) ≡ drop n bs
+pub written-past : (n : ℕ) (bs : List ℕ) → text_of_parts (parts_past n bs) ≡ drop n bs
 written-past zero [] = refl
 written-past (suc n) [] = refl
 written-past (suc n) (b ∷ bs) = written-past n bs

@@ -1,7 +1,7 @@
 -- The filled nodes that are left, behind those that are filled; and that keys stay distinct.
 use Rattle.std.proofs.Common.{◌≡◌, ℕ, zero, suc, ◌<◌, ◌≤◌, false, ◌||◌, List, [], ◌∷◌, ◌++◌, map, length, get_or, Result, Ok, Err, arith, ap, ◌∙◌, subst, refl}
 use Rattle.std.specs.Str.{bytes_eq}
-use Rattle.bosh_yaml.specs.Code.{weight, forest, grove}
+use Rattle.bosh_yaml.specs.Code.{node_count, nodes_in_list, nodes_in_pairs}
 use Rattle.bosh_yaml.specs.Keys.{has_key, HasDistinctKeys}
 use Rattle.bosh_yaml.specs.Tree.{Tree, Trees, Fields, no_trees, tree, no_fields, field, trees_of, fields_of}
 use Rattle.bosh_yaml.specs.View.{tree_of, pair_of}
@@ -100,12 +100,12 @@ distinct_with [] k t u qs d = d
 distinct_with (q ∷ ps) k t u qs d = (has_key-other q.0 ps k t u qs ∙ d.0, distinct_with ps k t u qs d.1)
 
 -- no node of a list or a map outweighs it
-pub weight_at : (ns : List Node) (i : ℕ) (n : Node) → i < length ns → n ≡ get_or ns i n → weight (tree_of n) ≤ forest (map tree_of ns)
+pub weight_at : (ns : List Node) (i : ℕ) (n : Node) → i < length ns → n ≡ get_or ns i n → node_count (tree_of n) ≤ nodes_in_list (map tree_of ns)
 weight_at [] i n h e = absurd (omega arith)
 weight_at (m ∷ ns) zero n h e = rw e (omega arith)
 weight_at (m ∷ ns) (suc i) n h e = omega (arith, weight_at ns i n (omega arith) e)
 
-pub weight_at_key : (es : List (List ℕ × Node)) (i : ℕ) (e : List ℕ × Node) → i < length es → e ≡ get_or es i e → weight (tree_of e.1) ≤ grove (map pair_of es)
+pub weight_at_key : (es : List (List ℕ × Node)) (i : ℕ) (e : List ℕ × Node) → i < length es → e ≡ get_or es i e → node_count (tree_of e.1) ≤ nodes_in_pairs (map pair_of es)
 weight_at_key [] i e h is = absurd (omega arith)
 weight_at_key (m ∷ es) zero e h is = rw is (omega arith)
 weight_at_key (m ∷ es) (suc i) e h is = omega (arith, weight_at_key es i e (omega arith) is)

@@ -27,7 +27,7 @@ values_of (v ∷ vs) name = option_or (values_of vs name) (value_if (bytes_eq v.
 abbrev pub value_for : Values → List ℕ → Result Tree VarsFault
 value_for values name = ok_or (values name) (Unset name)
 
--- a value inside a longer text: text as it is, integers in decimal, truth values in words, null as nothing, and no list or map
+-- a value inside a longer text: text as it is, integers in decimal, truth values in words, null as nothing, and no list or mapping
 abbrev pub inner_text : Tree → Option (List ℕ)
 inner_text null = Some []
 inner_text (boolean true) = Some (codes "true")
@@ -46,11 +46,11 @@ part_text values (plain b) = Ok (b ∷ [])
 part_text values (placeholder name) = value_for values name >>= text_for name
 
 -- the texts of parts, one after another
-abbrev pub joined : Values → List Part → Result (List ℕ) VarsFault
-joined values [] = Ok []
-joined values (part ∷ rest) = do
+abbrev pub joined_text : Values → List Part → Result (List ℕ) VarsFault
+joined_text values [] = Ok []
+joined_text values (part ∷ rest) = do
   front ← part_text values part
-  more ← joined values rest
+  more ← joined_text values rest
   Ok (front ++ more)
 
 -- the name of the placeholder that a text is, if it is one alone
@@ -62,7 +62,7 @@ only_name (placeholder name ∷ p ∷ ps) = None
 
 abbrev pub filled_from : Values → Option (List ℕ) → List Part → Result Tree VarsFault
 filled_from values (Some name) ps = value_for values name
-filled_from values None ps = joined values ps >>= λ s. Ok (text s)
+filled_from values None ps = joined_text values ps >>= λ s. Ok (text s)
 
 -- a text that is one placeholder becomes the value; in any other text each placeholder becomes its value's text
 abbrev pub filled_text : Values → List Part → Result Tree VarsFault

@@ -48,13 +48,13 @@ abbrev pub part_size : Values → Part → ℕ
 part_size values (plain b) = 1
 part_size values (placeholder name) = inner_size (values name)
 
-abbrev pub joined_size : Values → List Part → ℕ
-joined_size values [] = 0
-joined_size values (part ∷ rest) = part_size values part + joined_size values rest
+abbrev pub joined_text_size : Values → List Part → ℕ
+joined_text_size values [] = 0
+joined_text_size values (part ∷ rest) = part_size values part + joined_text_size values rest
 
 abbrev pub size_from : Values → Option (List ℕ) → List Part → ℕ
 size_from values (Some name) ps = value_size (values name)
-size_from values None ps = node_bytes + joined_size values ps
+size_from values None ps = node_bytes + joined_text_size values ps
 
 abbrev pub filled_text_size : Values → List Part → ℕ
 filled_text_size values ps = size_from values (only_name ps) ps

@@ -16,13 +16,13 @@ abbrev pub BeginsWith : List ℕ → List ℕ → List ℕ → Type 0
 BeginsWith text name after = IsName name × (text ≡ codes "((" ++ (name ++ (codes "))" ++ after)))
 
 -- parts as text, one after another
-abbrev pub written : List Part → List ℕ
-written [] = []
-written (plain b ∷ ps) = b ∷ written ps
-written (placeholder name ∷ ps) = codes "((" ++ (name ++ (codes "))" ++ written ps))
+abbrev pub text_of_parts : List Part → List ℕ
+text_of_parts [] = []
+text_of_parts (plain b ∷ ps) = b ∷ text_of_parts ps
+text_of_parts (placeholder name ∷ ps) = codes "((" ++ (name ++ (codes "))" ++ text_of_parts ps))
 
 -- each placeholder has a name, and a byte stands as plain only where what is written from it on begins with no placeholder
 abbrev pub AreRight : List Part → Type 0
 AreRight [] = Unit {0}
-AreRight (plain b ∷ ps) = ((name after : List ℕ) → ¬ BeginsWith (b ∷ written ps) name after) × AreRight ps
+AreRight (plain b ∷ ps) = ((name after : List ℕ) → ¬ BeginsWith (b ∷ text_of_parts ps) name after) × AreRight ps
 AreRight (placeholder name ∷ ps) = IsName name × AreRight ps

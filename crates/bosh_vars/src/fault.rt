@@ -11,7 +11,7 @@ use std::alloc::{AllocError, AllocFailed};
 pub enum VarsFault {
     /// No value is given for the name of this placeholder.
     Unset { name: Str },
-    /// This placeholder stands inside a longer text, and its value is a list or a map.
+    /// This placeholder stands inside a longer text, and its value is a list or a mapping.
     NotText { name: Str },
     /// Memory ran out.
     Memory,

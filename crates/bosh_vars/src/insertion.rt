@@ -4,7 +4,7 @@ ghost use Rattle.std.specs.Prelude.{◌≡◌, ◌++◌, IfSome, Ok, OnOk};
 ghost use Rattle.std.specs.Option.{option_map};
 ghost use Rattle.std.specs.Str.{IsUtf8};
 ghost use Rattle.bosh_yaml.specs.View.{tree_of};
-ghost use Rattle.bosh_vars.specs.Filled.{filled_text, joined as joined_parts, only_name as single_name, text_for};
+ghost use Rattle.bosh_vars.specs.Filled.{filled_text, joined_text as joined_parts, only_name as single_name, text_for};
 ghost use Rattle.bosh_vars.specs.Placeholder.{parts};
 ghost use Rattle.bosh_vars.specs.Result.{Gives, with_front};
 ghost use Rattle.bosh_vars.specs.Table.{found_in};

@@ -5,7 +5,7 @@ ghost use Rattle.std.specs.Option.{option_map};
 ghost use Rattle.bosh_yaml.specs.Tree.{fields_of, trees_of};
 ghost use Rattle.bosh_yaml.specs.View.{tree_of};
 ghost use Rattle.bosh_vars.specs.Placeholder.{parts};
-ghost use Rattle.bosh_vars.specs.Size.{filled_fields_size, filled_items_size, filled_size, filled_text_size, fits, inner_size, joined_size, size, size_of_fields, size_of_items, value_size};
+ghost use Rattle.bosh_vars.specs.Size.{filled_fields_size, filled_items_size, filled_size, filled_text_size, fits, inner_size, joined_text_size, size, size_of_fields, size_of_items, value_size};
 ghost use Rattle.bosh_vars.specs.Table.{found_in};
 
 use crate::insertion::only_name;
@@ -76,7 +76,7 @@ fn inner_len_of(values: &Table, name: &[u8]) -> usize
 }
 
 fn after_joined(left: usize, text: &[u8], values: &Table) -> Option<usize>
-    ensures { SomeIff result (joined_size (found_in values.now) (parts text.now) ≤ left) (left - joined_size (found_in values.now) (parts text.now)) }
+    ensures { SomeIff result (joined_text_size (found_in values.now) (parts text.now) ≤ left) (left - joined_text_size (found_in values.now) (parts text.now)) }
 {
     let mut room = left;
     let mut rest = text;

@@ -37,7 +37,7 @@ use Rattle.bosh_world.proofs.SiteLemmas.{SameRest, noted, notes_if, refuses_if}
 use Rattle.bosh_world.specs.Faults.{answered_as, fault_as, halt_by, halt_of}
 use Rattle.bosh_world.specs.IsSite.{IsSite}
 use Rattle.bosh_world.specs.Refuses.{IsBooks, IsUnheld, Refuses, RefusesClaim}
-use Rattle.bosh_world.specs.Steps.{Claims, Comes, EndsTask, Notes, OpensTask, bodies_of, noted_by}
+use Rattle.bosh_world.specs.Steps.{Claims, Comes, EndsTask, Notes, OpensTask, bodies_of, entries_for}
 use Rattle.bosh_world.specs.Told.{story_of}
 use Rattle.bosh_world.specs.declared.fault.SiteFault.{SiteFault}
 use Rattle.bosh_world.specs.declared.fault.SiteFault.TheVariants.{Memory}
@@ -65,7 +65,7 @@ site_stays faults was now answer sprung stale before after told effects fails st
 -- an upload that is new was noted
 pub new_ok : {K : Type 0} (bodies : K → Option (List (List ℕ))) (faults : K → ℕ) (was now : Book K)
     (answer : Result Added BookFault) (entry : Entry) → Adds bodies faults was (if_new answer entry) now →
-    IfOk answer (λ added. Adds bodies faults was (noted_by added entry) now)
+    IfOk answer (λ added. Adds bodies faults was (entries_for added entry) now)
 new_ok bodies faults was now (Ok New) entry adds = adds
 new_ok bodies faults was now (Ok Same) entry adds = adds
 new_ok bodies faults was now (Err fault) entry adds = tt

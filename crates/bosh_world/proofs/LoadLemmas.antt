@@ -12,8 +12,8 @@ use Rattle.bosh_moves.specs.Story.{HistoryView, halts, story}
 use Rattle.bosh_ports.specs.Rigged.{RigState, broken_of, faults_of}
 use Rattle.bosh_ports.specs.declared.keeper.Keeper as keeper
 use Rattle.bosh_world.specs.IsSite.{IsSite}
-use Rattle.bosh_world.specs.Loads.{IsJoined, IsNoBook, IsUntold, Joins, unrigged}
-use Rattle.bosh_world.specs.Restarts.{read_by}
+use Rattle.bosh_world.specs.Loads.{IsJoined, IsNoBook, IsUntold, Joins, without_rigs}
+use Rattle.bosh_world.specs.Restarts.{read_count}
 use Rattle.bosh_world.specs.Steps.{Comes, IsAllTold, KeepsBooks, bodies_of}
 use Rattle.bosh_world.specs.declared.site.Site.{Site}
 use Rattle.bosh_world.specs.declared.unloaded.Unloaded as unloaded
@@ -23,7 +23,7 @@ use Rattle.bosh_world.specs.declared.fault.SiteFault.TheVariants.{Memory}
 ended_within : (count ended : ℕ) → count - ended ≤ count
 ended_within count ended = omega arith
 
-pub read_within : {K : Type 0} (book : Book K) → read_by book ≤ length book.journal.entries
+pub read_within : {K : Type 0} (book : Book K) → read_count book ≤ length book.journal.entries
 read_within book = ended_within (length book.journal.entries) _
 
 -- a history of nothing
@@ -36,7 +36,7 @@ pub begins : {K : Type 0} (book : Book K) (history : HistoryView) (count effects
       restart = None;
       halt = None;
       is_halted = false;
-    } → count ≡ read_by book → stopped ≡ false → stale ≡ false → IsSite book.journal.entries stopped stale history
+    } → count ≡ read_count book → stopped ≡ false → stale ≡ false → IsSite book.journal.entries stopped stale history
 begins book history count effects stopped stale is read running fresh = record {
   is_of = of_on history book.journal.entries (ap (λ h. h.restart) is)
       (subst (λ (n : ℕ). n ≤ length book.journal.entries) (sym (ap (λ h. h.entries) is ∙ read)) (read_within book))
@@ -48,7 +48,7 @@ begins book history count effects stopped stale is read running fresh = record {
 -- a book and a cloud of which nothing is told, and then the moves are told
 pub joins : {K L : Type 0} {k : keeper.Ghosts K} {l : keeper.Ghosts L} (bodies : K → Option (List (List ℕ))) (faults : K → ℕ)
     (is_broken : K → Bool) (store : K) (cloud : CloudView L) (book : Book (RigState K)) (was site : Site K L k l) →
-    StartsFrom {T = Unit {0}} (bodies_of bodies) (faults_of faults) (broken_of is_broken) true (unrigged store) (Ok tt) book →
+    StartsFrom {T = Unit {0}} (bodies_of bodies) (faults_of faults) (broken_of is_broken) true (without_rigs store) (Ok tt) book →
     IsJoined book cloud was → Comes was [] site → KeepsBooks was site → IsAllTold site →
     Joins bodies faults is_broken store cloud site
 joins bodies faults is_broken store cloud book was site starts joined comes keeps told =
@@ -56,9 +56,9 @@ joins bodies faults is_broken store cloud book was site starts joined comes keep
     record {
       book =
           subst (λ (it : Book (RigState _)). StartsFrom {T = Unit {0}} (bodies_of bodies) (faults_of faults)
-          (broken_of is_broken) true (unrigged store) (Ok tt) it) (sym same) starts;
+          (broken_of is_broken) true (without_rigs store) (Ok tt) it) (sym same) starts;
       same_cloud = keeps.same_cloud ∙ joined.same_cloud;
-      opening = keeps.same_opening ∙ joined.opening ∙ ap (λ it. (read_by it, length cloud.effects)) (sym same);
+      opening = keeps.same_opening ∙ joined.opening ∙ ap (λ it. (read_count it, length cloud.effects)) (sym same);
       moves_of =
           sym (story_all site.history site.book.journal.entries site.cloud.effects told.told.no_restart told.entries
           told.told.no_halt)
@@ -66,9 +66,9 @@ joins bodies faults is_broken store cloud book was site starts joined comes keep
           ∙ append-nil (story was.history was.book.journal.entries was.cloud.effects)
           ∙ story_on was.history was.book.journal.entries was.cloud.effects (ap (λ h. h.restart) joined.history)
           ∙ ap (λ h. h.moves ++ (map Note (drop h.entries was.book.journal.entries) ++ halts h.halt)) joined.history
-          ∙ append-nil (map Note (drop (read_by book) was.book.journal.entries))
-          ∙ ap (λ it. map Note (drop (read_by book) it.journal.entries)) joined.same_book
-          ∙ ap (λ it. map Note (drop (read_by it) it.journal.entries)) (sym same);
+          ∙ append-nil (map Note (drop (read_count book) was.book.journal.entries))
+          ∙ ap (λ it. map Note (drop (read_count book) it.journal.entries)) joined.same_book
+          ∙ ap (λ it. map Note (drop (read_count it) it.journal.entries)) (sym same);
       told = told;
       running = keeps.same_halt ∙ ap (λ h. h.is_halted) joined.history;
       no_calls = ap (λ it. it.places.entries) keeps.same_calls ∙ joined.no_calls;
@@ -78,7 +78,7 @@ joins bodies faults is_broken store cloud book was site starts joined comes keep
 pub joins_if : {K L F : Type 0} {k : keeper.Ghosts K} {l : keeper.Ghosts L} (bodies : K → Option (List (List ℕ)))
     (faults : K → ℕ) (is_broken : K → Bool) (store : K) (cloud : CloudView L) (book : Book (RigState K))
     (was : Site K L k l) (result : Result (Site K L k l) F) →
-    StartsFrom {T = Unit {0}} (bodies_of bodies) (faults_of faults) (broken_of is_broken) true (unrigged store) (Ok tt) book →
+    StartsFrom {T = Unit {0}} (bodies_of bodies) (faults_of faults) (broken_of is_broken) true (without_rigs store) (Ok tt) book →
     IsJoined book cloud was → IfOk result (λ site. Comes was [] site × KeepsBooks was site × IsAllTold site) →
     IfOk result (Joins bodies faults is_broken store cloud)
 joins_if bodies faults is_broken store cloud book was (Ok site) starts joined begun =
@@ -89,7 +89,7 @@ joins_if bodies faults is_broken store cloud book was (Err back) starts joined b
 pub untold : {K L : Type 0} {k : keeper.Ghosts K} {l : keeper.Ghosts L} (bodies : K → Option (List (List ℕ)))
     (faults : K → ℕ) (is_broken : K → Bool) (store : K) (cloud : CloudView L) (book : Book (RigState K))
     (was : Site K L k l) (store_now : K) (cloud_now : L) (fault : SiteFault) →
-    StartsFrom {T = Unit {0}} (bodies_of bodies) (faults_of faults) (broken_of is_broken) true (unrigged store) (Ok tt) book →
+    StartsFrom {T = Unit {0}} (bodies_of bodies) (faults_of faults) (broken_of is_broken) true (without_rigs store) (Ok tt) book →
     IsJoined book cloud was →
     (store_now ≡ was.book.journal.store.inner) × (cloud_now ≡ was.cloud.store) × (fault ≡ Memory) →
     (cloud_now ≡ cloud.store) × (IsNoBook bodies faults is_broken store store_now fault
@@ -102,7 +102,7 @@ untold bodies faults is_broken store cloud book was store_now cloud_now fault st
 pub untold_if : {K L : Type 0} {k : keeper.Ghosts K} {l : keeper.Ghosts L} (bodies : K → Option (List (List ℕ)))
     (faults : K → ℕ) (is_broken : K → Bool) (store : K) (cloud : CloudView L) (book : Book (RigState K))
     (was : Site K L k l) (result : Result (Site K L k l) (unloaded.Unloaded K L)) →
-    StartsFrom {T = Unit {0}} (bodies_of bodies) (faults_of faults) (broken_of is_broken) true (unrigged store) (Ok tt) book →
+    StartsFrom {T = Unit {0}} (bodies_of bodies) (faults_of faults) (broken_of is_broken) true (without_rigs store) (Ok tt) book →
     IsJoined book cloud was →
     IfErr result (λ back. (back.store ≡ was.book.journal.store.inner) × (back.cloud ≡ was.cloud.store)
     × (back.fault ≡ Memory)) →
@@ -114,17 +114,17 @@ untold_if bodies faults is_broken store cloud book was (Err back) starts joined 
 
 -- the store of the load was without rigs
 pub starts_unrigged : {K : Type 0} (bodies : K → Option (List (List ℕ))) (faults : K → ℕ) (is_broken : K → Bool) (store : K)
-    (rigged : RigState K) (book : Book (RigState K)) → rigged ≡ unrigged store →
+    (rigged : RigState K) (book : Book (RigState K)) → rigged ≡ without_rigs store →
     StartsFrom {T = Unit {0}} (bodies_of bodies) (faults_of faults) (broken_of is_broken) true rigged (Ok tt) book →
-    StartsFrom {T = Unit {0}} (bodies_of bodies) (faults_of faults) (broken_of is_broken) true (unrigged store) (Ok tt) book
+    StartsFrom {T = Unit {0}} (bodies_of bodies) (faults_of faults) (broken_of is_broken) true (without_rigs store) (Ok tt) book
 starts_unrigged bodies faults is_broken store rigged book is starts =
     subst (λ (it : RigState _). StartsFrom {T = Unit {0}} (bodies_of bodies) (faults_of faults) (broken_of is_broken) true it
     (Ok tt) book) is starts
 
 pub unloaded_unrigged : {K : Type 0} (bodies : K → Option (List (List ℕ))) (faults : K → ℕ) (is_broken : K → Bool)
-    (store : K) (rigged now : RigState K) (fault : BookFault) → rigged ≡ unrigged store →
+    (store : K) (rigged now : RigState K) (fault : BookFault) → rigged ≡ without_rigs store →
     IsNotLoaded (bodies_of bodies) (faults_of faults) (broken_of is_broken) rigged now fault →
-    IsNotLoaded (bodies_of bodies) (faults_of faults) (broken_of is_broken) (unrigged store) now fault
+    IsNotLoaded (bodies_of bodies) (faults_of faults) (broken_of is_broken) (without_rigs store) now fault
 unloaded_unrigged bodies faults is_broken store rigged now fault is refused =
     subst (λ (it : RigState _). IsNotLoaded (bodies_of bodies) (faults_of faults) (broken_of is_broken) it now fault) is
     refused

@@ -26,12 +26,12 @@ use Rattle.bosh_book.specs.Current.{IsCurrent}
 use Rattle.bosh_book.specs.declared.granted.Granted.{Granted}
 use Rattle.bosh_cloud.specs.CloudView.{CloudView}
 use Rattle.bosh_cloud.specs.Notes.{Does}
-use Rattle.bosh_cloud.specs.Performs.{added, added_by, answer_under, fate_of, has_effect}
+use Rattle.bosh_cloud.specs.Performs.{answer_under, effects_if, fate_of, has_effect, new_effects}
 use Rattle.bosh_fates.specs.declared.fate.Fate.{Fate}
 use Rattle.bosh_moves.proofs.TellLemmas.{bare_on}
 use Rattle.bosh_moves.specs.Story.{Follows, HistoryView, IsOf, story}
 use Rattle.bosh_ports.specs.declared.keeper.Keeper as keeper
-use Rattle.bosh_traps.specs.Traps.{decided, traps_after}
+use Rattle.bosh_traps.specs.Traps.{decision, traps_after}
 use Rattle.bosh_traps.specs.declared.trap.Armed.{Armed}
 use Rattle.bosh_traps.specs.declared.trap.Firing.{Firing}
 use Rattle.bosh_world.proofs.PushLemmas.{comes_then}
@@ -82,7 +82,7 @@ halts_in_cloud bodies faults was now cause of running goes book opening follows 
 pub stops_as : {K L : Type 0} {k : keeper.Ghosts K} {l : keeper.Ghosts L} (bodies : L → Option (List (List ℕ)))
     (faults : L → ℕ) (was now : Site K L k l) (permit : Granted) (firing : Firing) (n : ℕ) (cause : Cause) (fault : SiteFault) →
     n ≡ permit.n → fault ≡ stop_fault cause →
-    decided (method_of permit.call) permit.owner was.traps.items ≡ Some firing →
+    decision (method_of permit.call) permit.owner was.traps.items ≡ Some firing →
     TakesEffects bodies faults was.cloud (Some cause) now.cloud →
     EachTakes bodies faults was.book.records firing n false was.calls.places.entries was.cloud (Some cause) now.cloud →
     now.traps.items ≡ traps_after (method_of permit.call) permit.owner was.traps.items →
@@ -163,7 +163,7 @@ pub no_memory : {K L T : Type 0} {k : keeper.Ghosts K} {l : keeper.Ghosts L} (bo
     (faults : L → ℕ) (was now : Site K L k l) (permit : Granted) (e : effect.Effect) (answer : Answer)
     (result : Result T SiteFault) → IfErr result (λ fault. (fault ≡ Memory) × (is_large answer ≡ true)) →
     answer ≡ answer_under (fate_of was.cloud e.owner e.call) was.cloud.effects e.call →
-    Does {T = Answer} bodies faults (Ok answer) was.cloud (added was.cloud e) now.cloud →
+    Does {T = Answer} bodies faults (Ok answer) was.cloud (new_effects was.cloud e) now.cloud →
     was.history.is_halted ≡ false → IsOf was.history was.book.journal.entries → now.book ≡ was.book →
     now.history ≡ was.history → now.traps.items ≡ was.traps.items → now.opening ≡ was.opening →
     IfErr result (λ fault. RefusesToPerform bodies faults was permit fault now)
@@ -174,7 +174,7 @@ no_memory bodies faults was now permit e answer (Err fault) lacked is does runni
     subst (λ (f : SiteFault). RefusesToPerform bodies faults was permit f now) (sym lacked.0) (
       ap (λ h. h.is_halted) history ∙ running,
       comes_same was now of running book history,
-      does.notes.2 ∙ ap (λ (has : Bool). was.cloud.effects ++ added_by has e) stays ∙ append-nil was.cloud.effects,
+      does.notes.2 ∙ ap (λ (has : Bool). was.cloud.effects ++ effects_if has e) stays ∙ append-nil was.cloud.effects,
       book,
       armed,
       opening,
@@ -213,7 +213,7 @@ pub performs_as : {K L : Type 0} {k : keeper.Ghosts K} {l : keeper.Ghosts L} (bo
     (faults : L → ℕ) (was mid now : Site K L k l) (permit : Granted) (told : did.Did) (answer : Answer) →
     IsAsked bodies faults was permit told answer mid → Holds mid permit told now →
     IsOf was.history was.book.journal.entries → was.history.is_halted ≡ false →
-    decided (method_of permit.call) permit.owner was.traps.items ≡ None → Performs bodies faults was permit answer now
+    decision (method_of permit.call) permit.owner was.traps.items ≡ None → Performs bodies faults was permit answer now
 performs_as bodies faults was mid now permit told answer asked holds of running unstopped = record {
   asks = subst (λ (cloud : CloudView _). Asks bodies faults was.cloud permit answer cloud) (sym holds.same_cloud) asked.asks;
   comes = subst (λ (it : did.Did). Comes was (moves.Did it ∷ []) now) asked.told

@@ -14,7 +14,7 @@ use Rattle.bosh_moves.proofs.StoryLemmas.{extends_more}
 use Rattle.bosh_moves.proofs.TellLemmas.{halt_comes, tells_then, then_told}
 use Rattle.bosh_moves.specs.Found.{kept_at, stop_of}
 use Rattle.bosh_moves.specs.Replies.{replies_in, reply_of}
-use Rattle.bosh_moves.specs.Story.{Follows, HistoryView, IsOf, IsTold, Tells, halts, kept_by, story}
+use Rattle.bosh_moves.specs.Story.{Follows, HistoryView, IsOf, IsTold, Tells, halts, kept_count, story}
 use Rattle.bosh_world.specs.Anew.{GoesAnew, Halts, IsAtHalt, halt_after}
 use Rattle.bosh_world.specs.Restarts.{first_halt}
 
@@ -96,7 +96,7 @@ IsAnew was entries effects kept halt now =
     now ≡ record was {
       moves = was.moves ++ Stop (stop_of (kept_at kept entries was.entries) (drop was.effects effects)) ∷ [];
       free = now.free;
-      entries = min was.entries (length entries) + kept_by (Some kept);
+      entries = min was.entries (length entries) + kept_count (Some kept);
       effects = length effects;
       halt = halt;
       is_halted = is_some halt;

@@ -16,11 +16,11 @@ use Rattle.bosh_cloud.specs.Reads.{Reads}
 use Rattle.bosh_moves.proofs.StoryLemmas.{extends_more}
 use Rattle.bosh_moves.proofs.TellLemmas.{story_all, told_on}
 use Rattle.bosh_moves.specs.Found.{kept_at, stop_of}
-use Rattle.bosh_moves.specs.Story.{HistoryView, effects_told, halts, kept_by, story}
+use Rattle.bosh_moves.specs.Story.{HistoryView, effects_told, halts, kept_count, story}
 use Rattle.bosh_ports.specs.Rigged.{RigState, broken_of, faults_of}
 use Rattle.bosh_ports.specs.declared.keeper.Keeper as keeper
 use Rattle.bosh_world.specs.Anew.{BookRestarts, GoesAnew, Halts, HaltsAnew, IsAtHalt, SameTraps, StaysUnread}
-use Rattle.bosh_world.specs.Restarts.{IsBookUnread, IsNotRead, IsUnread, RefusesRestart, Restarts, first_halt, read_by}
+use Rattle.bosh_world.specs.Restarts.{IsBookUnread, IsNotRead, IsUnread, RefusesRestart, Restarts, first_halt, read_count}
 use Rattle.bosh_world.specs.Steps.{bodies_of}
 use Rattle.bosh_world.specs.declared.fault.SiteFault.{SiteFault}
 use Rattle.bosh_world.specs.declared.site.Site.{Site}
@@ -29,7 +29,7 @@ use Rattle.bosh_world.specs.declared.site.Site.{Site}
 abbrev tail : List Entry → List Entry → ℕ → Option Cause → ℕ → ℕ → List Move
 tail entries effects read halt n told =
     moves.Stop (stop_of (kept_at (nat_lt n read) entries n) (drop told effects))
-    ∷ map moves.Note (drop (min n (length entries) + kept_by (Some (nat_lt n read))) entries)
+    ∷ map moves.Note (drop (min n (length entries) + kept_count (Some (nat_lt n read))) entries)
     ++ halts halt
 
 -- what has come once the site had halted, and started anew
@@ -78,7 +78,7 @@ restarts bodies faults is_broken cloud_bodies cloud_faults was mid started halt 
         anew.anew.grows.1;
     story =
         story_anew was.history mid.history now.history was.book.journal.entries was.cloud.effects now.book.journal.entries
-        now.cloud.effects (read_by now.book) halt of.first of.at anew.anew;
+        now.cloud.effects (read_count now.book) halt of.first of.at anew.anew;
   };
   halted = anew.anew.halted;
   no_calls = anew.no_calls;

@@ -13,7 +13,7 @@ use Rattle.bosh_moves.proofs.StoryLemmas.{extends_more}
 use Rattle.bosh_ports.specs.Faults.{NeverFalls, Rose}
 use Rattle.bosh_records.specs.declared.records.Records.{Records}
 use Rattle.bosh_traps.specs.declared.trap.Firing.{Firing}
-use Rattle.bosh_world.specs.Stopping.{EachTakes, GoesOn, TakesEffect, TakesEffects, added_of, cause_by, comes, effect_of}
+use Rattle.bosh_world.specs.Stopping.{EachTakes, GoesOn, TakesEffect, TakesEffects, cause_by, comes, effect_of, new_effects_of}
 
 -- effects have come so far, or none
 pub record HasCome {L : Type 0} (bodies : L → Option (List (List ℕ))) (faults : L → ℕ) (was : CloudView L) (came : Bool)
@@ -71,7 +71,7 @@ one_failed bodies faults was mid now came (cloud.Damaged position) not so_far ta
 pub takes_one : {L : Type 0} (bodies : L → Option (List (List ℕ))) (faults : L → ℕ) (records : Records) (firing : Firing)
     (n : ℕ) (came : Bool) (list rest : List (ℕ × Option ℕ)) (it : ℕ × Option ℕ) (was mid now : CloudView L)
     (cause : Option Cause) → list ≡ it ∷ rest → comes firing (it.0 == n) it.1 ≡ true →
-    Does {T = Unit {0}} bodies faults (Ok tt) was (added_of was (effect_of records it.0)) mid →
+    Does {T = Unit {0}} bodies faults (Ok tt) was (new_effects_of was (effect_of records it.0)) mid →
     EachTakes bodies faults records firing n true rest mid cause now →
     EachTakes bodies faults records firing n came list was cause now
 takes_one bodies faults records firing n came list rest it was mid now cause is may does each =
@@ -83,7 +83,7 @@ pub lacks_one : {L : Type 0} (bodies : L → Option (List (List ℕ))) (faults :
     (n : ℕ) (came : Bool) (list rest : List (ℕ × Option ℕ)) (it : ℕ × Option ℕ) (was now : CloudView L)
     (cause : Option Cause) (fault : CloudFault) → fault ≡ cloud.Memory → cause ≡ cause_by came → list ≡ it ∷ rest →
     comes firing (it.0 == n) it.1 ≡ true →
-    Does {T = Unit {0}} bodies faults (Err fault) was (added_of was (effect_of records it.0)) now →
+    Does {T = Unit {0}} bodies faults (Err fault) was (new_effects_of was (effect_of records it.0)) now →
     EachTakes bodies faults records firing n came list was cause now
 lacks_one bodies faults records firing n came list rest it was now cause fault lacked by is may does =
     subst (λ (calls : List (ℕ × Option ℕ)). EachTakes bodies faults records firing n came calls was cause now) (sym is)
@@ -93,7 +93,7 @@ lacks_one bodies faults records firing n came list rest it was now cause fault l
         cloud.Memory,
         (
           subst (λ (f : CloudFault). Does {T = Unit {0}} bodies faults (Err f) was
-              (added_of was (effect_of records it.0)) now) lacked does,
+              (new_effects_of was (effect_of records it.0)) now) lacked does,
           by,
         ),
       ),
@@ -103,7 +103,7 @@ lacks_one bodies faults records firing n came list rest it was now cause fault l
 pub fails_one : {L : Type 0} (bodies : L → Option (List (List ℕ))) (faults : L → ℕ) (records : Records) (firing : Firing)
     (n : ℕ) (came : Bool) (list rest : List (ℕ × Option ℕ)) (it : ℕ × Option ℕ) (was now : CloudView L) (fault : CloudFault) →
     list ≡ it ∷ rest → comes firing (it.0 == n) it.1 ≡ true → (fault ≡ cloud.Memory → ⊥) →
-    Does {T = Unit {0}} bodies faults (Err fault) was (added_of was (effect_of records it.0)) now →
+    Does {T = Unit {0}} bodies faults (Err fault) was (new_effects_of was (effect_of records it.0)) now →
     EachTakes bodies faults records firing n came list was (Some causes.CloudStore) now
 fails_one bodies faults records firing n came list rest it was now cloud.StoreFault is may other does =
     subst (λ (calls : List (ℕ × Option ℕ)). EachTakes bodies faults records firing n came calls was (Some causes.CloudStore) now)

@@ -10,10 +10,10 @@ use Rattle.bosh_base.specs.declared.moves.Move.TheVariants as moves
 use Rattle.bosh_book.specs.Starts.{StartsFrom}
 use Rattle.bosh_book.specs.declared.book.Book.{Book}
 use Rattle.bosh_moves.specs.Found.{kept_at, stop_of}
-use Rattle.bosh_moves.specs.Story.{HistoryView, IsOf, IsTold, effects_told, halts, kept_by, story}
+use Rattle.bosh_moves.specs.Story.{HistoryView, IsOf, IsTold, effects_told, halts, kept_count, story}
 use Rattle.bosh_ports.specs.Rigged.{RigState, broken_of, faults_of}
 use Rattle.bosh_ports.specs.declared.keeper.Keeper as keeper
-use Rattle.bosh_world.specs.Restarts.{HaltsAgain, first_halt, read_by}
+use Rattle.bosh_world.specs.Restarts.{HaltsAgain, first_halt, read_count}
 use Rattle.bosh_world.specs.Steps.{bodies_of}
 use Rattle.bosh_world.specs.declared.fault.SiteFault.{SiteFault}
 use Rattle.bosh_world.specs.declared.site.Site.{Site}
@@ -43,13 +43,13 @@ pub record GoesAnew (was : HistoryView) (entries effects : List Entry) (kept : B
   pub grows : Extends was.moves now.moves
   pub story : story now entries effects ≡
       was.moves ++ (moves.Stop (stop_of (kept_at kept entries was.entries) (drop was.effects effects))
-      ∷ map moves.Note (drop (min was.entries (length entries) + kept_by (Some kept)) entries) ++ halts halt)
+      ∷ map moves.Note (drop (min was.entries (length entries) + kept_count (Some kept)) entries) ++ halts halt)
   pub is_of : IsOf now entries
   pub halted : now.is_halted ≡ is_some halt
 
 -- an entry is there that was not told
-abbrev pub kept_one : {K : Type 0} → HistoryView → Book (RigState K) → Bool
-kept_one history book = nat_lt history.entries (read_by book)
+abbrev pub has_kept_entry : {K : Type 0} → HistoryView → Book (RigState K) → Bool
+has_kept_entry history book = nat_lt history.entries (read_count book)
 
 -- the book started, over the store that it had, and that is told
 pub record BookRestarts {K L : Type 0} {k : keeper.Ghosts K} {l : keeper.Ghosts L}
@@ -57,7 +57,7 @@ pub record BookRestarts {K L : Type 0} {k : keeper.Ghosts K} {l : keeper.Ghosts 
     (started : Result (Unit {0}) BookFault) (halt : Option Cause) (now : Site K L k l) : Type 0 where
   pub book : StartsFrom (bodies_of bodies) (faults_of faults) (broken_of is_broken) false was.book.journal.store started
       now.book
-  pub anew : GoesAnew was.history now.book.journal.entries now.cloud.effects (kept_one was.history now.book) halt now.history
+  pub anew : GoesAnew was.history now.book.journal.entries now.cloud.effects (has_kept_entry was.history now.book) halt now.history
   pub no_calls : now.calls.places.entries ≡ []
 
 -- the same of a book that did not start, or whose start was not told

@@ -15,13 +15,13 @@ use Rattle.bosh_book.specs.declared.granted.Granted.{Granted}
 use Rattle.bosh_cloud.specs.CloudView.{CloudView}
 use Rattle.bosh_cloud.specs.Loading.{IsKept}
 use Rattle.bosh_cloud.specs.Notes.{Does}
-use Rattle.bosh_cloud.specs.Performs.{Spends, added, answer_under, fate_of, has_effect}
+use Rattle.bosh_cloud.specs.Performs.{Spends, answer_under, fate_of, has_effect, new_effects}
 use Rattle.bosh_ports.specs.Faults.{NeverFalls, Rose}
 use Rattle.bosh_ports.specs.declared.keeper.Keeper as keeper
 use Rattle.bosh_world.specs.declared.site.Site.{Site}
 use Rattle.bosh_world.specs.Told.{IsPerformable}
 use Rattle.bosh_world.specs.Steps.{Comes}
-use Rattle.bosh_traps.specs.Traps.{decided, traps_after}
+use Rattle.bosh_traps.specs.Traps.{decision, traps_after}
 use Rattle.bosh_traps.specs.declared.trap.Firing.{Firing}
 use Rattle.bosh_world.specs.Stopping.{EachTakes}
 use Rattle.bosh_world.specs.declared.fault.SiteFault.{SiteFault}
@@ -44,7 +44,7 @@ pub record Asks {L : Type 0}
     (bodies : L → Option (List (List ℕ))) (faults : L → ℕ) (was : CloudView L) (permit : Granted) (answer : Answer)
     (now : CloudView L) : Type 0 where
   pub answers : answer ≡ answer_under (fate_of was permit.owner permit.call) was.effects permit.call
-  pub does : Does {T = Answer} bodies faults (Ok answer) was (added was (effect_of permit)) now
+  pub does : Does {T = Answer} bodies faults (Ok answer) was (new_effects was (effect_of permit)) now
   pub fates : Spends (method_of permit.call) permit.owner was now
 
 -- .. and nothing else happens
@@ -81,7 +81,7 @@ pub record Performs {K L : Type 0} {k : keeper.Ghosts K} {l : keeper.Ghosts L}
   pub comes : Comes was (moves.Did (did_of was.cloud permit answer) ∷ []) now
   pub running : was.history.is_halted ≡ false
   pub runs_on : now.history.is_halted ≡ false
-  pub unstopped : decided (method_of permit.call) permit.owner was.traps.items ≡ None
+  pub unstopped : decision (method_of permit.call) permit.owner was.traps.items ≡ None
   pub armed : now.traps.items ≡ traps_after (method_of permit.call) permit.owner was.traps.items
   pub same_book : now.book ≡ was.book
   pub same_opening : now.opening ≡ was.opening
@@ -103,7 +103,7 @@ pub record StopsIn {K L : Type 0} {k : keeper.Ghosts K} {l : keeper.Ghosts L}
     (bodies : L → Option (List (List ℕ))) (faults : L → ℕ) (was : Site K L k l) (permit : Granted) (now : Site K L k l) :
     Type 0 where
   pub firing : Firing
-  pub decides : decided (method_of permit.call) permit.owner was.traps.items ≡ Some firing
+  pub decides : decision (method_of permit.call) permit.owner was.traps.items ≡ Some firing
   pub each : EachTakes bodies faults was.book.records firing permit.n false was.calls.places.entries was.cloud
       (Some causes.Stop) now.cloud
   pub armed : now.traps.items ≡ traps_after (method_of permit.call) permit.owner was.traps.items

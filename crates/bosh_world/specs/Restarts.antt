@@ -12,7 +12,7 @@ use Rattle.bosh_book.specs.declared.book.Book.{Book}
 use Rattle.bosh_cloud.specs.Reads.{Reads}
 use Rattle.bosh_cloud.specs.declared.fault.CloudFault.{CloudFault}
 use Rattle.bosh_moves.specs.Found.{kept_at, stop_of}
-use Rattle.bosh_moves.specs.Story.{effects_told, halts, kept_by}
+use Rattle.bosh_moves.specs.Story.{effects_told, halts, kept_count}
 use Rattle.bosh_ports.specs.Rigged.{RigState, broken_of, faults_of}
 use Rattle.bosh_ports.specs.declared.keeper.Keeper as keeper
 use Rattle.bosh_ports.specs.declared.rig.Rig.{Rig}
@@ -28,25 +28,25 @@ first_halt true = []
 first_halt false = moves.Halt causes.Stop ∷ []
 
 -- how many entries there were before tasks were ended
-abbrev pub read_by : {K : Type 0} → Book K → ℕ
-read_by it = length it.journal.entries - ended it.mended
+abbrev pub read_count : {K : Type 0} → Book K → ℕ
+read_count it = length it.journal.entries - ended it.mended
   where
     ended : Option ℕ → ℕ
     ended (Some count) = count
     ended None = 0
 
 -- an entry was found that the director did not know
-abbrev pub found_one : {K L : Type 0} {k : keeper.Ghosts K} {l : keeper.Ghosts L} → Site K L k l → Book (RigState K) → Bool
-found_one was it = nat_lt (length was.book.journal.entries) (read_by it)
+abbrev pub has_found_entry : {K L : Type 0} {k : keeper.Ghosts K} {l : keeper.Ghosts L} → Site K L k l → Book (RigState K) → Bool
+has_found_entry was it = nat_lt (length was.book.journal.entries) (read_count it)
 
 -- the moves of a restart: what was found, the entries after that, and a halt where it was refused
 abbrev pub restart_moves : {K L : Type 0} {k : keeper.Ghosts K} {l : keeper.Ghosts L} → Site K L k l → Site K L k l →
     Option Cause → List Move
 restart_moves was now halt =
-    moves.Stop (stop_of (kept_at (found_one was now.book) now.book.journal.entries (length was.book.journal.entries))
+    moves.Stop (stop_of (kept_at (has_found_entry was now.book) now.book.journal.entries (length was.book.journal.entries))
     (drop (effects_told was.history was.cloud.effects) now.cloud.effects))
     ∷ map moves.Note (drop (min (length was.book.journal.entries) (length now.book.journal.entries)
-    + kept_by (Some (found_one was now.book))) now.book.journal.entries)
+    + kept_count (Some (has_found_entry was now.book))) now.book.journal.entries)
     ++ halts halt
 
 -- The director starts anew over its two stores, and no call is open.

@@ -95,9 +95,9 @@ EndsTask bodies faults was task end now =
     × Notes bodies faults was (closing task end ∷ []) None now)
 
 -- what is noted of an upload
-abbrev pub noted_by : Added → Entry → List Entry
-noted_by New entry = entry ∷ []
-noted_by Same entry = []
+abbrev pub entries_for : Added → Entry → List Entry
+entries_for New entry = entry ∷ []
+entries_for Same entry = []
 
 -- Work of a task is claimed: updates are noted, and then what the answer says.
 pub record Claims {K L : Type 0} {k : keeper.Ghosts K} {l : keeper.Ghosts L}

@@ -12,7 +12,7 @@ use Rattle.bosh_cloud.specs.CloudView.{CloudView}
 use Rattle.bosh_book.specs.Current.{dep_of}
 use Rattle.bosh_cloud.specs.Loading.{IsKept}
 use Rattle.bosh_cloud.specs.Notes.{Does}
-use Rattle.bosh_cloud.specs.Performs.{added}
+use Rattle.bosh_cloud.specs.Performs.{new_effects}
 use Rattle.bosh_cloud.specs.declared.fault.CloudFault.{CloudFault}
 use Rattle.bosh_cloud.specs.declared.fault.CloudFault.TheVariants as cloud
 use Rattle.bosh_ports.specs.Faults.{NeverFalls, Rose}
@@ -56,9 +56,9 @@ effect_of records n =
     option_and_then (λ begun. option_map (effect_by begun) (dep_of records begun.owner)) (call_at records n)
 
 -- what that adds to what was done to the cloud
-abbrev pub added_of : {L : Type 0} → CloudView L → Option effect.Effect → List Entry
-added_of cloud (Some e) = added cloud e
-added_of cloud None = []
+abbrev pub new_effects_of : {L : Type 0} → CloudView L → Option effect.Effect → List Entry
+new_effects_of cloud (Some e) = new_effects cloud e
+new_effects_of cloud None = []
 
 -- whether an open call has its effect in a stop: the one in which the director stops, unless it stops before it; any other,
 -- where the trap says so, that was not performed
@@ -80,10 +80,10 @@ EachTakes bodies faults records firing n came [] was cause now = (cause ≡ Some
 EachTakes {L} bodies faults records firing n came (it ∷ rest) was cause now =
     ((comes firing (it.0 == n) it.1 ≡ false) × EachTakes bodies faults records firing n came rest was cause now)
     ⊎ (((comes firing (it.0 == n) it.1 ≡ true) × ((mid : CloudView L)
-    × (Does {T = Unit {0}} bodies faults (Ok tt) was (added_of was (effect_of records it.0)) mid
+    × (Does {T = Unit {0}} bodies faults (Ok tt) was (new_effects_of was (effect_of records it.0)) mid
     × EachTakes bodies faults records firing n true rest mid cause now)))
     ⊎ ((comes firing (it.0 == n) it.1 ≡ true) × ((fault : CloudFault)
-    × (Does {T = Unit {0}} bodies faults (Err fault) was (added_of was (effect_of records it.0)) now
+    × (Does {T = Unit {0}} bodies faults (Err fault) was (new_effects_of was (effect_of records it.0)) now
     × (cause ≡ unless_memory fault came)))))
   where
     unless_memory : CloudFault → Bool → Option Cause

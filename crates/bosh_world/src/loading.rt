@@ -1,7 +1,7 @@
 ghost use Rattle.std.specs.Prelude.{◌≡◌, ◌⊎◌, [], false, IfErr, IfOk};
 ghost use Rattle.bosh_book.specs.Running.{is_stopped};
 ghost use Rattle.bosh_world.specs.Loads.{IsJoined, IsNoBook, IsNotSite, IsUntold, Joins, Loads};
-ghost use Rattle.bosh_world.specs.Restarts.{read_by};
+ghost use Rattle.bosh_world.specs.Restarts.{read_count};
 ghost use Rattle.bosh_world.specs.Steps.{Comes, IsAllTold, KeepsBooks};
 ghost use Rattle.bosh_world.specs.declared.fault.SiteFault.TheVariants.{Memory};
 
@@ -99,7 +99,7 @@ fn joined<K: Keeper, L: Keeper>(
 
 /// How many entries a book had before it ended tasks as interrupted.
 pub(crate) fn read<K: Keeper>(book: &Book<K>) -> usize
-    ensures { result ≡ read_by book.now }
+    ensures { result ≡ read_count book.now }
 {
     let entries = book.entries().len();
     match book.mended() {

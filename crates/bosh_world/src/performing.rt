@@ -6,7 +6,7 @@ ghost use Rattle.bosh_world.specs.Holds.{IsHeld};
 ghost use Rattle.bosh_world.specs.Performing.{Holds, IsAsked, Performs, RefusesToPerform};
 ghost use Rattle.bosh_world.specs.Told.{IsPerformable};
 ghost use Rattle.bosh_world.specs.Steps.{Comes, IsAllTold, KeepsBooks};
-ghost use Rattle.bosh_traps.specs.Traps.{decided};
+ghost use Rattle.bosh_traps.specs.Traps.{decision};
 ghost use Rattle.bosh_world.specs.declared.fault.SiteFault.TheVariants.{Book};
 ghost use Rattle.bosh_world.specs.Silent.{IsSilent, moves_of};
 
@@ -80,7 +80,7 @@ impl<K: Keeper, L: Keeper> Site<K, L> {
         requires running { self.old.history.is_halted ≡ false }
         requires told { IsAllTold self.old }
         requires performable { IsPerformable self.old permit }
-        requires unstopped { decided (method_of permit.call) permit.owner self.old.traps.items ≡ None }
+        requires unstopped { decision (method_of permit.call) permit.owner self.old.traps.items ≡ None }
         ensures performed { IfOk result (λ call. (call.permit ≡ permit)
             × Performs L.bodies L.faults self.old permit call.answer self.new) }
         ensures refused { IfErr result (λ back. (back.0 ≡ permit)

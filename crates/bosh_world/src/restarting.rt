@@ -5,7 +5,7 @@ ghost use Rattle.bosh_moves.specs.Replies.{replies_in};
 ghost use Rattle.bosh_moves.specs.Story.{IsOf, IsTold, Tells};
 ghost use Rattle.bosh_ports.specs.Rigged.{broken_of, faults_of};
 ghost use Rattle.bosh_world.specs.Anew.{BookRestarts, GoesAnew, Halts, HaltsAnew, IsAtHalt, SameTraps, StaysUnread};
-ghost use Rattle.bosh_world.specs.Anew.{halt_after, kept_one};
+ghost use Rattle.bosh_world.specs.Anew.{halt_after, has_kept_entry};
 ghost use Rattle.bosh_world.specs.Faults.{fault_as};
 ghost use Rattle.bosh_world.specs.Restarts.{HaltsAgain, IsBookUnread, IsUnread, RefusesRestart, Restarts, cause_again};
 ghost use Rattle.bosh_world.specs.Silent.{IsSilent};
@@ -136,9 +136,9 @@ fn start<K: Keeper>(
     requires halted { history.old.is_halted ≡ true }
     requires told { IsTold history.old }
     ensures restarted { OnOk result ((started ≡ Ok tt) × GoesAnew history.old book.now.journal.entries effects.now
-        (kept_one history.old book.now) None history.new) }
+        (has_kept_entry history.old book.now) None history.new) }
     ensures refused { IfErr result (λ fault. (cause : Cause) × (HaltsAgain book.now.journal.store.sprung started cause fault
-        × GoesAnew history.old book.now.journal.entries effects.now (kept_one history.old book.now) (Some cause)
+        × GoesAnew history.old book.now.journal.entries effects.now (has_kept_entry history.old book.now) (Some cause)
         history.new)) }
     ensures silent { replies_in history.new.moves ≡ replies_in history.old.moves }
 {

@@ -5,11 +5,11 @@ ghost use Rattle.bosh_base.specs.History.{Extends};
 ghost use Rattle.bosh_base.specs.declared.moves.Cause.TheVariants as causes;
 ghost use Rattle.bosh_book.specs.Current.{dep_of};
 ghost use Rattle.bosh_cloud.specs.Notes.{Does};
-ghost use Rattle.bosh_cloud.specs.Performs.{added};
+ghost use Rattle.bosh_cloud.specs.Performs.{new_effects};
 ghost use Rattle.bosh_cloud.specs.declared.fault.CloudFault.TheVariants as cloud;
 ghost use Rattle.bosh_world.specs.Performing.{RefusesToPerform};
-ghost use Rattle.bosh_world.specs.Stopping.{EachTakes, TakesEffect, TakesEffects, added_of, comes, effect_by, effect_of};
-ghost use Rattle.bosh_traps.specs.Traps.{decided};
+ghost use Rattle.bosh_world.specs.Stopping.{EachTakes, TakesEffect, TakesEffects, comes, effect_by, effect_of, new_effects_of};
+ghost use Rattle.bosh_traps.specs.Traps.{decision};
 ghost use Rattle.bosh_world.specs.Silent.{IsSilent, moves_of};
 
 use crate::calls::Calls;
@@ -27,7 +27,7 @@ impl<K: Keeper, L: Keeper> Site<K, L> {
     /// memory before the first of them nothing happens.
     pub(crate) fn stop_in(&mut self, permit: &Permit, firing: Firing) -> SiteFault
         requires running { self.old.history.is_halted ≡ false }
-        requires stopped { decided (method_of permit.now.call) permit.now.owner self.old.traps.items ≡ Some firing }
+        requires stopped { decision (method_of permit.now.call) permit.now.owner self.old.traps.items ≡ Some firing }
         ensures refused { RefusesToPerform L.bodies L.faults self.old permit.now result self.new }
         ensures grows { Extends (moves_of self.old) (moves_of self.new) }
         ensures silent { IsSilent self.old self.new }
@@ -97,7 +97,7 @@ fn take_effect<K: Keeper, L: Keeper>(
     requires { cloud.old.is_stale ≡ false }
     ensures takes { TakesEffect L.bodies L.faults cloud.old result cloud.new }
     ensures does { Does L.bodies L.faults result cloud.old
-        (added_of cloud.old (effect_of book.now.records n)) cloud.new }
+        (new_effects_of cloud.old (effect_of book.now.records n)) cloud.new }
 {
     let records = book.records();
     match records.call(n) {
@@ -114,7 +114,7 @@ fn perform_begun<L: Keeper>(
     requires { cloud.old.is_stale ≡ false }
     ensures takes { TakesEffect L.bodies L.faults cloud.old result cloud.new }
     ensures does { Does L.bodies L.faults result cloud.old
-        (added_of cloud.old (option_map (effect_by begin.now) (dep_of records.now begin.now.owner))) cloud.new }
+        (new_effects_of cloud.old (option_map (effect_by begin.now) (dep_of records.now begin.now.owner))) cloud.new }
 {
     match dep_of(records, &begin.owner) {
         Some(dep) => perform_for(cloud, begin, dep),
@@ -130,7 +130,7 @@ fn perform_for<L: Keeper>(
     requires { cloud.old.is_stale ≡ false }
     ensures takes { TakesEffect L.bodies L.faults cloud.old result cloud.new }
     ensures does { Does L.bodies L.faults result cloud.old
-        (added cloud.old (effect_by begin.now dep.now)) cloud.new }
+        (new_effects cloud.old (effect_by begin.now dep.now)) cloud.new }
 {
     match cloud.perform(begin.n, &begin.owner, dep, &begin.call) {
         Ok(answer) => {

@@ -7,7 +7,7 @@ ghost use Rattle.bosh_base.specs.declared.entry.Entry.TheVariants as entries;
 ghost use Rattle.bosh_book.specs.Faults.{IsConfigFault, IsUploadFault};
 ghost use Rattle.bosh_book.specs.Uploads.{IsAdded, IsOther, IsUpload};
 ghost use Rattle.bosh_world.specs.Refuses.{IsBooks, Refuses};
-ghost use Rattle.bosh_world.specs.Steps.{Notes, noted_by};
+ghost use Rattle.bosh_world.specs.Steps.{Notes, entries_for};
 ghost use Rattle.bosh_world.specs.Silent.{IsSilent, moves_of};
 
 use crate::halting::told;
@@ -21,7 +21,7 @@ impl<K: Keeper, L: Keeper> Site<K, L> {
     /// those that are there. One that is not sound by itself, or whose version is none, goes with none.
     pub fn upload(&mut self, release: Release) -> Result<Added, SiteFault>
         ensures notes { IfOk result (λ added.
-            Notes K.bodies K.faults self.old (noted_by added (entries.Release release)) None self.new) }
+            Notes K.bodies K.faults self.old (entries_for added (entries.Release release)) None self.new) }
         ensures told { IfOk result (IsUpload self.old.book.records.releases.items release) }
         ensures refused { IfErr result (λ fault. Refuses K.bodies K.faults self.old [] fault self.new) }
         ensures fault { IfErr result (IsBooks (IsUploadFault self.old.book
@@ -45,7 +45,7 @@ impl<K: Keeper, L: Keeper> Site<K, L> {
     /// there.
     pub fn add_stemcell(&mut self, os: &Name, version: &[u8]) -> Result<Added, SiteFault>
         ensures notes { IfOk result (λ added. Notes K.bodies K.faults self.old
-            (noted_by added (entries.Stemcell (record { os = os.now; version = version.now }))) None self.new) }
+            (entries_for added (entries.Stemcell (record { os = os.now; version = version.now }))) None self.new) }
         ensures told { IfOk result (IsAdded self.old.book.records.stemcells.items os.now version.now) }
         ensures refused { IfErr result (λ fault. Refuses K.bodies K.faults self.old [] fault self.new) }
         ensures fault { IfErr result (IsBooks (IsUploadFault self.old.book

@@ -7,8 +7,8 @@ use Rattle.bosh_yaml.specs.declared.fault.ReadFault.TheVariants.{TooDeep, TooLar
 use Rattle.bosh_yaml.specs.Events.{events_of, start}
 use Rattle.bosh_yaml.specs.Limits.{depth}
 use Rattle.bosh_yaml.specs.Lines.{begins, lines_of}
-use Rattle.bosh_yaml.specs.Nodes.{made, nesting, repeated}
-use Rattle.bosh_yaml.specs.Reading.{checked, json_reading, reading, yaml_reading}
+use Rattle.bosh_yaml.specs.Nodes.{line_of_repeat, nesting, tree_from}
+use Rattle.bosh_yaml.specs.Reading.{checked_tree, json_reading, reading, yaml_reading}
 use Rattle.bosh_yaml.specs.Result.{◌>>=◌}
 use Rattle.bosh_yaml.specs.Spelling.{as_yaml, Spells}
 use Rattle.bosh_yaml.specs.Tree.{Tree}
@@ -24,23 +24,23 @@ SpellsDeep text = (t : Tree) × Spells text t × (64 < depth t)
 deeper : (n : ℕ) → nat_lt 64 n ≡ true → 64 < n
 deeper n h = grind (arith, nat_tests)
 
-events_deep : (text : List ℕ) (es : List Event) (first : Option ℕ) → begins 123 text ≡ false → events_of text ≡ Ok es → checked first es ≡ Err TooDeep → SpellsDeep text
+events_deep : (text : List ℕ) (es : List Event) (first : Option ℕ) → begins 123 text ≡ false → events_of text ≡ Ok es → checked_tree first es ≡ Err TooDeep → SpellsDeep text
 events_deep text es (Some line) yaml is h = absurd (cc)
 events_deep text es None yaml is h = by (nat_lt 64 (nesting 0 es)) refl h
   where
-    by : (b : Bool) → nat_lt 64 (nesting 0 es) ≡ b → (if b then Err TooDeep else made None [] es) ≡ Err TooDeep → SpellsDeep text
+    by : (b : Bool) → nat_lt 64 (nesting 0 es) ≡ b → (if b then Err TooDeep else tree_from None [] es) ≡ Err TooDeep → SpellsDeep text
     by true deep h =
         let m = lines_make (lines_of text) es is in
         let r = all_readable (lines_of text) 1 start es is in
         (m.0, as_yaml yaml r.0 m.1, deeper (depth m.0) (rw (nests_whole es m.0 m.2) at deep))
-    by false deep h = let m = lines_make (lines_of text) es is in absurd (made_is_no_refusal m.0 TooDeep (made None [] es) (makes_whole es m.0 m.2) h)
+    by false deep h = let m = lines_make (lines_of text) es is in absurd (made_is_no_refusal m.0 TooDeep (tree_from None [] es) (makes_whole es m.0 m.2) h)
 
 yaml_deep : (text : List ℕ) → begins 123 text ≡ false → yaml_reading text ≡ Err TooDeep → SpellsDeep text
 yaml_deep text yaml h = by (events_of text) refl (on_events_of text) h
   where
-    by : (r : Result (List Event) ReadFault) → events_of text ≡ r → Gave (IsLineOf text) (AreOn (IsLineOf text)) r → (r >>= λ es. checked (repeated [] es) es) ≡ Err TooDeep → SpellsDeep text
+    by : (r : Result (List Event) ReadFault) → events_of text ≡ r → Gave (IsLineOf text) (AreOn (IsLineOf text)) r → (r >>= λ es. checked_tree (line_of_repeat [] es) es) ≡ Err TooDeep → SpellsDeep text
     by (Err e) is on h = absurd (subst (RefusesOn (IsLineOf text)) (err_same h) on)
-    by (Ok es) is on h = events_deep text es (repeated [] es) yaml is h
+    by (Ok es) is on h = events_deep text es (line_of_repeat [] es) yaml is h
 
 pub deep_is_spelled : (text : List ℕ) → begins 123 text ≡ false → reading text ≡ Err TooDeep → SpellsDeep text
 deep_is_spelled text yaml h = by (nat_lt 1048576 (length text)) h

@@ -7,19 +7,19 @@ use Rattle.std.proofs.lemmas.Str.Parse.{IsNumeralModel, numerals_by_value, tells
 use Rattle.std.proofs.lemmas.Bool.Decides.{nat_tests}
 use Rattle.std.specs.List.{list_all}
 use Rattle.std.specs.Char.{is_ascii_digit}
-use Rattle.bosh_yaml.specs.Scalar.{is_counting, counted, negated, unsigned, integer_of, digits_of}
+use Rattle.bosh_yaml.specs.Scalar.{is_counting, number_below, negated, unsigned, integer_of, digits_of}
 
 own : IsNumeralModel (λ ds. all_ascii_digits ds ≡ true) (digits_value 10)
 own = numerals_by_value _ tells_all_ascii_digits
 
 -- a counted number is below its bound, and is there only then
-pub counted_at : (bound : ℕ) (ds : List ℕ) → is_counting ds ≡ true → digits_value 10 ds < bound → counted bound ds ≡ Some (digits_value 10 ds)
+pub counted_at : (bound : ℕ) (ds : List ℕ) → is_counting ds ≡ true → digits_value 10 ds < bound → number_below bound ds ≡ Some (digits_value 10 ds)
 counted_at bound ds c h = rw c (grind (arith, nat_tests))
 
-pub counted_over : (bound : ℕ) (ds : List ℕ) → bound ≤ digits_value 10 ds → counted bound ds ≡ None
+pub counted_over : (bound : ℕ) (ds : List ℕ) → bound ≤ digits_value 10 ds → number_below bound ds ≡ None
 counted_over bound ds h = grind (arith, nat_tests)
 
-counted_none : (bound : ℕ) (ds : List ℕ) → is_counting ds ≡ false → counted bound ds ≡ None
+counted_none : (bound : ℕ) (ds : List ℕ) → is_counting ds ≡ false → number_below bound ds ≡ None
 counted_none bound ds h = rw h
 
 all_digits : (ds : List ℕ) → is_counting ds ≡ true → (all_ascii_digits ds ≡ true) × (0 < length ds)
@@ -30,28 +30,28 @@ pub ok_if : {E : Type 0} (r : Result ℤ E) (Q : Type 0) (x : ℤ) (y : Option �
 ok_if (Ok z) Q x y h have lack = ap (λ n. Some n) h.1 ∙ have h.0
 ok_if (Err e) Q x y h have lack = lack h
 
-negative : {E : Type 0} (s : List ℕ) (r : Result ℤ E) → ParsesSigned w64 10 s r → get_or s 0 0 ≡ 45 → is_counting (drop 1 s) ≡ true → result_ok r ≡ negated (counted (2 ^ 63 + 1) (drop 1 s))
+negative : {E : Type 0} (s : List ℕ) (r : Result ℤ E) → ParsesSigned w64 10 s r → get_or s 0 0 ≡ 45 → is_counting (drop 1 s) ≡ true → result_ok r ≡ negated (number_below (2 ^ 63 + 1) (drop 1 s))
 negative s r h m c =
     let ds = all_digits (drop 1 s) c in
     ok_if r _ _ _ (parse_signed_minus own w64 s r h m)
     (λ q. ap negated (sym (counted_at (2 ^ 63 + 1) (drop 1 s) c (omega (arith, q.2)))))
     (λ no. ap negated (sym (counted_over (2 ^ 63 + 1) (drop 1 s) (omega (arith, λ (k : digits_value 10 (drop 1 s) ≤ 2 ^ 63). no (ds.0, ds.1, k))))))
 
-positive : {E : Type 0} (s : List ℕ) (r : Result ℤ E) → ParsesSigned w64 10 s r → is_counting s ≡ true → result_ok r ≡ unsigned (counted (2 ^ 63) s)
+positive : {E : Type 0} (s : List ℕ) (r : Result ℤ E) → ParsesSigned w64 10 s r → is_counting s ≡ true → result_ok r ≡ unsigned (number_below (2 ^ 63) s)
 positive s r h c =
     let ds = all_digits s c in
     ok_if r _ _ _ (parse_signed_digits own w64 s r h ds.0)
     (λ q. ap unsigned (sym (counted_at (2 ^ 63) s c (omega (arith, q.1)))))
     (λ no. ap unsigned (sym (counted_over (2 ^ 63) s (omega (arith, λ (k : digits_value 10 s < 2 ^ 63). no (ds.1, k))))))
 
-parsed_signed : {E : Type 0} (s : List ℕ) (r : Result ℤ E) (minus : Bool) → ParsesSigned w64 10 s r → minus ≡ starts_with_minus s → is_counting (cond minus (drop 1 s) s) ≡ true → result_ok r ≡ cond minus (negated (counted (2 ^ 63 + 1) (drop 1 s))) (unsigned (counted (2 ^ 63) s))
+parsed_signed : {E : Type 0} (s : List ℕ) (r : Result ℤ E) (minus : Bool) → ParsesSigned w64 10 s r → minus ≡ starts_with_minus s → is_counting (cond minus (drop 1 s) s) ≡ true → result_ok r ≡ cond minus (negated (number_below (2 ^ 63 + 1) (drop 1 s))) (unsigned (number_below (2 ^ 63) s))
 parsed_signed s r true h m c = negative s r h (grind (arith, nat_tests)) c
 parsed_signed s r false h m c = positive s r h c
 
 pub integer_parsed : {E : Type 0} (s : List ℕ) (r : Result ℤ E) → ParsesSigned w64 10 s r → bytes_eq s (codes "0") ≡ false → is_counting (digits_of s) ≡ true → result_ok r ≡ integer_of s
 integer_parsed s r h z c = rw z (parsed_signed s r (starts_with_minus s) h refl c)
 
-none_signed : (s : List ℕ) (minus : Bool) → is_counting (cond minus (drop 1 s) s) ≡ false → None ≡ cond minus (negated (counted (2 ^ 63 + 1) (drop 1 s))) (unsigned (counted (2 ^ 63) s))
+none_signed : (s : List ℕ) (minus : Bool) → is_counting (cond minus (drop 1 s) s) ≡ false → None ≡ cond minus (negated (number_below (2 ^ 63 + 1) (drop 1 s))) (unsigned (number_below (2 ^ 63) s))
 none_signed s true c = ap negated (sym (counted_none (2 ^ 63 + 1) (drop 1 s) c))
 none_signed s false c = ap unsigned (sym (counted_none (2 ^ 63) s c))
 

@@ -8,7 +8,7 @@ use Rattle.std.specs.Str.{bytes_eq}
 use Rattle.std.proofs.lemmas.Slice.Eq.{bytes_eq-Decides}
 use Rattle.std.proofs.Math.Bool.{or-false}
 use Rattle.bosh_yaml.specs.Tree.{Tree, fields_of}
-use Rattle.bosh_yaml.specs.Keys.{has_key, HasDistinctKeys, value_at, found_field}
+use Rattle.bosh_yaml.specs.Keys.{has_key, HasDistinctKeys, value_at, field_value}
 
 abbrev Pair : Type 0
 Pair = List ℕ × Tree
@@ -53,7 +53,7 @@ pub is_some-value_at : (key : List ℕ) (ps : List Pair) → is_some (value_at k
 is_some-value_at key [] = refl
 is_some-value_at key (p ∷ ps) = found_here (bytes_eq p.0 key) p.1 (value_at key ps) (has_key key ps) (is_some-value_at key ps)
 
-pub found_field-fields_of : (key : List ℕ) (ps : List Pair) → found_field key (fields_of ps) ≡ value_at key ps
+pub found_field-fields_of : (key : List ℕ) (ps : List Pair) → field_value key (fields_of ps) ≡ value_at key ps
 found_field-fields_of key [] = refl
 found_field-fields_of key (p ∷ ps) = ap (λ x. cond (bytes_eq p.0 key) (Some p.1) x) (found_field-fields_of key ps)
 

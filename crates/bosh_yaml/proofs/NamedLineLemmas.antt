@@ -8,8 +8,8 @@ use Rattle.bosh_yaml.specs.Events.{events_of}
 use Rattle.bosh_yaml.specs.Json.{data_or_refused, has_integers, json_data, json_events}
 use Rattle.bosh_yaml.specs.Limits.{HasEachKeyOnce}
 use Rattle.bosh_yaml.specs.Lines.{begins}
-use Rattle.bosh_yaml.specs.Nodes.{made, nesting, repeated}
-use Rattle.bosh_yaml.specs.Reading.{checked, json_reading, reading, yaml_reading}
+use Rattle.bosh_yaml.specs.Nodes.{line_of_repeat, nesting, tree_from}
+use Rattle.bosh_yaml.specs.Reading.{checked_tree, json_reading, reading, yaml_reading}
 use Rattle.bosh_yaml.specs.Result.{◌>>=◌}
 use Rattle.bosh_yaml.specs.Spelling.{json_tree}
 use Rattle.bosh_yaml.specs.Tree.{Tree}
@@ -44,20 +44,20 @@ event_fault text TooLarge h = tt
 event_fault text Number h = tt
 event_fault text Memory h = tt
 
-events_name : (text : List ℕ) (es : List Event) (t : Tree) (fault : ReadFault) (found : Option ℕ) → Makes es t → AreOn (IsLineOf text) es → repeated [] es ≡ found → checked found es ≡ Err fault → NamesLine text fault
+events_name : (text : List ℕ) (es : List Event) (t : Tree) (fault : ReadFault) (found : Option ℕ) → Makes es t → AreOn (IsLineOf text) es → line_of_repeat [] es ≡ found → checked_tree found es ≡ Err fault → NamesLine text fault
 events_name text es t fault (Some line) m on is h = subst (NamesLine text) (err_same h) (repeated_on (IsLineOf text) [] es line on is)
 events_name text es t fault None m on is h = by (nat_lt 64 (nesting 0 es)) h
   where
-    by : (b : Bool) → (if b then Err TooDeep else made None [] es) ≡ Err fault → NamesLine text fault
+    by : (b : Bool) → (if b then Err TooDeep else tree_from None [] es) ≡ Err fault → NamesLine text fault
     by true h = subst (NamesLine text) (err_same h) tt
     by false h = absurd (ok_is_no_err (sym (makes_whole es t m) ∙ h))
 
 yaml_names : (text : List ℕ) (fault : ReadFault) → yaml_reading text ≡ Err fault → NamesLine text fault
 yaml_names text fault h = by (events_of text) refl (on_events_of text) h
   where
-    by : (r : Result (List Event) ReadFault) → events_of text ≡ r → Gave (IsLineOf text) (AreOn (IsLineOf text)) r → (r >>= λ es. checked (repeated [] es) es) ≡ Err fault → NamesLine text fault
+    by : (r : Result (List Event) ReadFault) → events_of text ≡ r → Gave (IsLineOf text) (AreOn (IsLineOf text)) r → (r >>= λ es. checked_tree (line_of_repeat [] es) es) ≡ Err fault → NamesLine text fault
     by (Err e) is on h = subst (NamesLine text) (err_same h) (event_fault text e on)
-    by (Ok es) is on h = let m = events_make text es is in events_name text es m.0 fault (repeated [] es) m.1 on refl h
+    by (Ok es) is on h = let m = events_make text es is in events_name text es m.0 fault (line_of_repeat [] es) m.1 on refl h
 
 no_data : (o : Option json.Data) (e : ReadFault) → data_or_refused o ≡ Err e → e ≡ Syntax 0
 no_data None e h = sym (err_same h)

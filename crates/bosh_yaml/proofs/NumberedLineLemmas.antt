@@ -16,7 +16,7 @@ use Rattle.bosh_yaml.specs.Events.{content_line, end_by_mode, events_from, event
 use Rattle.bosh_yaml.specs.Flow.{form_of}
 use Rattle.bosh_yaml.specs.Lines.{begins, is_blank, is_end, is_gap, lines_of, skip_spaces}
 use Rattle.bosh_yaml.specs.Literal.{indentation, is_spaces}
-use Rattle.bosh_yaml.specs.Nodes.{Keys, line_or, repeated, with_new, no_keys}
+use Rattle.bosh_yaml.specs.Nodes.{Keys, line_or, line_of_repeat, with_new, no_keys}
 use Rattle.bosh_yaml.specs.Result.{◌>>=◌}
 use Rattle.bosh_yaml.specs.Word.{key_of, text_of, word_at}
 use Rattle.bosh_yaml.proofs.NumberedLemmas.{Any, AreOn, Gave, gave_bind, gave_front, gave_if, IsOn, on_append, on_dash, on_form_of, on_key, on_place_key, on_text, on_value, on_word, OnPair}
@@ -165,14 +165,14 @@ module _ (P : ℕ → Type 0) where
   or_rest true at line rest p more h = let same : at ≡ line = cc in subst P same p
   or_rest false at line rest p more h = more h
 
-  pub repeated_on : (all : List Keys) (events : List Event) (line : ℕ) → AreOn P events → repeated all events ≡ Some line → P line
+  pub repeated_on : (all : List Keys) (events : List Event) (line : ℕ) → AreOn P events → line_of_repeat all events ≡ Some line → P line
   repeated_on all [] line on h = absurd (cc)
   repeated_on all (event.Scalar leaf ∷ events) line on h = repeated_on all events line on.1 h
   repeated_on all (event.OpenList ∷ events) line on h = repeated_on (no_keys ∷ all) events line on.1 h
   repeated_on all (event.OpenMap ∷ events) line on h = repeated_on (no_keys ∷ all) events line on.1 h
   repeated_on [] (event.Key at key ∷ events) line on h = repeated_on [] events line on.1 h
   repeated_on (keys ∷ all) (event.Key at key ∷ events) line on h =
-      or_rest (keys key) at line (repeated (with_new keys key ∷ all) events) on.0 (repeated_on (with_new keys key ∷ all) events line on.1) h
+      or_rest (keys key) at line (line_of_repeat (with_new keys key ∷ all) events) on.0 (repeated_on (with_new keys key ∷ all) events line on.1) h
   repeated_on [] (event.Close ∷ events) line on h = repeated_on [] events line on.1 h
   repeated_on (keys ∷ all) (event.Close ∷ events) line on h = repeated_on all events line on.1 h
 

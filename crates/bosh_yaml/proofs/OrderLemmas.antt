@@ -12,7 +12,7 @@ use Rattle.std.proofs.lemmas.Slice.Eq.{bytes_eq-Decides}
 use Rattle.std.proofs.Math.Bool.{or-true}
 use Rattle.serde_json.specs.Data as json
 use Rattle.bosh_yaml.specs.Canon.{data_items, data_members, data_of}
-use Rattle.bosh_yaml.specs.Keys.{found, found_field}
+use Rattle.bosh_yaml.specs.Keys.{field_value, value_of_key}
 use Rattle.bosh_yaml.specs.Limits.{depth, depth_all, depth_keyed, HasEachKeyOnce, HaveEachKeyOnce, KeysAreNew}
 use Rattle.bosh_yaml.specs.Nodes.{Keys, no_keys, with_new}
 use Rattle.bosh_yaml.specs.Order.{AreInKeyOrder, AreWritable, each_in_key_order, HaveKeyOrder, HaveWritable, in_key_order, IsInKeyOrder, IsWritable, keys_of, put_field, put_fields}
@@ -218,16 +218,16 @@ greater_differs k l key is p q =
     let same : k ≡ l = same_bytes k key p ∙ sym (same_bytes l key q) in
     true≢false (sym ((bytes_eq-Decides k l).1 same) ∙ sym (is_eq-slice_cmp k l) ∙ ap is_eq is)
 
-found_chosen : (o : Ordering) (key k l : List ℕ) (t u : Tree) (fs put : Fields) → slice_cmp nat_cmp k l ≡ o → found_field key put ≡ cond (bytes_eq k key) (Some t) (found_field key fs)
-    → found_field key (match_ordering o (field k t (field l u fs)) (field l t fs) (field l u put)) ≡ cond (bytes_eq k key) (Some t) (found_field key (field l u fs))
+found_chosen : (o : Ordering) (key k l : List ℕ) (t u : Tree) (fs put : Fields) → slice_cmp nat_cmp k l ≡ o → field_value key put ≡ cond (bytes_eq k key) (Some t) (field_value key fs)
+    → field_value key (match_ordering o (field k t (field l u fs)) (field l t fs) (field l u put)) ≡ cond (bytes_eq k key) (Some t) (field_value key (field l u fs))
 found_chosen Less key k l t u fs put is p = refl
 found_chosen Equal key k l t u fs put is p =
     let same : bytes_eq l key ≡ bytes_eq k key = ap (λ m. bytes_eq m key) (sym (exact_bytes k l is)) in
-    rw same (hidden (bytes_eq k key) (Some t) (found_field key fs) (Some u))
+    rw same (hidden (bytes_eq k key) (Some t) (field_value key fs) (Some u))
 found_chosen Greater key k l t u fs put is p =
-    rw p (swaps (bytes_eq k key) (bytes_eq l key) (Some t) (Some u) (found_field key fs) (greater_differs k l key is))
+    rw p (swaps (bytes_eq k key) (bytes_eq l key) (Some t) (Some u) (field_value key fs) (greater_differs k l key is))
 
-found_put : (key k : List ℕ) (t : Tree) (fs : Fields) → found_field key (put_field k t fs) ≡ cond (bytes_eq k key) (Some t) (found_field key fs)
+found_put : (key k : List ℕ) (t : Tree) (fs : Fields) → field_value key (put_field k t fs) ≡ cond (bytes_eq k key) (Some t) (field_value key fs)
 found_put key k t no_fields = refl
 found_put key k t (field l u fs) = found_chosen (slice_cmp nat_cmp k l) key k l t u fs (put_field k t fs) refl (found_put key k t fs)
 
@@ -236,10 +236,10 @@ absent_here : (b : Bool) (keys : Keys) (k key : List ℕ) (t : Tree) (rest : Opt
 absent_here true keys k key t rest e new there none = absurd (true≢false (sym there ∙ ap keys (sym (same_bytes k key e)) ∙ new))
 absent_here false keys k key t rest e new there none = none
 
-absent : (keys : Keys) (key : List ℕ) (fs : Fields) → KeysAreNew keys fs → keys key ≡ true → found_field key fs ≡ None
+absent : (keys : Keys) (key : List ℕ) (fs : Fields) → KeysAreNew keys fs → keys key ≡ true → field_value key fs ≡ None
 absent keys key no_fields n there = refl
 absent keys key (field k t fs) n there =
-    absent_here (bytes_eq k key) keys k key t (found_field key fs) refl n.0 there (absent (with_new keys k) key fs n.2 (ap (λ b. b || bytes_eq k key) there))
+    absent_here (bytes_eq k key) keys k key t (field_value key fs) refl n.0 there (absent (with_new keys k) key fs n.2 (ap (λ b. b || bytes_eq k key) there))
 
 -- the first value, or the second where there is none
 abbrev first_of : Option Tree → Option Tree → Option Tree
@@ -258,17 +258,17 @@ found_step false t rest before none = refl
 known : (keys : Keys) (k key : List ℕ) → bytes_eq k key ≡ true → with_new keys k key ≡ true
 known keys k key h = rw h (or-true (keys key))
 
-found_fields : (key : List ℕ) (keys : Keys) (fs before : Fields) → KeysAreNew keys fs → found_field key (put_fields fs before) ≡ first_of (option_map in_key_order (found_field key fs)) (found_field key before)
+found_fields : (key : List ℕ) (keys : Keys) (fs before : Fields) → KeysAreNew keys fs → field_value key (put_fields fs before) ≡ first_of (option_map in_key_order (field_value key fs)) (field_value key before)
 found_fields key keys no_fields before n = refl
 found_fields key keys (field k t fs) before n =
     found_fields key (with_new keys k) fs (put_field k (in_key_order t) before) n.2
-    ∙ ap (λ o. first_of (option_map in_key_order (found_field key fs)) o) (found_put key k (in_key_order t) before)
-    ∙ found_step (bytes_eq k key) t (found_field key fs) (found_field key before) (λ e. absent (with_new keys k) key fs n.2 (known keys k key e))
+    ∙ ap (λ o. first_of (option_map in_key_order (field_value key fs)) o) (found_put key k (in_key_order t) before)
+    ∙ found_step (bytes_eq k key) t (field_value key fs) (field_value key before) (λ e. absent (with_new keys k) key fs n.2 (known keys k key e))
 
-pub same_values : (t : Tree) → HasEachKeyOnce t → (key : List ℕ) → found key (in_key_order t) ≡ option_map in_key_order (found key t)
+pub same_values : (t : Tree) → HasEachKeyOnce t → (key : List ℕ) → value_of_key key (in_key_order t) ≡ option_map in_key_order (value_of_key key t)
 same_values null once key = refl
 same_values (boolean b) once key = refl
 same_values (integer n) once key = refl
 same_values (yaml.text s) once key = refl
 same_values (list ts) once key = refl
-same_values (map fs) once key = found_fields key no_keys fs no_fields once ∙ first_of_none (option_map in_key_order (found_field key fs))
+same_values (map fs) once key = found_fields key no_keys fs no_fields once ∙ first_of_none (option_map in_key_order (field_value key fs))

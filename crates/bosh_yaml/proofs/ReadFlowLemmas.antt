@@ -14,10 +14,10 @@ use Rattle.bosh_yaml.specs.Flow.{Turn, ends_key, word_sign, sign_at, sign_or_wor
 use Rattle.bosh_yaml.specs.Lines.{begins, is_end, skip_spaces}
 use Rattle.bosh_yaml.specs.Result.{◌>>=◌, with_front}
 use Rattle.bosh_yaml.specs.Scalar.{leaf_tree}
-use Rattle.bosh_yaml.specs.SpelledWord.{SpellsWord, IsKey}
+use Rattle.bosh_yaml.specs.SpelledWord.{SpellsScalar, IsKey}
 use Rattle.bosh_yaml.specs.SpelledFlow.{SpellsFlow, SpellsFlowItems, SpellsFlowEntries, SpellsFlowEntry, scalar, sequence, mapping, no_item, last_item, item, no_entry, last_entry, entry, bare_key, valued_key}
 use Rattle.bosh_yaml.specs.Tree.{Tree, null, list, map, trees_of, fields_of}
-use Rattle.bosh_yaml.specs.Word.{word_at, leaf_of, key_of, refused}
+use Rattle.bosh_yaml.specs.Word.{word_at, leaf_of, key_of, syntax_fault}
 use Rattle.bosh_yaml.proofs.ResultLemmas.{ok_same}
 use Rattle.bosh_yaml.proofs.ReadWordLemmas.{bind_ok, if_ok, word_ok, key_ok}
 use Rattle.bosh_yaml.proofs.SpelledWordLemmas.{word_opens, Opens}
@@ -29,15 +29,15 @@ IsSign bytes CloseList after = bytes ≡ 93 ∷ after
 IsSign bytes OpenMap after = bytes ≡ 123 ∷ after
 IsSign bytes CloseMap after = bytes ≡ 125 ∷ after
 IsSign bytes Comma after = bytes ≡ 44 ∷ after
-IsSign bytes (Scalar value) after = (word : Word) × SpellsWord Flow bytes word after × (begins 58 after ≡ false)
-IsSign bytes (Key key) after = (word : Word) × SpellsWord Flow bytes word (58 ∷ after) × IsKey word key × (ends_key after ≡ true)
+IsSign bytes (Scalar value) after = (word : Word) × SpellsScalar Flow bytes word after × (begins 58 after ≡ false)
+IsSign bytes (Key key) after = (word : Word) × SpellsScalar Flow bytes word (58 ∷ after) × IsKey word key × (ends_key after ≡ true)
 
 abbrev keyed : List ℕ → Result (List ℕ) ReadFault → Result (Sign × List ℕ) ReadFault
 keyed bs read = do
   key ← read
   Ok (Key key, bs)
 
-word_is_sign : (line : ℕ) (bytes : List ℕ) (word : Word) (rest : List ℕ) (sign : Sign) (after : List ℕ) → SpellsWord Flow bytes word rest → word_sign line (word, rest) ≡ Ok (sign, after) → IsSign bytes sign after
+word_is_sign : (line : ℕ) (bytes : List ℕ) (word : Word) (rest : List ℕ) (sign : Sign) (after : List ℕ) → SpellsScalar Flow bytes word rest → word_sign line (word, rest) ≡ Ok (sign, after) → IsSign bytes sign after
 word_is_sign line bytes word [] sign after w h =
     let both = ok_same h in
     subst (λ (p : Sign × List ℕ). IsSign bytes p.0 p.1) both (word, w, refl)
@@ -46,12 +46,12 @@ word_is_sign line bytes word (b ∷ bs) sign after w h = by (b == 58) refl h
     same : (a : ℕ) → (a == 58) ≡ true → a ≡ 58
     same a h = grind (arith, nat_tests)
 
-    by : (c : Bool) → (b == 58) ≡ c → (if c then (if ends_key bs then (keyed bs (key_of line word)) else refused line) else Ok (Scalar (leaf_of word), b ∷ bs)) ≡ Ok (sign, after) → IsSign bytes sign after
+    by : (c : Bool) → (b == 58) ≡ c → (if c then (if ends_key bs then (keyed bs (key_of line word)) else syntax_fault line) else Ok (Scalar (leaf_of word), b ∷ bs)) ≡ Ok (sign, after) → IsSign bytes sign after
     by false p h = subst (λ (p : Sign × List ℕ). IsSign bytes p.0 p.1) (ok_same h) (word, w, p)
     by true p h =
         let e = if_ok (ends_key bs) (keyed bs (key_of line word)) _ (sign, after) h in
         let k = bind_ok (key_of line word) (λ key. Ok (Key key, bs)) (sign, after) e.1 in
-        let w : SpellsWord Flow bytes word (58 ∷ bs) = subst (λ c. SpellsWord Flow bytes word (c ∷ bs)) (same b p) w in
+        let w : SpellsScalar Flow bytes word (58 ∷ bs) = subst (λ c. SpellsScalar Flow bytes word (c ∷ bs)) (same b p) w in
         subst (λ (p : Sign × List ℕ). IsSign bytes p.0 p.1) (ok_same k.2) (word, w, key_ok line word k.0 k.1, e.0)
 
 sign_ok : (line : ℕ) (bytes : List ℕ) (sign : Sign) (after : List ℕ) → sign_at line bytes ≡ Ok (sign, after) → IsSign bytes sign after
@@ -182,7 +182,7 @@ close_map_fits line AfterForm next nests bytes after h e f = absurd (cc)
 close_map_fits line BeforeItem next nests bytes after h e f = absurd (cc)
 close_map_fits line AfterItem next nests bytes after h e f = absurd (cc)
 
-entry_fits : (nests : List Nest) (bytes after : List ℕ) (word : Word) (key : List ℕ) → SpellsWord Flow (skip_spaces bytes) word (58 ∷ after) → IsKey word key → ends_key after ≡ true → Fits (AfterKey ∷ nests) after → Fits (BeforeKey ∷ nests) bytes
+entry_fits : (nests : List Nest) (bytes after : List ℕ) (word : Word) (key : List ℕ) → SpellsScalar Flow (skip_spaces bytes) word (58 ∷ after) → IsKey word key → ends_key after ≡ true → Fits (AfterKey ∷ nests) after → Fits (BeforeKey ∷ nests) bytes
 entry_fits nests bytes after word key w k e f = by (f e)
   where
     by : ((t : Tree) × (left : List ℕ) × (rest : List ℕ) × SpellsFlowEntry after t left × EntriesEnd left rest × Fits nests rest) → Fits (BeforeKey ∷ nests) bytes
@@ -192,7 +192,7 @@ entry_fits nests bytes after word key w k e f = by (f e)
         on (inl e) = ((key, g.0) ∷ [], g.2, last_entry bytes after g.1 g.2 word key g.0 w k g.3 e, g.5)
         on (inr e) = ((key, g.0) ∷ e.1, g.2, entry bytes after g.1 e.0 g.2 word key g.0 e.1 w k g.3 e.2 e.3, g.5)
 
-key_fits : (line : ℕ) (nest next : Nest) (nests : List Nest) (bytes after : List ℕ) (word : Word) (key : List ℕ) → after_key line nest ≡ Ok next → SpellsWord Flow (skip_spaces bytes) word (58 ∷ after) → IsKey word key → ends_key after ≡ true → Fits (next ∷ nests) after → Fits (nest ∷ nests) bytes
+key_fits : (line : ℕ) (nest next : Nest) (nests : List Nest) (bytes after : List ℕ) (word : Word) (key : List ℕ) → after_key line nest ≡ Ok next → SpellsScalar Flow (skip_spaces bytes) word (58 ∷ after) → IsKey word key → ends_key after ≡ true → Fits (next ∷ nests) after → Fits (nest ∷ nests) bytes
 key_fits line BeforeKey next nests bytes after word key h w k e f = entry_fits nests bytes after word key w k e (subst (λ n. Fits (n ∷ nests) after) (sym (ok_same h)) f)
 key_fits line BeforeForm next nests bytes after word key h w k e f = absurd (cc)
 key_fits line AfterForm next nests bytes after word key h w k e f = absurd (cc)

@@ -22,9 +22,9 @@ use Rattle.bosh_yaml.specs.Result.{◌>>=◌}
 use Rattle.bosh_yaml.specs.Scalar.{leaf_tree}
 use Rattle.bosh_yaml.specs.SpelledBlock.{Each, spaces, begins_content, IsBodyLine, IsWithin, IsIndentation, IsTail, SpellsChomping, clip, strip, SpellsValue, SpellsItem, SpellsEntry, scalar, flow, literal, node, value, last_item, item, null_item, item_below, item_beside, last_entry, entry, null_value, value_below, items_level, value_beside}
 use Rattle.bosh_yaml.specs.SpelledFlow.{SpellsFlow}
-use Rattle.bosh_yaml.specs.SpelledWord.{SpellsWord, IsKey}
+use Rattle.bosh_yaml.specs.SpelledWord.{SpellsScalar, IsKey}
 use Rattle.bosh_yaml.specs.Tree.{Tree, null, text, list, trees_of}
-use Rattle.bosh_yaml.specs.Word.{word_at, leaf_of, key_of, refused}
+use Rattle.bosh_yaml.specs.Word.{word_at, leaf_of, key_of, syntax_fault}
 use Rattle.bosh_yaml.proofs.FrameLemmas.{is_less}
 use Rattle.bosh_yaml.proofs.MoveLemmas.{skip_indentation}
 use Rattle.bosh_yaml.proofs.MoveLemmas.{Lines}
@@ -58,7 +58,7 @@ abbrev pub ValueGot : ℕ → Option ℕ → ℕ → List Frame → List ℕ →
 ValueGot line owner column frames bytes lines =
     (after : List Frame) × (place_value line column frames ≡ Ok after) × (inner : Lines) × (more : Lines) × (t : Tree) × (lines ≡ inner ++ more) × SpellsValue owner bytes inner t × Follows (At after None) more
 
-scalar_got : (line : ℕ) (owner : Option ℕ) (column : ℕ) (frames : List Frame) (bytes : List ℕ) (word : Word) (rest : List ℕ) (o : Outcome) (lines : Lines) → SpellsWord Block bytes word rest → scalar_at line column frames (word, rest) ≡ Ok o → FitOutcome o lines → ValueGot line owner column frames bytes lines
+scalar_got : (line : ℕ) (owner : Option ℕ) (column : ℕ) (frames : List Frame) (bytes : List ℕ) (word : Word) (rest : List ℕ) (o : Outcome) (lines : Lines) → SpellsScalar Block bytes word rest → scalar_at line column frames (word, rest) ≡ Ok o → FitOutcome o lines → ValueGot line owner column frames bytes lines
 scalar_got line owner column frames bytes word rest o lines w h f =
     let e = if_ok (is_end rest) _ _ o h in
     let p = bind_ok (place_value line column frames) (λ after. let q : Outcome = (Scalar (leaf_of word) ∷ [], (after, None)) in Ok q) o e.1 in
@@ -80,7 +80,7 @@ chomping_ok line (b ∷ bs) chomping h = by (b == 45) refl h
     same : (b : ℕ) → (b == 45) ≡ true → b ≡ 45
     same b h = grind (arith, nat_tests)
 
-    by : (s : Bool) → (b == 45) ≡ s → (if s then (if is_end bs then Ok Strip else refused line) else if is_end (b ∷ bs) then Ok Clip else refused line) ≡ Ok chomping → SpellsChomping (b ∷ bs) chomping
+    by : (s : Bool) → (b == 45) ≡ s → (if s then (if is_end bs then Ok Strip else syntax_fault line) else if is_end (b ∷ bs) then Ok Clip else syntax_fault line) ≡ Ok chomping → SpellsChomping (b ∷ bs) chomping
     by true p h = let e = if_ok (is_end bs) (Ok Strip) _ chomping h in rw (same b p) (subst (λ c. SpellsChomping (45 ∷ bs) c) (ok_same e.1) (strip bs e.0))
     by false p h = let e = if_ok (is_end (b ∷ bs)) (Ok Clip) _ chomping h in subst (λ c. SpellsChomping (b ∷ bs) c) (ok_same e.1) (clip (b ∷ bs) e.0)
 
@@ -184,7 +184,7 @@ entry_got line column outer bytes o lines g h f = by (is_end bytes) refl h
     by false e h = entry_beside_got line column outer bytes lines g e (value_got line (Some column) (column + 1) (Entry column ∷ outer) (skip_spaces bytes) o lines h f)
 
 -- a key with its value, and the entries that follow
-mapping_got : (column : ℕ) (outer : List Frame) (bytes rest : List ℕ) (word : Word) (key : List ℕ) (lines : Lines) → SpellsWord Block bytes word (58 ∷ rest) → IsKey word key → EntryGot column outer rest lines → Mapping column (At outer None) bytes lines
+mapping_got : (column : ℕ) (outer : List Frame) (bytes rest : List ℕ) (word : Word) (key : List ℕ) (lines : Lines) → SpellsScalar Block bytes word (58 ∷ rest) → IsKey word key → EntryGot column outer rest lines → Mapping column (At outer None) bytes lines
 mapping_got column outer bytes rest word key lines w k g = by g.5
   where
     last : Follows (At outer None) g.1 → Mapping column (At outer None) bytes lines
@@ -210,7 +210,7 @@ abbrev pub KeyGot : ℕ → ℕ → List Frame → List ℕ → Lines → Type 0
 KeyGot line column frames bytes lines =
     (key : List ℕ) × (placed : Placed) × (outer : List Frame) × (place_key line column key frames ≡ Ok placed) × (placed.1 ≡ Entry column ∷ outer) × Mapping column (At outer None) bytes lines
 
-key_got : (line column : ℕ) (frames : List Frame) (bytes rest : List ℕ) (word : Word) (o : Outcome) (lines : Lines) → SpellsWord Block bytes word (58 ∷ rest) → is_gap rest ≡ true → key_at line column frames word rest ≡ Ok o → FitOutcome o lines → KeyGot line column frames bytes lines
+key_got : (line column : ℕ) (frames : List Frame) (bytes rest : List ℕ) (word : Word) (o : Outcome) (lines : Lines) → SpellsScalar Block bytes word (58 ∷ rest) → is_gap rest ≡ true → key_at line column frames word rest ≡ Ok o → FitOutcome o lines → KeyGot line column frames bytes lines
 key_got line column frames bytes rest word o lines w g h f =
     let k = bind_ok (key_of line word) (λ key. place_key line column key frames >>= λ placed. add_events placed.0 (entry_at line column placed.1 rest)) o h in
     let p = bind_ok (place_key line column k.0 frames) (λ placed. add_events placed.0 (entry_at line column placed.1 rest)) o k.2 in
@@ -220,12 +220,12 @@ key_got line column frames bytes rest word o lines w g h f =
     let there : entry_at line column (Entry column ∷ d.0) rest ≡ Ok e.0 = subst (λ fs. entry_at line column fs rest ≡ Ok e.0) d.1 e.1 in
     (k.0, p.0, d.0, p.1, d.1, mapping_got column d.0 bytes rest word k.0 lines w (key_ok line word k.0 k.1) (entry_got line column d.0 rest e.0 lines g there fit))
 
-word_got : (line : ℕ) (owner : Option ℕ) (column : ℕ) (frames : List Frame) (bytes : List ℕ) (word : Word) (rest : List ℕ) (o : Outcome) (lines : Lines) → SpellsWord Block bytes word rest → key_or_scalar line column frames (word, rest) ≡ Ok o → FitOutcome o lines → KeyGot line column frames bytes lines ⊎ ValueGot line owner column frames bytes lines
+word_got : (line : ℕ) (owner : Option ℕ) (column : ℕ) (frames : List Frame) (bytes : List ℕ) (word : Word) (rest : List ℕ) (o : Outcome) (lines : Lines) → SpellsScalar Block bytes word rest → key_or_scalar line column frames (word, rest) ≡ Ok o → FitOutcome o lines → KeyGot line column frames bytes lines ⊎ ValueGot line owner column frames bytes lines
 word_got line owner column frames bytes word [] o lines w h f = inr (scalar_got line owner column frames bytes word [] o lines w h f)
 word_got line owner column frames bytes word (b ∷ bs) o lines w h f = by (b == 58) (is_gap bs) refl refl h
   where
     by : (c g : Bool) → (b == 58) ≡ c → is_gap bs ≡ g → (if c && g then key_at line column frames word bs else scalar_at line column frames (word, b ∷ bs)) ≡ Ok o → KeyGot line column frames bytes lines ⊎ ValueGot line owner column frames bytes lines
-    by true true p q h = inl (key_got line column frames bytes bs word o lines (subst (λ c. SpellsWord Block bytes word (c ∷ bs)) (same_byte b 58 p) w) q h f)
+    by true true p q h = inl (key_got line column frames bytes bs word o lines (subst (λ c. SpellsScalar Block bytes word (c ∷ bs)) (same_byte b 58 p) w) q h f)
     by true false p q h = inr (scalar_got line owner column frames bytes word (b ∷ bs) o lines w h f)
     by false g p q h = inr (scalar_got line owner column frames bytes word (b ∷ bs) o lines w h f)
 

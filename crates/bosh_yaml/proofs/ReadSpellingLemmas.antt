@@ -17,8 +17,8 @@ use Rattle.bosh_yaml.specs.Events.{Scan, Scanned, content_line, end_by_mode, eve
 use Rattle.bosh_yaml.specs.Json.{has_integers, json_data, json_events}
 use Rattle.bosh_yaml.specs.Lines.{begins, is_blank, lines_of, skip_spaces}
 use Rattle.bosh_yaml.specs.Literal.{indentation, is_spaces, literal_text}
-use Rattle.bosh_yaml.specs.Nodes.{made, nesting, repeated}
-use Rattle.bosh_yaml.specs.Reading.{reading, yaml_reading, json_reading, json_checked, checked, integers_only}
+use Rattle.bosh_yaml.specs.Nodes.{line_of_repeat, nesting, tree_from}
+use Rattle.bosh_yaml.specs.Reading.{reading, yaml_reading, json_reading, checked_json_tree, checked_tree, integers_only}
 use Rattle.bosh_yaml.specs.Result.{◌>>=◌, with_front}
 use Rattle.bosh_yaml.specs.SpelledBlock.{Each, spaces, IsBlank, IsTail, SpellsNode, node}
 use Rattle.bosh_yaml.specs.Spelling.{IsReadable, SpellsContent, nothing, content, SpellsLines, marked, unmarked, Spells, as_json, as_yaml, json_tree}
@@ -212,18 +212,18 @@ events_make text es h =
     let y = yaml_is_read text s.0 r.0 s.1 in
     (s.0, subst (λ es. Makes es s.0) (ok_same (sym y.1 ∙ h)) y.2)
 
-checked_made : (line : Option ℕ) (es : List Event) (t : Tree) → checked line es ≡ Ok t → made None [] es ≡ Ok t
+checked_made : (line : Option ℕ) (es : List Event) (t : Tree) → checked_tree line es ≡ Ok t → tree_from None [] es ≡ Ok t
 checked_made (Some line) es t h = absurd (cc)
-checked_made None es t h = (unless_ok (nat_lt 64 (nesting 0 es)) (made None [] es) _ t h).1
+checked_made None es t h = (unless_ok (nat_lt 64 (nesting 0 es)) (tree_from None [] es) _ t h).1
 
 yaml_spelled : (text : List ℕ) (t : Tree) → begins 123 text ≡ false → yaml_reading text ≡ Ok t → Spells text t
 yaml_spelled text t b h =
-    let e = bind_ok (events_of text) (λ events. checked (repeated [] events) events) t h in
+    let e = bind_ok (events_of text) (λ events. checked_tree (line_of_repeat [] events) events) t h in
     let r = all_readable (lines_of text) 1 start e.0 e.1 in
     let s = start_fits (lines_of text) 1 e.0 r.1 in
     let y = yaml_is_read text s.0 r.0 s.1 in
     let events : y.0 ≡ e.0 = ok_same (sym y.1 ∙ e.1) in
-    let same : s.0 ≡ t = ok_same (sym (makes_whole y.0 s.0 y.2) ∙ ap (λ es. made None [] es) events ∙ checked_made (repeated [] e.0) e.0 t e.2) in
+    let same : s.0 ≡ t = ok_same (sym (makes_whole y.0 s.0 y.2) ∙ ap (λ es. tree_from None [] es) events ∙ checked_made (line_of_repeat [] e.0) e.0 t e.2) in
     subst (λ t. Spells text t) same (as_yaml b r.0 s.1)
 
 integers_ok : (b : Bool) (read : Result Tree ReadFault) (t : Tree) → integers_only b read ≡ Ok t → (b ≡ true) × (read ≡ Ok t)
@@ -232,10 +232,10 @@ integers_ok false read t h = absurd (cc)
 
 json_spelled : (text : List ℕ) (t : Tree) → begins 123 text ≡ true → json_reading text ≡ Ok t → Spells text t
 json_spelled text t b h =
-    let d = bind_ok (json_data text) (λ d. json_checked d (json_events d)) t h in
-    let n = unless_ok (nat_lt 64 (nesting 0 (json_events d.0))) (integers_only (has_integers d.0) (checked (repeated [] (json_events d.0)) (json_events d.0))) _ t d.2 in
-    let i = integers_ok (has_integers d.0) (checked (repeated [] (json_events d.0)) (json_events d.0)) t n.1 in
-    let same : json_tree d.0 ≡ t = ok_same (sym (makes_whole (json_events d.0) (json_tree d.0) (json_makes d.0)) ∙ checked_made (repeated [] (json_events d.0)) (json_events d.0) t i.1) in
+    let d = bind_ok (json_data text) (λ d. checked_json_tree d (json_events d)) t h in
+    let n = unless_ok (nat_lt 64 (nesting 0 (json_events d.0))) (integers_only (has_integers d.0) (checked_tree (line_of_repeat [] (json_events d.0)) (json_events d.0))) _ t d.2 in
+    let i = integers_ok (has_integers d.0) (checked_tree (line_of_repeat [] (json_events d.0)) (json_events d.0)) t n.1 in
+    let same : json_tree d.0 ≡ t = ok_same (sym (makes_whole (json_events d.0) (json_tree d.0) (json_makes d.0)) ∙ checked_made (line_of_repeat [] (json_events d.0)) (json_events d.0) t i.1) in
     as_json b (d.0, d.1, i.0, same)
 
 pub read_is_spelled : (text : List ℕ) (t : Tree) → reading text ≡ Ok t → Spells text t

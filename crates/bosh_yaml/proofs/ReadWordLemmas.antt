@@ -9,7 +9,7 @@ use Rattle.bosh_yaml.specs.declared.word.Word.TheVariants.{Plain, Quoted}
 use Rattle.bosh_yaml.specs.Bare.{ends_plain, plain_len, starts_plain, trim_end}
 use Rattle.bosh_yaml.specs.Quotes.{single_quoted, double_quoted}
 use Rattle.bosh_yaml.specs.Result.{◌>>=◌}
-use Rattle.bosh_yaml.specs.SpelledWord.{SpellsWord, GoesOn, Stops, IsKey, in_single_quotes, in_double_quotes, unquoted}
+use Rattle.bosh_yaml.specs.SpelledWord.{SpellsScalar, GoesOn, Stops, IsKey, in_single_quotes, in_double_quotes, unquoted}
 use Rattle.bosh_yaml.specs.Word.{word_at, quoted_word, plain_word, key_of, text_of}
 use Rattle.bosh_yaml.proofs.ResultLemmas.{ok_same}
 
@@ -58,7 +58,7 @@ drop_front : (front rest : List ℕ) → drop (length front) (front ++ rest) ≡
 drop_front [] rest = refl
 drop_front (b ∷ bs) rest = drop_front bs rest
 
-plain_ok : (place : Place) (line : ℕ) (bytes : List ℕ) (word : Word) (rest : List ℕ) → plain_word place line bytes ≡ Ok (word, rest) → SpellsWord place bytes word rest
+plain_ok : (place : Place) (line : ℕ) (bytes : List ℕ) (word : Word) (rest : List ℕ) → plain_word place line bytes ≡ Ok (word, rest) → SpellsScalar place bytes word rest
 plain_ok place line bytes word rest h =
     let s = if_ok (starts_plain bytes) _ _ (word, rest) h in
     let l = unless_ok (plain_len place bytes == 0) _ _ (word, rest) s.1 in
@@ -70,31 +70,31 @@ plain_ok place line bytes word rest h =
     let g = len_goes_on place bytes in
     by bytes word rest g.0 g.1 s.0 l.0 g.2 g.3 g.4 g.5 t.0 (sym first ∙ ap (λ s. Plain s) (sym t.1)) behind
   where
-    plain : (bytes front after : List ℕ) (word : Word) (rest : List ℕ) → starts_plain bytes ≡ true → (length front == 0) ≡ false → bytes ≡ front ++ after → GoesOn place front after → Stops place after → is_utf8 (trim_end front) ≡ true → word ≡ Plain (trim_end front) → after ≡ rest → SpellsWord place bytes word rest
+    plain : (bytes front after : List ℕ) (word : Word) (rest : List ℕ) → starts_plain bytes ≡ true → (length front == 0) ≡ false → bytes ≡ front ++ after → GoesOn place front after → Stops place after → is_utf8 (trim_end front) ≡ true → word ≡ Plain (trim_end front) → after ≡ rest → SpellsScalar place bytes word rest
     plain bytes [] after word rest s n e g p u w b = absurd (cc)
     plain bytes (c ∷ cs) after word rest s n e g p u w b =
-        subst (λ bs. SpellsWord place bs word rest) (sym e) (subst (λ w. SpellsWord place (c ∷ (cs ++ after)) w rest) (sym w) (subst (λ r. SpellsWord place (c ∷ (cs ++ after)) (Plain (trim_end (c ∷ cs))) r) b (unquoted c cs after (rw e at s) g p u)))
+        subst (λ bs. SpellsScalar place bs word rest) (sym e) (subst (λ w. SpellsScalar place (c ∷ (cs ++ after)) w rest) (sym w) (subst (λ r. SpellsScalar place (c ∷ (cs ++ after)) (Plain (trim_end (c ∷ cs))) r) b (unquoted c cs after (rw e at s) g p u)))
 
-    by : (bytes : List ℕ) (word : Word) (rest front after : List ℕ) → starts_plain bytes ≡ true → (plain_len place bytes == 0) ≡ false → bytes ≡ front ++ after → length front ≡ plain_len place bytes → GoesOn place front after → Stops place after → is_utf8 (trim_end (take (plain_len place bytes) bytes)) ≡ true → word ≡ Plain (trim_end (take (plain_len place bytes) bytes)) → drop (plain_len place bytes) bytes ≡ rest → SpellsWord place bytes word rest
+    by : (bytes : List ℕ) (word : Word) (rest front after : List ℕ) → starts_plain bytes ≡ true → (plain_len place bytes == 0) ≡ false → bytes ≡ front ++ after → length front ≡ plain_len place bytes → GoesOn place front after → Stops place after → is_utf8 (trim_end (take (plain_len place bytes) bytes)) ≡ true → word ≡ Plain (trim_end (take (plain_len place bytes) bytes)) → drop (plain_len place bytes) bytes ≡ rest → SpellsScalar place bytes word rest
     by bytes word rest front after s n e l g p u w b =
         let taken : take (plain_len place bytes) bytes ≡ front = ap (λ k. take k bytes) (sym l) ∙ ap (λ t. take (length front) t) e ∙ take_front front after in
         let dropped : drop (plain_len place bytes) bytes ≡ after = ap (λ k. drop k bytes) (sym l) ∙ ap (λ t. drop (length front) t) e ∙ drop_front front after in
         plain bytes front after word rest s (ap (λ k. k == 0) l ∙ n) e g p (rw taken at u) (w ∙ ap (λ t. Plain (trim_end t)) taken) (sym dropped ∙ b)
 
-pub word_ok : (place : Place) (line : ℕ) (bytes : List ℕ) (word : Word) (rest : List ℕ) → word_at place line bytes ≡ Ok (word, rest) → SpellsWord place bytes word rest
+pub word_ok : (place : Place) (line : ℕ) (bytes : List ℕ) (word : Word) (rest : List ℕ) → word_at place line bytes ≡ Ok (word, rest) → SpellsScalar place bytes word rest
 word_ok place line [] word rest h = absurd (cc)
 word_ok place line (b ∷ bs) word rest h = by (b == 39) (b == 34) refl refl h
   where
-    single : b ≡ 39 → quoted_word line (single_quoted bs) ≡ Ok (word, rest) → SpellsWord place (b ∷ bs) word rest
+    single : b ≡ 39 → quoted_word line (single_quoted bs) ≡ Ok (word, rest) → SpellsScalar place (b ∷ bs) word rest
     single e h = let q = quoted_ok line (single_quoted bs) word rest h in rw (e, q.3) (in_single_quotes bs q.0 rest q.1 q.2)
 
-    double : b ≡ 34 → quoted_word line (double_quoted bs) ≡ Ok (word, rest) → SpellsWord place (b ∷ bs) word rest
+    double : b ≡ 34 → quoted_word line (double_quoted bs) ≡ Ok (word, rest) → SpellsScalar place (b ∷ bs) word rest
     double e h = let q = quoted_ok line (double_quoted bs) word rest h in rw (e, q.3) (in_double_quotes bs q.0 rest q.1 q.2)
 
     same : (a c : ℕ) → (a == c) ≡ true → a ≡ c
     same a c h = grind (arith, nat_tests)
 
-    by : (s d : Bool) → (b == 39) ≡ s → (b == 34) ≡ d → (if s then quoted_word line (single_quoted bs) else if d then quoted_word line (double_quoted bs) else plain_word place line (b ∷ bs)) ≡ Ok (word, rest) → SpellsWord place (b ∷ bs) word rest
+    by : (s d : Bool) → (b == 39) ≡ s → (b == 34) ≡ d → (if s then quoted_word line (single_quoted bs) else if d then quoted_word line (double_quoted bs) else plain_word place line (b ∷ bs)) ≡ Ok (word, rest) → SpellsScalar place (b ∷ bs) word rest
     by true d p q h = single (same b 39 p) h
     by false true p q h = double (same b 34 q) h
     by false false p q h = plain_ok place line (b ∷ bs) word rest h

@@ -17,8 +17,8 @@ use Rattle.bosh_yaml.specs.Events.{content_line, end_by_mode, events_from, event
 use Rattle.bosh_yaml.specs.Limits.{HasEachKeyOnce}
 use Rattle.bosh_yaml.specs.Lines.{begins, is_blank, lines_of, skip_spaces}
 use Rattle.bosh_yaml.specs.Literal.{indentation, is_spaces, literal_text}
-use Rattle.bosh_yaml.specs.Nodes.{Keys, line_or, made, nesting, no_keys, repeated, with_new}
-use Rattle.bosh_yaml.specs.Reading.{checked, json_reading, reading, yaml_reading}
+use Rattle.bosh_yaml.specs.Nodes.{Keys, line_of_repeat, line_or, nesting, no_keys, tree_from, with_new}
+use Rattle.bosh_yaml.specs.Reading.{checked_tree, json_reading, reading, yaml_reading}
 use Rattle.bosh_yaml.specs.Repeats.{RepeatsKey, RepeatsNoKey}
 use Rattle.bosh_yaml.specs.Result.{◌>>=◌, with_front}
 use Rattle.bosh_yaml.specs.Seen.{line_or_else}
@@ -52,7 +52,7 @@ or_first : (b : Bool) (line : ℕ) (whole front rest : Option ℕ) → whole ≡
 or_first true line whole front rest h = refl
 or_first false line whole front rest h = h
 
-repeated_append : (all : List Keys) (es fs : List Event) → repeated all (es ++ fs) ≡ line_or_else (repeated all es) (repeated (seen all es) fs)
+repeated_append : (all : List Keys) (es fs : List Event) → line_of_repeat all (es ++ fs) ≡ line_or_else (line_of_repeat all es) (line_of_repeat (seen all es) fs)
 repeated_append all [] fs = refl
 repeated_append all (Scalar leaf ∷ es) fs = repeated_append all es fs
 repeated_append all (OpenList ∷ es) fs = repeated_append (no_keys ∷ all) es fs
@@ -67,10 +67,10 @@ repeated_append (keys ∷ all) (Close ∷ es) fs = repeated_append all es fs
 abbrev HasNoKey : List Event → Type 0
 HasNoKey es = AreOn (λ line. ⊥) es
 
-repeats_none : (all : List Keys) (es : List Event) → HasNoKey es → repeated all es ≡ None
-repeats_none all es h = by (repeated all es) refl
+repeats_none : (all : List Keys) (es : List Event) → HasNoKey es → line_of_repeat all es ≡ None
+repeats_none all es h = by (line_of_repeat all es) refl
   where
-    by : (found : Option ℕ) → repeated all es ≡ found → found ≡ None
+    by : (found : Option ℕ) → line_of_repeat all es ≡ found → found ≡ None
     by None e = refl
     by (Some line) e = absurd (repeated_on (λ line. ⊥) all es line h e)
 
@@ -131,7 +131,7 @@ first_ends line frames bytes next h = by (is_marker bytes) h
     by false h = plain_ends Start line frames bytes next (ends_at_start frames []) h
 
 -- the keys of a line have its number
-numbered : (line found : ℕ) (all : List Keys) (read : Result Scanned ReadFault) (next : Scanned) → Gave (λ k. k ≡ line) (ScannedOn (λ k. k ≡ line)) read → read ≡ Ok next → repeated all next.0 ≡ Some found → found ≡ line
+numbered : (line found : ℕ) (all : List Keys) (read : Result Scanned ReadFault) (next : Scanned) → Gave (λ k. k ≡ line) (ScannedOn (λ k. k ≡ line)) read → read ≡ Ok next → line_of_repeat all next.0 ≡ Some found → found ≡ line
 numbered line found all read next g h r =
     let on : ScannedOn (λ k. k ≡ line) next = subst (Gave (λ k. k ≡ line) (ScannedOn (λ k. k ≡ line))) h g in
     repeated_on (λ k. k ≡ line) all next.0 found on.0 r
@@ -140,12 +140,12 @@ numbered line found all read next g h r =
 abbrev Repeating : Scan → Scanned → ℕ → ℕ → Type 0
 Repeating before next line found = Ends before × Ends next.1 × (found ≡ line)
 
-no_event : (all : List Keys) (found : ℕ) (scan : Scan) (next : Scanned) → ◌≡◌ {A = Result Scanned ReadFault} (Ok ([], scan)) (Ok next) → repeated all next.0 ≡ Some found → ⊥
+no_event : (all : List Keys) (found : ℕ) (scan : Scan) (next : Scanned) → ◌≡◌ {A = Result Scanned ReadFault} (Ok ([], scan)) (Ok next) → line_of_repeat all next.0 ≡ Some found → ⊥
 no_event all found scan next h r =
-    let none : repeated all next.0 ≡ None = ap (λ (s : Scanned). repeated all s.0) (sym (ok_same h)) in
+    let none : line_of_repeat all next.0 ≡ None = ap (λ (s : Scanned). line_of_repeat all s.0) (sym (ok_same h)) in
     cc
 
-literal_repeats : (header : Header) (indent : Option ℕ) (line : ℕ) (frames : List Frame) (body : Lines) (bytes : List ℕ) (next : Scanned) (all : List Keys) (found : ℕ) → literal_line header indent line frames body bytes ≡ Ok next → repeated all next.0 ≡ Some found → Repeating (record { frames = frames; mode = Literal header indent; body = body }) next line found
+literal_repeats : (header : Header) (indent : Option ℕ) (line : ℕ) (frames : List Frame) (body : Lines) (bytes : List ℕ) (next : Scanned) (all : List Keys) (found : ℕ) → literal_line header indent line frames body bytes ≡ Ok next → line_of_repeat all next.0 ≡ Some found → Repeating (record { frames = frames; mode = Literal header indent; body = body }) next line found
 literal_repeats header indent line frames body bytes next all found h r = by (is_spaces bytes) h
   where
     behind : (literal_event header indent body >>= λ event. plain_line Outside line frames bytes >>= λ next. Ok (event ∷ next.0, next.1)) ≡ Ok next → Repeating (record { frames = frames; mode = Literal header indent; body = body }) next line found
@@ -154,7 +154,7 @@ literal_repeats header indent line frames body bytes next all found h r = by (is
         let p = bind_ok (plain_line Outside line frames bytes) (λ next. Ok (e.0 ∷ next.0, next.1)) next e.2 in
         let t = bind_ok (text_of header.line (literal_text header.chomping indent body)) (λ text. Ok (Scalar (Text text))) e.0 e.1 in
         let same : ◌≡◌ {A = Scanned} (Scalar (Text t.0) ∷ p.0.0, p.0.1) next = ap (λ (event : Event). let s : Scanned = (event ∷ p.0.0, p.0.1) in s) (ok_same t.2) ∙ ok_same p.2 in
-        let there : repeated all p.0.0 ≡ Some found = ap (λ (s : Scanned). repeated all s.0) same ∙ r in
+        let there : line_of_repeat all p.0.0 ≡ Some found = ap (λ (s : Scanned). line_of_repeat all s.0) same ∙ r in
         let end = literal_ends_so header indent frames body e.0 e.1 in (
           (e.0 ∷ place_end frames, end.0, end.1),
           subst (λ (s : Scanned). Ends s.1) same (plain_ends Outside line frames bytes p.0 (ends_outside frames []) p.1),
@@ -171,7 +171,7 @@ literal_repeats header indent line frames body bytes next all found h r = by (is
     by true h = absurd (no_event all found _ next h r)
     by false h = unless_within (nat_lt header.owner (indentation bytes)) h
 
-line_repeats : (mode : Mode) (line : ℕ) (frames : List Frame) (body : Lines) (bytes : List ℕ) (next : Scanned) (all : List Keys) (found : ℕ) → line_by_mode mode line frames body bytes ≡ Ok next → repeated all next.0 ≡ Some found → Repeating (record { frames = frames; mode = mode; body = body }) next line found
+line_repeats : (mode : Mode) (line : ℕ) (frames : List Frame) (body : Lines) (bytes : List ℕ) (next : Scanned) (all : List Keys) (found : ℕ) → line_by_mode mode line frames body bytes ≡ Ok next → line_of_repeat all next.0 ≡ Some found → Repeating (record { frames = frames; mode = mode; body = body }) next line found
 line_repeats Start line frames body bytes next all found h r =
     (ends_at_start frames body, first_ends line frames bytes next h, numbered line found all (first_line line frames bytes) next (on_first_line (λ k. k ≡ line) line refl frames bytes) h r)
 line_repeats Outside line frames body bytes next all found h r =
@@ -181,36 +181,36 @@ line_repeats (Literal header indent) line frames body bytes next all found h r =
 -- ---- the lines up to it, and those before it
 
 abbrev Gives : List Keys → Result (List Event) ReadFault → Option ℕ → Type 0
-Gives all read found = (es : List Event) × (read ≡ Ok es) × (repeated all es ≡ found)
+Gives all read found = (es : List Event) × (read ≡ Ok es) × (line_of_repeat all es ≡ found)
 
 abbrev CutAt : ℕ → Scan → Lines → List Keys → ℕ → Type 0
 CutAt line scan lines all found =
     (n : ℕ) × (found ≡ line + n) × Gives all (events_from line scan (take n lines)) None × Gives all (events_from line scan (take (suc n) lines)) (Some found)
 
-cut : (lines : Lines) (line : ℕ) (scan : Scan) (es : List Event) (all : List Keys) (found : ℕ) → events_from line scan lines ≡ Ok es → repeated all es ≡ Some found → CutAt line scan lines all found
+cut : (lines : Lines) (line : ℕ) (scan : Scan) (es : List Event) (all : List Keys) (found : ℕ) → events_from line scan lines ≡ Ok es → line_of_repeat all es ≡ Some found → CutAt line scan lines all found
 cut [] line scan es all found h r =
-    let none : repeated all es ≡ None = repeats_none all es (end_has_none scan.mode scan.frames scan.body es h) in
+    let none : line_of_repeat all es ≡ None = repeats_none all es (end_has_none scan.mode scan.frames scan.body es h) in
     absurd (cc)
 cut (bytes ∷ lines) line scan es all found h r =
     let n = bind_ok (one_line line scan bytes) (λ next. with_front next.0 (events_from (line + 1) next.1 lines)) es h in
     let m = bind_ok (events_from (line + 1) n.0.1 lines) (λ fs. Ok (n.0.0 ++ fs)) es n.2 in
     let l = if_ok (is_readable bytes) (line_by_mode scan.mode line scan.frames scan.body bytes) _ n.0 n.1 in
-    let whole : line_or_else (repeated all n.0.0) (repeated (seen all n.0.0) m.0) ≡ Some found = sym (repeated_append all n.0.0 m.0) ∙ ap (λ es. repeated all es) (ok_same m.2) ∙ r in
-    by n.0 m.0 (repeated all n.0.0) refl n.1 l.1 m.1 whole (λ a f. cut lines (line + 1) n.0.1 m.0 a found m.1 f)
+    let whole : line_or_else (line_of_repeat all n.0.0) (line_of_repeat (seen all n.0.0) m.0) ≡ Some found = sym (repeated_append all n.0.0 m.0) ∙ ap (λ es. line_of_repeat all es) (ok_same m.2) ∙ r in
+    by n.0 m.0 (line_of_repeat all n.0.0) refl n.1 l.1 m.1 whole (λ a f. cut lines (line + 1) n.0.1 m.0 a found m.1 f)
   where
     front : (next : Scanned) (ls : Lines) (fs : List Event) → one_line line scan bytes ≡ Ok next → events_from (line + 1) next.1 ls ≡ Ok fs → events_from line scan (bytes ∷ ls) ≡ Ok (next.0 ++ fs)
     front next ls fs o f = rw (o, f) refl
 
-    by : (next : Scanned) (fs : List Event) (first : Option ℕ) → repeated all next.0 ≡ first → one_line line scan bytes ≡ Ok next → line_by_mode scan.mode line scan.frames scan.body bytes ≡ Ok next → events_from (line + 1) next.1 lines ≡ Ok fs → line_or_else first (repeated (seen all next.0) fs) ≡ Some found
-        → ((a : List Keys) → repeated a fs ≡ Some found → CutAt (line + 1) next.1 lines a found) → CutAt line scan (bytes ∷ lines) all found
+    by : (next : Scanned) (fs : List Event) (first : Option ℕ) → line_of_repeat all next.0 ≡ first → one_line line scan bytes ≡ Ok next → line_by_mode scan.mode line scan.frames scan.body bytes ≡ Ok next → events_from (line + 1) next.1 lines ≡ Ok fs → line_or_else first (line_of_repeat (seen all next.0) fs) ≡ Some found
+        → ((a : List Keys) → line_of_repeat a fs ≡ Some found → CutAt (line + 1) next.1 lines a found) → CutAt line scan (bytes ∷ lines) all found
     by next fs (Some k) e o l f w more =
-        let here : repeated all next.0 ≡ Some found = e ∙ w in
+        let here : line_of_repeat all next.0 ≡ Some found = e ∙ w in
         let at = line_repeats scan.mode line scan.frames scan.body bytes next all found l here in
         let end = at.1 in (
           0,
           omega (arith, at.2),
           (at.0.0, at.0.1, repeats_none all at.0.0 at.0.2),
-          (next.0 ++ end.0, front next [] end.0 o end.1, repeated_append all next.0 end.0 ∙ ap (λ r. line_or_else r (repeated (seen all next.0) end.0)) here),
+          (next.0 ++ end.0, front next [] end.0 o end.1, repeated_append all next.0 end.0 ∙ ap (λ r. line_or_else r (line_of_repeat (seen all next.0) end.0)) here),
         )
     by next fs None e o l f w more =
         let c = more (seen all next.0) w in
@@ -218,8 +218,8 @@ cut (bytes ∷ lines) line scan es all found h r =
         let up_to = c.3 in (
           suc c.0,
           omega (arith, c.1),
-          (next.0 ++ before.0, front next (take c.0 lines) before.0 o before.1, repeated_append all next.0 before.0 ∙ ap (λ r. line_or_else r (repeated (seen all next.0) before.0)) e ∙ before.2),
-          (next.0 ++ up_to.0, front next (take (suc c.0) lines) up_to.0 o up_to.1, repeated_append all next.0 up_to.0 ∙ ap (λ r. line_or_else r (repeated (seen all next.0) up_to.0)) e ∙ up_to.2),
+          (next.0 ++ before.0, front next (take c.0 lines) before.0 o before.1, repeated_append all next.0 before.0 ∙ ap (λ r. line_or_else r (line_of_repeat (seen all next.0) before.0)) e ∙ before.2),
+          (next.0 ++ up_to.0, front next (take (suc c.0) lines) up_to.0 o up_to.1, repeated_append all next.0 up_to.0 ∙ ap (λ r. line_or_else r (line_of_repeat (seen all next.0) up_to.0)) e ∙ up_to.2),
         )
 
 -- ---- as trees
@@ -235,8 +235,8 @@ lines_make lines es h =
 makes_none : (lines : Lines) → Gives [] (events_from 1 start lines) None → RepeatsNoKey lines
 makes_none lines g = let m = lines_make lines g.0 g.1 in (m.0, m.1, by m.0 m.2 m.2.2)
   where
-    no : (line : ℕ) → repeated [] g.0 ≡ Some line → ⊥
-    no line h = let none : repeated [] g.0 ≡ None = g.2 in cc
+    no : (line : ℕ) → line_of_repeat [] g.0 ≡ Some line → ⊥
+    no line h = let none : line_of_repeat [] g.0 ≡ None = g.2 in cc
 
     by : (t : Tree) → Makes g.0 t → (HasEachKeyOnce t × RepeatsNone g.0) ⊎ ((HasEachKeyOnce t → ⊥) × RepeatsOne g.0) → HasEachKeyOnce t
     by t m (inl h) = h.0
@@ -245,8 +245,8 @@ makes_none lines g = let m = lines_make lines g.0 g.1 in (m.0, m.1, by m.0 m.2 m
 makes_some : (lines : Lines) (line : ℕ) → Gives [] (events_from 1 start lines) (Some line) → RepeatsKey lines
 makes_some lines line g = let m = lines_make lines g.0 g.1 in (m.0, m.1, λ once. no (repeats_whole g.0 m.0 m.2 once))
   where
-    no : repeated [] g.0 ≡ None → ⊥
-    no h = let some : repeated [] g.0 ≡ Some line = g.2 in cc
+    no : line_of_repeat [] g.0 ≡ None → ⊥
+    no h = let some : line_of_repeat [] g.0 ≡ Some line = g.2 in cc
 
 -- ---- a text
 
@@ -256,22 +256,22 @@ err_same h = cc
 pub made_is_no_refusal : (t : Tree) (fault : ReadFault) (read : Result Tree ReadFault) → read ≡ Ok t → read ≡ Err fault → ⊥
 made_is_no_refusal t fault read h k = cc
 
-events_repeat : (text : List ℕ) (line : ℕ) (es : List Event) (t : Tree) (first : Option ℕ) → events_of text ≡ Ok es → Makes es t → repeated [] es ≡ first → checked first es ≡ Err (RepeatedKey line) → CutAt 1 start (lines_of text) [] line
+events_repeat : (text : List ℕ) (line : ℕ) (es : List Event) (t : Tree) (first : Option ℕ) → events_of text ≡ Ok es → Makes es t → line_of_repeat [] es ≡ first → checked_tree first es ≡ Err (RepeatedKey line) → CutAt 1 start (lines_of text) [] line
 events_repeat text line es t (Some k) is m e h =
     let same : k ≡ line = cc in
     cut (lines_of text) 1 start es [] line is (e ∙ ap (λ n. Some n) same)
 events_repeat text line es t None is m e h = absurd (by (nat_lt 64 (nesting 0 es)) h)
   where
-    by : (b : Bool) → (if b then Err TooDeep else made None [] es) ≡ Err (RepeatedKey line) → ⊥
+    by : (b : Bool) → (if b then Err TooDeep else tree_from None [] es) ≡ Err (RepeatedKey line) → ⊥
     by true h = cc
-    by false h = made_is_no_refusal t (RepeatedKey line) (made None [] es) (makes_whole es t m) h
+    by false h = made_is_no_refusal t (RepeatedKey line) (tree_from None [] es) (makes_whole es t m) h
 
 yaml_repeats : (text : List ℕ) (line : ℕ) → yaml_reading text ≡ Err (RepeatedKey line) → CutAt 1 start (lines_of text) [] line
 yaml_repeats text line h = by (events_of text) refl (on_events_of text) h
   where
-    by : (r : Result (List Event) ReadFault) → events_of text ≡ r → Gave (IsLineOf text) (AreOn (IsLineOf text)) r → (r >>= λ es. checked (repeated [] es) es) ≡ Err (RepeatedKey line) → CutAt 1 start (lines_of text) [] line
+    by : (r : Result (List Event) ReadFault) → events_of text ≡ r → Gave (IsLineOf text) (AreOn (IsLineOf text)) r → (r >>= λ es. checked_tree (line_of_repeat [] es) es) ≡ Err (RepeatedKey line) → CutAt 1 start (lines_of text) [] line
     by (Err e) is on h = absurd (subst (RefusesOn (IsLineOf text)) (err_same h) on)
-    by (Ok es) is on h = let m = lines_make (lines_of text) es is in events_repeat text line es m.0 (repeated [] es) is m.2 refl h
+    by (Ok es) is on h = let m = lines_make (lines_of text) es is in events_repeat text line es m.0 (line_of_repeat [] es) is m.2 refl h
 
 text_repeats : (text : List ℕ) (line : ℕ) → reading text ≡ Err (RepeatedKey line) → CutAt 1 start (lines_of text) [] line
 text_repeats text line h = by (nat_lt 1048576 (length text)) h

@@ -11,7 +11,7 @@ use Rattle.std.specs.Cmp.Lexicographic.{slice_cmp}
 use Rattle.std.proofs.lemmas.Map.Text.{is_eq-slice_cmp}
 use Rattle.bosh_yaml.specs.declared.event.Event.{Event}
 use Rattle.bosh_yaml.specs.declared.event.Event.TheVariants.{Key}
-use Rattle.bosh_yaml.specs.Nodes.{Keys, with_new, repeated}
+use Rattle.bosh_yaml.specs.Nodes.{Keys, with_new, line_of_repeat}
 
 -- two tests that agree on each key are one
 pub same_keys : (a b : Keys) → ((key : List ℕ) → a key ≡ b key) → a ≡ b
@@ -47,10 +47,10 @@ pub with_new_key : (old new : Keys) (key : List ℕ) → ((q : List ℕ) → new
 with_new_key old new key h =
     same_keys new (with_new old key) (λ q. h q ∙ rw (hashed key q) (or_of_cond (bytes_eq key q) (old q)))
 
-pub key_is_new : (old new : Keys) (below : List Keys) (line : ℕ) (key : List ℕ) (rest : List Event) → old key ≡ false → new ≡ with_new old key → repeated (old ∷ below) (Key line key ∷ rest) ≡ repeated (new ∷ below) rest
+pub key_is_new : (old new : Keys) (below : List Keys) (line : ℕ) (key : List ℕ) (rest : List Event) → old key ≡ false → new ≡ with_new old key → line_of_repeat (old ∷ below) (Key line key ∷ rest) ≡ line_of_repeat (new ∷ below) rest
 key_is_new old new below line key rest h e = rw (h, e) refl
 
-pub key_is_old : (old : Keys) (below : List Keys) (line : ℕ) (key : List ℕ) (rest : List Event) → old key ≡ true → repeated (old ∷ below) (Key line key ∷ rest) ≡ Some line
+pub key_is_old : (old : Keys) (below : List Keys) (line : ℕ) (key : List ℕ) (rest : List Event) → old key ≡ true → line_of_repeat (old ∷ below) (Key line key ∷ rest) ≡ Some line
 key_is_old old below line key rest h = rw h refl
 
 pub not_true_of : (a x : Bool) → a ≡ not x → a ≡ true → x ≡ false

@@ -14,7 +14,7 @@ use Rattle.bosh_yaml.specs.Lines.{is_blank, is_comment, is_end, is_gap, skip_spa
 use Rattle.bosh_yaml.specs.Literal.{indentation, is_spaces}
 use Rattle.bosh_yaml.specs.Result.{with_front}
 use Rattle.bosh_yaml.specs.SpelledBlock.{Each, spaces, IsBlank, begins_content, SpellsNode, SpellsAt, SpellsItems, SpellsItem, SpellsEntries, SpellsEntry, node, value, sequence, mapping, last_item, item, null_item, item_below, item_beside, last_entry, entry, null_value, value_below, items_level, value_beside}
-use Rattle.bosh_yaml.specs.SpelledWord.{SpellsWord, IsKey}
+use Rattle.bosh_yaml.specs.SpelledWord.{SpellsScalar, IsKey}
 use Rattle.bosh_yaml.specs.Tree.{Tree, null, list, map, trees_of, fields_of}
 use Rattle.bosh_yaml.proofs.FrameLemmas.{Within, Below, below_within, within_below, within_less, within_append, below_append, end_append, Accepts, filled, dash_placed, key_placed, dash_again, dash_after_none, key_again, key_after_none, dash_level}
 use Rattle.bosh_yaml.proofs.MakesLemmas.{Makes, MakesItems, MakesEntries, makes_scalar, makes_list, makes_map, no_items, more_items, no_entries, more_entries}
@@ -229,7 +229,7 @@ more_items_read line column owner frames outer before rest bytes inner lines t t
           (runs_more line column inner bytes lines read i.1 (i.2 ++ j.1) (i.0 ++ outer) (j.0 ++ outer) c i.8 j.6),
     )
 
-key_step : (line column : ℕ) (owner : Option ℕ) (frames outer : List Frame) (before : List Event) (bytes rest : List ℕ) (word : Word) (key : List ℕ) → SpellsWord Block bytes word (58 ∷ rest) → IsKey word key → is_gap rest ≡ true → place_key line column key frames ≡ Ok (before ++ Key line key ∷ [], Entry column ∷ outer) → items_at line owner column frames bytes ≡ add_events (before ++ Key line key ∷ []) (entry_at line column (Entry column ∷ outer) rest)
+key_step : (line column : ℕ) (owner : Option ℕ) (frames outer : List Frame) (before : List Event) (bytes rest : List ℕ) (word : Word) (key : List ℕ) → SpellsScalar Block bytes word (58 ∷ rest) → IsKey word key → is_gap rest ≡ true → place_key line column key frames ≡ Ok (before ++ Key line key ∷ [], Entry column ∷ outer) → items_at line owner column frames bytes ≡ add_events (before ++ Key line key ∷ []) (entry_at line column (Entry column ∷ outer) rest)
 key_step line column owner frames outer before bytes rest word key w k g p =
     items_content line owner column frames bytes (word_content bytes (word_opens Block bytes (58 ∷ rest) word w))
     ∙ (word_is_read line owner column frames bytes (58 ∷ rest) word w).0
@@ -241,7 +241,7 @@ key_step line column owner frames outer before bytes rest word key w k g p =
 one_entry : (line : ℕ) (es : List Event) (key : List ℕ) (t : Tree) → Makes es t → MakesEntries (Key line key ∷ es) ((key, t) ∷ [])
 one_entry line es key t m = subst (λ es. MakesEntries (Key line key ∷ es) ((key, t) ∷ [])) (append-nil es) (more_entries line es [] key t [] m no_entries)
 
-last_entry_read : (line column : ℕ) (owner : Option ℕ) (frames outer : List Frame) (before : List Event) (bytes rest : List ℕ) (word : Word) (key : List ℕ) (lines : Lines) (t : Tree) → SpellsWord Block bytes word (58 ∷ rest) → IsKey word key → place_key line column key frames ≡ Ok (before ++ Key line key ∷ [], Entry column ∷ outer) → EntryRead line column outer rest lines t → EntriesRead line owner column frames outer before bytes lines ((key, t) ∷ [])
+last_entry_read : (line column : ℕ) (owner : Option ℕ) (frames outer : List Frame) (before : List Event) (bytes rest : List ℕ) (word : Word) (key : List ℕ) (lines : Lines) (t : Tree) → SpellsScalar Block bytes word (58 ∷ rest) → IsKey word key → place_key line column key frames ≡ Ok (before ++ Key line key ∷ [], Entry column ∷ outer) → EntryRead line column outer rest lines t → EntriesRead line owner column frames outer before bytes lines ((key, t) ∷ [])
 last_entry_read line column owner frames outer before bytes rest word key lines t w k p i = (
   i.0,
   Key line key ∷ i.1,
@@ -253,7 +253,7 @@ last_entry_read line column owner frames outer before bytes rest word key lines 
       (runs_add line (column + 1) lines (entry_at line column (Entry column ∷ outer) rest) (items_at line owner column frames bytes) (before ++ Key line key ∷ []) i.1 (i.0 ++ outer) (key_step line column owner frames outer before bytes rest word key w k i.7 p) i.8),
 )
 
-more_entries_read : (line column : ℕ) (owner : Option ℕ) (frames outer : List Frame) (before : List Event) (bytes rest next : List ℕ) (word : Word) (key : List ℕ) (inner lines : Lines) (t : Tree) (ps : List (List ℕ × Tree)) → SpellsWord Block bytes word (58 ∷ rest) → IsKey word key → place_key line column key frames ≡ Ok (before ++ Key line key ∷ [], Entry column ∷ outer) → begins_content next ≡ true → (i : EntryRead line column outer rest inner t) → EntriesRead (after_lines (line + 1) inner) None column (i.0 ++ outer) outer i.2 next lines ps → EntriesRead line owner column frames outer before bytes (inner ++ (spaces column ++ next) ∷ lines) ((key, t) ∷ ps)
+more_entries_read : (line column : ℕ) (owner : Option ℕ) (frames outer : List Frame) (before : List Event) (bytes rest next : List ℕ) (word : Word) (key : List ℕ) (inner lines : Lines) (t : Tree) (ps : List (List ℕ × Tree)) → SpellsScalar Block bytes word (58 ∷ rest) → IsKey word key → place_key line column key frames ≡ Ok (before ++ Key line key ∷ [], Entry column ∷ outer) → begins_content next ≡ true → (i : EntryRead line column outer rest inner t) → EntriesRead (after_lines (line + 1) inner) None column (i.0 ++ outer) outer i.2 next lines ps → EntriesRead line owner column frames outer before bytes (inner ++ (spaces column ++ next) ∷ lines) ((key, t) ∷ ps)
 more_entries_read line column owner frames outer before bytes rest next word key inner lines t ps w k p c i j =
     let all = inner ++ (spaces column ++ next) ∷ lines in
     let events = i.1 ++ (i.2 ++ j.1) in (

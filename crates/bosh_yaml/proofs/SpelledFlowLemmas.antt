@@ -14,7 +14,7 @@ use Rattle.bosh_yaml.specs.Flow.{ends_key, word_sign, sign_of, sign_at, sign_or_
 use Rattle.bosh_yaml.specs.Lines.{begins, is_comment, is_end, skip_spaces}
 use Rattle.bosh_yaml.specs.Result.{◌>>=◌, with_front}
 use Rattle.bosh_yaml.specs.Scalar.{leaf_tree}
-use Rattle.bosh_yaml.specs.SpelledWord.{SpellsWord, IsKey}
+use Rattle.bosh_yaml.specs.SpelledWord.{SpellsScalar, IsKey}
 use Rattle.bosh_yaml.specs.SpelledFlow.{SpellsFlow, SpellsFlowItems, SpellsFlowEntries, SpellsFlowEntry, scalar, sequence, mapping, no_item, last_item, item, no_entry, last_entry, entry, bare_key, valued_key}
 use Rattle.bosh_yaml.specs.Tree.{Tree, null, list, map, trees_of, fields_of}
 use Rattle.bosh_yaml.specs.Word.{word_at, leaf_of}
@@ -94,7 +94,7 @@ word_none : (b : ℕ) (bs : List ℕ) → OpensWord b bs → sign_of b ≡ None
 word_none b bs o = rw (o.open_list, o.close_list, o.open_map, o.close_map, o.comma) refl
 
 -- a word that stands behind spaces
-sign_of_word : (line : ℕ) (bytes rest : List ℕ) (word : Word) → SpellsWord Flow bytes word rest → sign_at line bytes ≡ word_sign line (word, rest)
+sign_of_word : (line : ℕ) (bytes rest : List ℕ) (word : Word) → SpellsScalar Flow bytes word rest → sign_at line bytes ≡ word_sign line (word, rest)
 sign_of_word line bytes rest word w = at_word line bytes rest word (word_opens Flow bytes rest word w) (word_spelled Flow line bytes rest word w)
   where
     at_word : (line : ℕ) (bytes rest : List ℕ) (word : Word) → Opens bytes → word_at Flow line bytes ≡ Ok (word, rest) → sign_at line bytes ≡ word_sign line (word, rest)
@@ -109,7 +109,7 @@ word_key : (line : ℕ) (word : Word) (key rest : List ℕ) → ends_key rest �
 word_key line word key rest e k = rw (e, key_spelled line word key k) refl
 
 -- the sign that a word stands for
-word_stands : (line : ℕ) (bs bytes rest left : List ℕ) (word : Word) (sign : Sign) → skip_spaces bs ≡ bytes → SpellsWord Flow bytes word rest → length left ≤ length rest → word_sign line (word, rest) ≡ Ok (sign, left) → Stand line (sign ∷ []) bs left
+word_stands : (line : ℕ) (bs bytes rest left : List ℕ) (word : Word) (sign : Sign) → skip_spaces bs ≡ bytes → SpellsScalar Flow bytes word rest → length left ≤ length rest → word_sign line (word, rest) ≡ Ok (sign, left) → Stand line (sign ∷ []) bs left
 word_stands line bs bytes rest left word sign e w le s =
     let shorter = word_shorter Flow bytes rest word w in
     let no_longer = skip_length bs in
@@ -120,7 +120,7 @@ word_stands line bs bytes rest left word sign e w le s =
     no_end bs [] e o = absurd o
     no_end bs (b ∷ bytes) e o = not_comment bs b bytes e o.comment
 
-scalar_read : (line : ℕ) (bs bytes rest : List ℕ) (word : Word) → skip_spaces bs ≡ bytes → SpellsWord Flow bytes word rest → begins 58 rest ≡ false → Value line bs (leaf_tree (leaf_of word)) rest
+scalar_read : (line : ℕ) (bs bytes rest : List ℕ) (word : Word) → skip_spaces bs ≡ bytes → SpellsScalar Flow bytes word rest → begins 58 rest ≡ false → Value line bs (leaf_tree (leaf_of word)) rest
 scalar_read line bs bytes rest word e w n =
     (Scalar (leaf_of word) ∷ [], event.Scalar (leaf_of word) ∷ [], word_stands line bs bytes rest rest word (Scalar (leaf_of word)) e w (omega arith) (word_scalar line word rest n), (λ before after h nests more. rw h refl), makes_scalar (leaf_of word))
 
@@ -224,7 +224,7 @@ value_read line bs after rest t ps v r = (
   r.5,
 )
 
-entry_read : (line : ℕ) (bs bytes value rest : List ℕ) (word : Word) (key : List ℕ) (t : Tree) (ps : List (List ℕ × Tree)) → skip_spaces bs ≡ bytes → SpellsWord Flow bytes word (58 ∷ value) → IsKey word key → ends_key value ≡ true → AfterKeyRead line value t ps rest → EntriesRead line bs ((key, t) ∷ ps) rest
+entry_read : (line : ℕ) (bs bytes value rest : List ℕ) (word : Word) (key : List ℕ) (t : Tree) (ps : List (List ℕ × Tree)) → skip_spaces bs ≡ bytes → SpellsScalar Flow bytes word (58 ∷ value) → IsKey word key → ends_key value ≡ true → AfterKeyRead line value t ps rest → EntriesRead line bs ((key, t) ∷ ps) rest
 entry_read line bs bytes value rest word key t ps e w k g r =
     let one = word_stands line bs bytes (58 ∷ value) value word (Key key) e w (omega arith) (word_key line word key value g k) in (
       Key key ∷ r.0,

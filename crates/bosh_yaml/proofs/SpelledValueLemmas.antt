@@ -21,7 +21,7 @@ use Rattle.bosh_yaml.specs.Result.{◌>>=◌, with_front}
 use Rattle.bosh_yaml.specs.Scalar.{leaf_tree}
 use Rattle.bosh_yaml.specs.SpelledBlock.{Each, IsBlank, IsBodyLine, IsIndentation, IsTail, SpellsChomping, clip, strip, SpellsValue, scalar, flow, literal}
 use Rattle.bosh_yaml.specs.SpelledFlow.{SpellsFlow}
-use Rattle.bosh_yaml.specs.SpelledWord.{SpellsWord}
+use Rattle.bosh_yaml.specs.SpelledWord.{SpellsScalar}
 use Rattle.bosh_yaml.specs.Tree.{Tree, text}
 use Rattle.bosh_yaml.specs.Word.{word_at, leaf_of}
 use Rattle.bosh_yaml.proofs.FrameLemmas.{Accepts, filled, value_placed}
@@ -65,7 +65,7 @@ end_no_key line column frames word (b ∷ bs) h = let n : (b == 58) ≡ false = 
     no_colon : (b : ℕ) (t : Bool) → (b == 32 && t) ≡ true → (b == 58) ≡ false
     no_colon b t h = grind (arith, nat_tests)
 
-pub word_is_read : (line : ℕ) (owner : Option ℕ) (column : ℕ) (frames : List Frame) (bytes rest : List ℕ) (word : Word) → SpellsWord Block bytes word rest → (content_at line owner column frames bytes ≡ key_or_scalar line column frames (word, rest)) × (value_at line owner column frames bytes ≡ scalar_at line column frames (word, rest))
+pub word_is_read : (line : ℕ) (owner : Option ℕ) (column : ℕ) (frames : List Frame) (bytes rest : List ℕ) (word : Word) → SpellsScalar Block bytes word rest → (content_at line owner column frames bytes ≡ key_or_scalar line column frames (word, rest)) × (value_at line owner column frames bytes ≡ scalar_at line column frames (word, rest))
 word_is_read line owner column frames bytes rest word w = by bytes (word_opens Block bytes rest word w) (word_spelled Block line bytes rest word w)
   where
     by : (bytes : List ℕ) → Opens bytes → word_at Block line bytes ≡ Ok (word, rest) → (content_at line owner column frames bytes ≡ key_or_scalar line column frames (word, rest)) × (value_at line owner column frames bytes ≡ scalar_at line column frames (word, rest))
@@ -78,7 +78,7 @@ scalar_placed line column frames after word rest e p = rw (e, p) refl
 blank_rest : (line : ℕ) (frames : List Frame) (events : List Event) (lines rest : Lines) → Each IsBlank lines → with_front events (moves (line + 1) (outside frames) (lines ++ rest)) ≡ with_front events (moves (after_lines (line + 1) lines) (outside frames) rest)
 blank_rest line frames events lines rest h = ap (λ read. with_front events read) (blank_moves (line + 1) frames lines rest h)
 
-scalar_is_read : (line : ℕ) (owner : Option ℕ) (least column : ℕ) (frames : List Frame) (bytes rest : List ℕ) (word : Word) (lines : Lines) → Accepts least frames → least ≤ column → SpellsWord Block bytes word rest → is_end rest ≡ true → Each IsBlank lines → ValueRead line owner least column frames bytes lines (leaf_tree (leaf_of word))
+scalar_is_read : (line : ℕ) (owner : Option ℕ) (least column : ℕ) (frames : List Frame) (bytes rest : List ℕ) (word : Word) (lines : Lines) → Accepts least frames → least ≤ column → SpellsScalar Block bytes word rest → is_end rest ≡ true → Each IsBlank lines → ValueRead line owner least column frames bytes lines (leaf_tree (leaf_of word))
 scalar_is_read line owner least column frames bytes rest word lines a n w e h =
     let r = word_is_read line owner column frames bytes rest word w in
     let p = scalar_placed line column frames (filled frames) word rest e (value_placed line least column frames a n) in (

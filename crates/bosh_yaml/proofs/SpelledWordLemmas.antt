@@ -9,8 +9,8 @@ use Rattle.bosh_yaml.specs.Bare.{plain_len, starts_plain, trim_end}
 use Rattle.std.specs.Char.{encode_utf8}
 use Rattle.bosh_yaml.specs.Bare.{is_flow_sign, is_indicator, is_mark}
 use Rattle.bosh_yaml.specs.Lines.{is_gap}
-use Rattle.bosh_yaml.specs.Quotes.{Quoted as QuotedText, after_text, after_character, character, escaped, four_hex, single_quoted, double_quoted, double_escaped, double_unicode}
-use Rattle.bosh_yaml.specs.SpelledWord.{SpellsWord, GoesOn, Stops, IsKey, in_single_quotes, in_double_quotes, unquoted}
+use Rattle.bosh_yaml.specs.Quotes.{Quoted as QuotedText, after_text, after_character, character, escaped_character, four_hex, single_quoted, double_quoted, double_escaped, double_unicode}
+use Rattle.bosh_yaml.specs.SpelledWord.{SpellsScalar, GoesOn, Stops, IsKey, in_single_quotes, in_double_quotes, unquoted}
 use Rattle.bosh_yaml.proofs.LineLemmas.{differs}
 use Rattle.bosh_yaml.specs.Word.{word_at, quoted_word, plain_word, key_of}
 
@@ -47,7 +47,7 @@ plain_read place line b bs rest p g s u =
 unquoted_at : (place : Place) (line b : ℕ) (bs : List ℕ) → (b == 39) ≡ false → (b == 34) ≡ false → word_at place line (b ∷ bs) ≡ plain_word place line (b ∷ bs)
 unquoted_at place line b bs p q = rw (p, q) refl
 
-pub word_spelled : (place : Place) (line : ℕ) (bytes rest : List ℕ) (word : Word) → SpellsWord place bytes word rest → word_at place line bytes ≡ Ok (word, rest)
+pub word_spelled : (place : Place) (line : ℕ) (bytes rest : List ℕ) (word : Word) → SpellsScalar place bytes word rest → word_at place line bytes ≡ Ok (word, rest)
 word_spelled place line bytes rest word (in_single_quotes bs text after e u) = quoted_read line text after (single_quoted bs) e u
 word_spelled place line bytes rest word (in_double_quotes bs text after e u) = quoted_read line text after (double_quoted bs) e u
 word_spelled place line bytes rest word (unquoted b bs after p g s u) =
@@ -95,7 +95,7 @@ mutual
   escaped_short : (n : ℕ) (bs : List ℕ) → length bs ≤ n → Short n (double_escaped bs)
   escaped_short n [] le = tt
   escaped_short n (e ∷ bs) le =
-      short_if n (e == 117) _ _ (unicode_short n bs (omega arith)) (short_character (length bs) n (escaped e) (double_quoted bs) (omega arith) (double_short bs))
+      short_if n (e == 117) _ _ (unicode_short n bs (omega arith)) (short_character (length bs) n (escaped_character e) (double_quoted bs) (omega arith) (double_short bs))
 
   unicode_short : (n : ℕ) (bs : List ℕ) → length bs ≤ n → Short n (double_unicode bs)
   unicode_short n [] le = tt
@@ -109,7 +109,7 @@ front_shorter [] rest = omega arith
 front_shorter (b ∷ bs) rest = omega (arith, front_shorter bs rest)
 
 -- a scalar has at least one byte
-pub word_shorter : (place : Place) (bytes rest : List ℕ) (word : Word) → SpellsWord place bytes word rest → length rest < length bytes
+pub word_shorter : (place : Place) (bytes rest : List ℕ) (word : Word) → SpellsScalar place bytes word rest → length rest < length bytes
 word_shorter place bytes rest word (in_single_quotes bs text after e u) = let n : length after ≤ length bs = subst (Short (length bs)) e (single_short bs) in omega arith
 word_shorter place bytes rest word (in_double_quotes bs text after e u) = let n : length after ≤ length bs = subst (Short (length bs)) e (double_short bs) in omega arith
 word_shorter place bytes rest word (unquoted b bs after p g s u) = omega (arith, front_shorter bs after)
@@ -175,7 +175,7 @@ opens_plain b bs h =
       dash = no_dash b bs (or_right (is_indicator b) _ none);
     }
 
-pub word_opens : (place : Place) (bytes rest : List ℕ) (word : Word) → SpellsWord place bytes word rest → Opens bytes
+pub word_opens : (place : Place) (bytes rest : List ℕ) (word : Word) → SpellsScalar place bytes word rest → Opens bytes
 word_opens place bytes rest word (in_single_quotes bs text after e u) = record { space = refl; comment = refl; bar = refl; open_list = refl; close_list = refl; open_map = refl; close_map = refl; comma = refl; dash = refl }
 word_opens place bytes rest word (in_double_quotes bs text after e u) = record { space = refl; comment = refl; bar = refl; open_list = refl; close_list = refl; open_map = refl; close_map = refl; comma = refl; dash = refl }
 word_opens place bytes rest word (unquoted b bs after p g s u) = opens_plain b (bs ++ after) p

@@ -8,7 +8,7 @@ use Rattle.bosh_yaml.specs.Block.{nothing as null_event, place_end}
 use Rattle.bosh_yaml.specs.Events.{events_of, is_marker, start}
 use Rattle.bosh_yaml.specs.Json.{json_events}
 use Rattle.bosh_yaml.specs.Lines.{begins, is_blank, is_comment, lines_of, skip_spaces}
-use Rattle.bosh_yaml.specs.Nodes.{made}
+use Rattle.bosh_yaml.specs.Nodes.{tree_from}
 use Rattle.bosh_yaml.specs.SpelledBlock.{Each, IsBlank}
 use Rattle.bosh_yaml.specs.Spelling.{IsReadable, SpellsContent, nothing, content, is_marked, SpellsLines, marked, unmarked, SpellsJson, Spells, as_json, as_yaml, json_tree, json_items, json_members, number_tree}
 use Rattle.bosh_yaml.specs.Tree.{Tree}
@@ -17,8 +17,8 @@ use Rattle.serde_json.specs.Find.{as_i64}
 use Rattle.bosh_yaml.specs.declared.fault.ReadFault.TheVariants.{Syntax, TooDeep, RepeatedKey, TooLarge, Number}
 use Rattle.bosh_yaml.specs.Json.{has_integers, item_events, member_events, leaf_or_null}
 use Rattle.bosh_yaml.specs.Limits.{depth, HasEachKeyOnce}
-use Rattle.bosh_yaml.specs.Nodes.{nesting, repeated}
-use Rattle.bosh_yaml.specs.Reading.{reading, yaml_reading, json_reading, json_checked, checked}
+use Rattle.bosh_yaml.specs.Nodes.{line_of_repeat, nesting}
+use Rattle.bosh_yaml.specs.Reading.{reading, yaml_reading, json_reading, checked_json_tree, checked_tree}
 use Rattle.bosh_yaml.specs.Scalar.{leaf_tree}
 use Rattle.bosh_yaml.proofs.FrameLemmas.{end_append, not_less, is_less}
 use Rattle.bosh_yaml.proofs.MakesLemmas.{Makes, MakesItems, MakesEntries, makes_scalar, makes_list, makes_map, no_items, no_entries, more_items, more_entries, makes_whole, nests_whole, repeats_whole}
@@ -91,7 +91,7 @@ yaml_is_read text t h s =
 same_made : (read other : Events) (s t : Tree) → read ≡ other → Read read s → Read other t → s ≡ t
 same_made read other s t e h k =
     let same : h.0 ≡ k.0 = ok_same (sym h.1 ∙ e ∙ k.1) in
-    ok_same (sym (makes_whole h.0 s h.2) ∙ ap (λ es. made None [] es) same ∙ makes_whole k.0 t k.2)
+    ok_same (sym (makes_whole h.0 s h.2) ∙ ap (λ es. tree_from None [] es) same ∙ makes_whole k.0 t k.2)
 
 json_once : (text : List ℕ) (s t : Tree) → SpellsJson text s → SpellsJson text t → s ≡ t
 json_once text s t h k =
@@ -126,10 +126,10 @@ mutual
   members_make (json.member k d ms) = more_entries 0 (json_events d) (member_events ms) k (json_tree d) (json_members ms) (json_makes d) (members_make ms)
 
 -- how a tree is checked whose events were read
-checks : (events : List Event) (t : Tree) → Makes events t → HasEachKeyOnce t → (checked (repeated [] events) events ≡ (if nat_lt 64 (depth t) then Err TooDeep else Ok t))
+checks : (events : List Event) (t : Tree) → Makes events t → HasEachKeyOnce t → (checked_tree (line_of_repeat [] events) events ≡ (if nat_lt 64 (depth t) then Err TooDeep else Ok t))
 checks events t m once = rw (repeats_whole events t m once, nests_whole events t m, makes_whole events t m) refl
 
-json_checks : (d : json.Data) (t : Tree) → has_integers d ≡ true → json_tree d ≡ t → HasEachKeyOnce t → json_checked d (json_events d) ≡ (if nat_lt 64 (depth t) then Err TooDeep else Ok t)
+json_checks : (d : json.Data) (t : Tree) → has_integers d ≡ true → json_tree d ≡ t → HasEachKeyOnce t → checked_json_tree d (json_events d) ≡ (if nat_lt 64 (depth t) then Err TooDeep else Ok t)
 json_checks d t i e once =
     let m : Makes (json_events d) t = subst (λ t. Makes (json_events d) t) e (json_makes d) in
     let c = checks (json_events d) t m once in
@@ -155,11 +155,11 @@ spelled_is_read text t s once n d = let fits = not_less 64 (depth t) d in within
 pub spelled_too_deep : (text : List ℕ) (t : Tree) → Spells text t → HasEachKeyOnce t → length text ≤ 1048576 → 64 < depth t → reading text ≡ Err TooDeep
 spelled_too_deep text t s once n d = let deep = is_less 64 (depth t) d in within_size text t s once n ∙ rw deep refl
 
-checked_refuses : (found : Option ℕ) (events : List Event) (t : Tree) (fault : ReadFault) → made None [] events ≡ Ok t → checked found events ≡ Err fault → ((line : ℕ) × (found ≡ Some line) × (fault ≡ RepeatedKey line)) ⊎ (fault ≡ TooDeep)
+checked_refuses : (found : Option ℕ) (events : List Event) (t : Tree) (fault : ReadFault) → tree_from None [] events ≡ Ok t → checked_tree found events ≡ Err fault → ((line : ℕ) × (found ≡ Some line) × (fault ≡ RepeatedKey line)) ⊎ (fault ≡ TooDeep)
 checked_refuses (Some line) events t fault m h = inl (line, refl, cc)
 checked_refuses None events t fault m h = by (nat_lt 64 (nesting 0 events)) h
   where
-    by : (b : Bool) → (if b then Err TooDeep else made None [] events) ≡ Err fault → ((line : ℕ) × (None ≡ Some line) × (fault ≡ RepeatedKey line)) ⊎ (fault ≡ TooDeep)
+    by : (b : Bool) → (if b then Err TooDeep else tree_from None [] events) ≡ Err fault → ((line : ℕ) × (None ≡ Some line) × (fault ≡ RepeatedKey line)) ⊎ (fault ≡ TooDeep)
     by true h = inr (cc)
     by false h = absurd (cc)
 
@@ -167,12 +167,12 @@ checked_refuses None events t fault m h = by (nat_lt 64 (nesting 0 events)) h
 yaml_refuses : (text : List ℕ) (t : Tree) (fault : ReadFault) → Each IsReadable (lines_of text) → SpellsLines (lines_of text) t → yaml_reading text ≡ Err fault → ((line : ℕ) × (HasEachKeyOnce t → ⊥) × (fault ≡ RepeatedKey line)) ⊎ (fault ≡ TooDeep)
 yaml_refuses text t fault r s h =
     let y = yaml_is_read text t r s in
-    by y.0 y.2 (checked_refuses (repeated [] y.0) y.0 t fault (makes_whole y.0 t y.2) (rw y.1 at h))
+    by y.0 y.2 (checked_refuses (line_of_repeat [] y.0) y.0 t fault (makes_whole y.0 t y.2) (rw y.1 at h))
   where
-    by : (events : List Event) → Makes events t → (((line : ℕ) × (repeated [] events ≡ Some line) × (fault ≡ RepeatedKey line)) ⊎ (fault ≡ TooDeep)) → ((line : ℕ) × (HasEachKeyOnce t → ⊥) × (fault ≡ RepeatedKey line)) ⊎ (fault ≡ TooDeep)
+    by : (events : List Event) → Makes events t → (((line : ℕ) × (line_of_repeat [] events ≡ Some line) × (fault ≡ RepeatedKey line)) ⊎ (fault ≡ TooDeep)) → ((line : ℕ) × (HasEachKeyOnce t → ⊥) × (fault ≡ RepeatedKey line)) ⊎ (fault ≡ TooDeep)
     by events m (inl f) = inl (f.0, (λ once. none (repeats_whole events t m once) f.1), f.2)
       where
-        none : repeated [] events ≡ None → repeated [] events ≡ Some f.0 → ⊥
+        none : line_of_repeat [] events ≡ None → line_of_repeat [] events ≡ Some f.0 → ⊥
         none p q = cc
     by events m (inr f) = inr f
 
@@ -181,14 +181,14 @@ json_refuses text t fault s h =
     let m : Makes (json_events s.0) t = subst (λ t. Makes (json_events s.0) t) s.3 (json_makes s.0) in
     by (nat_lt 64 (nesting 0 (json_events s.0))) m (rw (s.1, s.2) at h)
   where
-    by : (b : Bool) → Makes (json_events s.0) t → (if b then Err TooDeep else checked (repeated [] (json_events s.0)) (json_events s.0)) ≡ Err fault → ((line : ℕ) × (HasEachKeyOnce t → ⊥) × (fault ≡ RepeatedKey line)) ⊎ (fault ≡ TooDeep)
+    by : (b : Bool) → Makes (json_events s.0) t → (if b then Err TooDeep else checked_tree (line_of_repeat [] (json_events s.0)) (json_events s.0)) ≡ Err fault → ((line : ℕ) × (HasEachKeyOnce t → ⊥) × (fault ≡ RepeatedKey line)) ⊎ (fault ≡ TooDeep)
     by true m h = inr (cc)
-    by false m h = on (checked_refuses (repeated [] (json_events s.0)) (json_events s.0) t fault (makes_whole (json_events s.0) t m) h)
+    by false m h = on (checked_refuses (line_of_repeat [] (json_events s.0)) (json_events s.0) t fault (makes_whole (json_events s.0) t m) h)
       where
-        none : (line : ℕ) → repeated [] (json_events s.0) ≡ None → repeated [] (json_events s.0) ≡ Some line → ⊥
+        none : (line : ℕ) → line_of_repeat [] (json_events s.0) ≡ None → line_of_repeat [] (json_events s.0) ≡ Some line → ⊥
         none line p q = cc
 
-        on : (((line : ℕ) × (repeated [] (json_events s.0) ≡ Some line) × (fault ≡ RepeatedKey line)) ⊎ (fault ≡ TooDeep)) → ((line : ℕ) × (HasEachKeyOnce t → ⊥) × (fault ≡ RepeatedKey line)) ⊎ (fault ≡ TooDeep)
+        on : (((line : ℕ) × (line_of_repeat [] (json_events s.0) ≡ Some line) × (fault ≡ RepeatedKey line)) ⊎ (fault ≡ TooDeep)) → ((line : ℕ) × (HasEachKeyOnce t → ⊥) × (fault ≡ RepeatedKey line)) ⊎ (fault ≡ TooDeep)
         on (inl f) = inl (f.0, (λ once. none f.0 (repeats_whole (json_events s.0) t m once) f.1), f.2)
         on (inr f) = inr f
 

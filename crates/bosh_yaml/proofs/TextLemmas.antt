@@ -4,7 +4,7 @@ use Rattle.std.proofs.Math.Logic.{∥∥₁_elim}
 use Rattle.std.specs.Coded.{Coded-set, coded_bool}
 use Rattle.std.specs.Str.{IsUtf8, is_utf8}
 use Rattle.std.proofs.lemmas.Str.{IsUtf8-from_is_utf8, is_utf8-from_IsUtf8}
-use Rattle.bosh_yaml.specs.Word.{text_of, refused}
+use Rattle.bosh_yaml.specs.Word.{text_of, syntax_fault}
 
 pub text_of-utf8 : (line : ℕ) (bs : List ℕ) → IsUtf8 bs → text_of line bs ≡ Ok bs
 text_of-utf8 line bs h = rw (is_utf8-from_IsUtf8 bs h)
@@ -13,7 +13,7 @@ is_not : (b : Bool) → (b ≡ true → ⊥) → b ≡ false
 is_not true h = absurd (h refl)
 is_not false h = refl
 
-pub text_of-other : (line : ℕ) (bs : List ℕ) → (IsUtf8 bs → ⊥) → text_of line bs ≡ refused line
+pub text_of-other : (line : ℕ) (bs : List ℕ) → (IsUtf8 bs → ⊥) → text_of line bs ≡ syntax_fault line
 text_of-other line bs h = rw (is_not (is_utf8 bs) (λ e. h (IsUtf8-from_is_utf8 bs e)))
 
 pub ruleset texts = (text_of-utf8, text_of-other)

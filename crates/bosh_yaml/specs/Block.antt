@@ -7,7 +7,7 @@ use Rattle.bosh_yaml.specs.declared.event.Event.TheVariants as event
 use Rattle.bosh_yaml.specs.declared.fault.ReadFault.{ReadFault}
 use Rattle.bosh_yaml.specs.declared.plain.Leaf.TheVariants as leaf
 use Rattle.bosh_yaml.specs.Result.{◌>>=◌}
-use Rattle.bosh_yaml.specs.Word.{refused}
+use Rattle.bosh_yaml.specs.Word.{syntax_fault}
 
 -- events, and the frames that are open after them
 abbrev pub Placed : Type 0
@@ -22,9 +22,9 @@ nothing = event.Scalar leaf.Null
 
 -- a dash at a column
 abbrev pub place_dash : ℕ → ℕ → List Frame → Result Placed ReadFault
-place_dash line column [] = refused line
+place_dash line column [] = syntax_fault line
 place_dash line column (Whole ∷ frames) = Ok (event.OpenList ∷ [], Item column ∷ Done ∷ frames)
-place_dash line column (Done ∷ frames) = refused line
+place_dash line column (Done ∷ frames) = syntax_fault line
 place_dash line column (Item at ∷ frames) =
     if nat_lt at column then Ok (event.OpenList ∷ [], Item column ∷ ListAt at ∷ frames)
     else if column == at then Ok (nothing ∷ [], Item at ∷ frames)
@@ -39,9 +39,9 @@ place_dash line column (MapAt at ∷ frames) = after_events (event.Close ∷ [])
 
 -- a key at a column
 abbrev pub place_key : ℕ → ℕ → List ℕ → List Frame → Result Placed ReadFault
-place_key line column key [] = refused line
+place_key line column key [] = syntax_fault line
 place_key line column key (Whole ∷ frames) = Ok (event.OpenMap ∷ event.Key line key ∷ [], Entry column ∷ Done ∷ frames)
-place_key line column key (Done ∷ frames) = refused line
+place_key line column key (Done ∷ frames) = syntax_fault line
 place_key line column key (Item at ∷ frames) =
     if nat_lt at column then Ok (event.OpenMap ∷ event.Key line key ∷ [], Entry column ∷ ListAt at ∷ frames)
     else after_events (nothing ∷ event.Close ∷ []) (place_key line column key frames)
@@ -56,11 +56,11 @@ place_key line column key (MapAt at ∷ frames) =
 
 -- a scalar, a flow form or a literal at a column
 abbrev pub place_value : ℕ → ℕ → List Frame → Result (List Frame) ReadFault
-place_value line column [] = refused line
+place_value line column [] = syntax_fault line
 place_value line column (Whole ∷ frames) = Ok (Done ∷ frames)
-place_value line column (Item at ∷ frames) = if nat_lt at column then Ok (ListAt at ∷ frames) else refused line
-place_value line column (Entry at ∷ frames) = if nat_lt at column then Ok (MapAt at ∷ frames) else refused line
-place_value line column (frame ∷ frames) = refused line
+place_value line column (Item at ∷ frames) = if nat_lt at column then Ok (ListAt at ∷ frames) else syntax_fault line
+place_value line column (Entry at ∷ frames) = if nat_lt at column then Ok (MapAt at ∷ frames) else syntax_fault line
+place_value line column (frame ∷ frames) = syntax_fault line
 
 -- the end of the text closes all; a text without content is null
 abbrev pub closing : Frame → List Event

@@ -1,4 +1,4 @@
--- The canonical text of a tree: compact JSON (RFC 8259) with each map's keys in byte order.
+-- The canonical text of a tree: compact JSON (RFC 8259) with each mapping's keys in byte order.
 use Rattle.std.specs.Prelude.{ℕ, List}
 use Rattle.serde_json.specs.Data as json
 use Rattle.serde_json.specs.Find.{of_integer}

@@ -100,24 +100,24 @@ tree_code =
 
 -- how many nodes stand in a tree
 abbrev mutual
-  pub weight : Tree → ℕ
-  weight null = 1
-  weight (boolean b) = 1
-  weight (integer n) = 1
-  weight (text s) = 1
-  weight (list ts) = suc (weight_all ts)
-  weight (map fs) = suc (weight_keyed fs)
+  pub node_count : Tree → ℕ
+  node_count null = 1
+  node_count (boolean b) = 1
+  node_count (integer n) = 1
+  node_count (text s) = 1
+  node_count (list ts) = suc (nodes_in_trees ts)
+  node_count (map fs) = suc (nodes_in_fields fs)
 
-  pub weight_all : Trees → ℕ
-  weight_all no_trees = 0
-  weight_all (tree t ts) = weight t + weight_all ts
+  pub nodes_in_trees : Trees → ℕ
+  nodes_in_trees no_trees = 0
+  nodes_in_trees (tree t ts) = node_count t + nodes_in_trees ts
 
-  pub weight_keyed : Fields → ℕ
-  weight_keyed no_fields = 0
-  weight_keyed (field k t fs) = weight t + weight_keyed fs
+  pub nodes_in_fields : Fields → ℕ
+  nodes_in_fields no_fields = 0
+  nodes_in_fields (field k t fs) = node_count t + nodes_in_fields fs
 
-abbrev pub forest : List Tree → ℕ
-forest ts = weight_all (trees_of ts)
+abbrev pub nodes_in_list : List Tree → ℕ
+nodes_in_list ts = nodes_in_trees (trees_of ts)
 
-abbrev pub grove : List (List ℕ × Tree) → ℕ
-grove ps = weight_keyed (fields_of ps)
+abbrev pub nodes_in_pairs : List (List ℕ × Tree) → ℕ
+nodes_in_pairs ps = nodes_in_fields (fields_of ps)

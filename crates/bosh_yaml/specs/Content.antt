@@ -13,7 +13,7 @@ use Rattle.bosh_yaml.specs.Block.{place_dash, place_key, place_value}
 use Rattle.bosh_yaml.specs.Flow.{form_of}
 use Rattle.bosh_yaml.specs.Lines.{is_end, is_gap, skip_spaces}
 use Rattle.bosh_yaml.specs.Result.{◌>>=◌}
-use Rattle.bosh_yaml.specs.Word.{word_at, leaf_of, key_of, refused}
+use Rattle.bosh_yaml.specs.Word.{word_at, leaf_of, key_of, syntax_fault}
 
 -- the events of a line, the frames that are open after it, and the literal that begins at its end
 abbrev pub Outcome : Type 0
@@ -25,7 +25,7 @@ add_events events read = read >>= λ o. Ok (events ++ o.0, o.1)
 abbrev pub scalar_at : ℕ → ℕ → List Frame → Word × List ℕ → Result Outcome ReadFault
 scalar_at line column frames (word, rest) = if is_end rest then (do
   after ← place_value line column frames
-  Ok (Scalar (leaf_of word) ∷ [], (after, None))) else refused line
+  Ok (Scalar (leaf_of word) ∷ [], (after, None))) else syntax_fault line
 
 abbrev pub flow_at : ℕ → ℕ → List Frame → List ℕ → Result Outcome ReadFault
 flow_at line column frames bytes = do
@@ -37,13 +37,13 @@ flow_at line column frames bytes = do
 abbrev pub chomping_of : ℕ → List ℕ → Result Chomping ReadFault
 chomping_of line [] = Ok Clip
 chomping_of line (b ∷ bs) =
-    if b == 45 then (if is_end bs then Ok Strip else refused line)
+    if b == 45 then (if is_end bs then Ok Strip else syntax_fault line)
     else if is_end (b ∷ bs) then Ok Clip
-    else refused line
+    else syntax_fault line
 
 -- a literal stands behind a dash or a key, whose column is its owner's
 abbrev pub literal_at : ℕ → Option ℕ → ℕ → List Frame → List ℕ → Result Outcome ReadFault
-literal_at line None column frames bytes = refused line
+literal_at line None column frames bytes = syntax_fault line
 literal_at line (Some owner) column frames bytes = do
   chomping ← chomping_of line bytes
   after ← place_value line column frames
@@ -59,7 +59,7 @@ form_at line owner column frames b bs =
 
 -- a value behind a key
 abbrev pub value_at : ℕ → Option ℕ → ℕ → List Frame → List ℕ → Result Outcome ReadFault
-value_at line owner column frames [] = refused line
+value_at line owner column frames [] = syntax_fault line
 value_at line owner column frames (b ∷ bs) = if begins_form b then form_at line owner column frames b bs else (do
   word ← word_at Block line (b ∷ bs)
   scalar_at line column frames word)
@@ -82,7 +82,7 @@ key_or_scalar line column frames (word, b ∷ bs) =
 
 -- what stands behind the dashes
 abbrev pub content_at : ℕ → Option ℕ → ℕ → List Frame → List ℕ → Result Outcome ReadFault
-content_at line owner column frames [] = refused line
+content_at line owner column frames [] = syntax_fault line
 content_at line owner column frames (b ∷ bs) = if begins_form b then form_at line owner column frames b bs else (do
   word ← word_at Block line (b ∷ bs)
   key_or_scalar line column frames word)

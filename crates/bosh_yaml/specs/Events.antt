@@ -15,7 +15,7 @@ use Rattle.bosh_yaml.specs.Content.{Outcome, items_at}
 use Rattle.bosh_yaml.specs.Lines.{begins, is_blank, is_clean, is_end, lines_of, skip_spaces}
 use Rattle.bosh_yaml.specs.Literal.{indentation, is_spaces, literal_text}
 use Rattle.bosh_yaml.specs.Result.{◌>>=◌, with_front}
-use Rattle.bosh_yaml.specs.Word.{refused, text_of}
+use Rattle.bosh_yaml.specs.Word.{syntax_fault, text_of}
 
 -- between two lines: what is open, whether a literal is, and the lines of it
 pub record Scan : Type 0 where
@@ -45,7 +45,7 @@ scan_of o = (o.0, record { frames = o.1.0; mode = next_mode o.1.1; body = [] })
 
 -- a line outside a literal; no tab stands in an indentation
 abbrev pub content_line : ℕ → List Frame → List ℕ → Result Scanned ReadFault
-content_line line frames bytes = if begins 9 (skip_spaces bytes) then refused line else (do
+content_line line frames bytes = if begins 9 (skip_spaces bytes) then syntax_fault line else (do
   outcome ← items_at line None 0 frames bytes
   Ok (scan_of outcome))
 
@@ -67,7 +67,7 @@ literal_event header indent body = do
 -- the first line with other content than spaces fixes the indentation, and no later one may have less
 abbrev pub fixed_indent : ℕ → Option ℕ → ℕ → Result (Option ℕ) ReadFault
 fixed_indent line None found = Ok (Some found)
-fixed_indent line (Some indent) found = if nat_le indent found then Ok (Some indent) else refused line
+fixed_indent line (Some indent) found = if nat_le indent found then Ok (Some indent) else syntax_fault line
 
 abbrev pub more_body : List Frame → Header → Option ℕ → List (List ℕ) → List ℕ → Scanned
 more_body frames header indent body bytes = ([], record { frames = frames; mode = Literal header indent; body = body ++ bytes ∷ [] })
@@ -90,7 +90,7 @@ line_by_mode Outside line frames body bytes = plain_line Outside line frames byt
 line_by_mode (Literal header indent) line frames body bytes = literal_line header indent line frames body bytes
 
 abbrev pub one_line : ℕ → Scan → List ℕ → Result Scanned ReadFault
-one_line line scan bytes = if is_readable bytes then line_by_mode scan.mode line scan.frames scan.body bytes else refused line
+one_line line scan bytes = if is_readable bytes then line_by_mode scan.mode line scan.frames scan.body bytes else syntax_fault line
 
 abbrev pub end_by_mode : Mode → List Frame → List (List ℕ) → Result (List Event) ReadFault
 end_by_mode Start frames body = Ok (place_end frames)

@@ -8,7 +8,7 @@ use Rattle.bosh_yaml.specs.declared.event.Event.{Event}
 use Rattle.bosh_yaml.specs.declared.event.Event.TheVariants as event
 use Rattle.bosh_yaml.specs.declared.fault.ReadFault.{ReadFault}
 use Rattle.bosh_yaml.specs.Block.{after_events, closing, nothing, Placed, place_dash, place_key}
-use Rattle.bosh_yaml.specs.Word.{refused}
+use Rattle.bosh_yaml.specs.Word.{syntax_fault}
 
 -- a dash, before the other frames
 abbrev pub placed_dash : ℕ → ℕ → Frame → List Frame → Fit → Result Placed ReadFault
@@ -16,7 +16,7 @@ placed_dash line column frame frames (Begins parent) = Ok (event.OpenList ∷ []
 placed_dash line column frame frames Continues = Ok ([], Item column ∷ frames)
 placed_dash line column frame frames Fills = Ok (nothing ∷ [], Item column ∷ frames)
 placed_dash line column frame frames Closes = after_events (closing frame) (place_dash line column frames)
-placed_dash line column frame frames Refused = refused line
+placed_dash line column frame frames Refused = syntax_fault line
 
 -- a key, of a mapping that begins inside of a frame, or of the one that is open
 abbrev pub with_key : ℕ → ℕ → List ℕ → List Event → List Frame → Option Frame → Placed
@@ -30,4 +30,4 @@ placed_key line column key frame frames (Begins parent) = Ok (with_key line colu
 placed_key line column key frame frames Continues = Ok (with_key line column key [] frames None)
 placed_key line column key frame frames Fills = Ok (with_key line column key (nothing ∷ []) frames None)
 placed_key line column key frame frames Closes = after_events (closing frame) (place_key line column key frames)
-placed_key line column key frame frames Refused = refused line
+placed_key line column key frame frames Refused = syntax_fault line

@@ -12,7 +12,7 @@ use Rattle.bosh_yaml.specs.declared.plain.Leaf.TheVariants as leaf
 use Rattle.bosh_yaml.specs.declared.word.Word.{Word}
 use Rattle.bosh_yaml.specs.Lines.{begins, is_end, is_gap, skip_spaces}
 use Rattle.bosh_yaml.specs.Result.{◌>>=◌, with_front}
-use Rattle.bosh_yaml.specs.Word.{word_at, leaf_of, key_of, refused}
+use Rattle.bosh_yaml.specs.Word.{word_at, leaf_of, key_of, syntax_fault}
 
 -- behind the `:` of a key stands the end, a space, `,` or `}`
 abbrev pub ends_key : List ℕ → Bool
@@ -24,7 +24,7 @@ word_sign line (word, []) = Ok (Scalar (leaf_of word), [])
 word_sign line (word, b ∷ bs) =
     if b == 58 then (if ends_key bs then (do
       key ← key_of line word
-      Ok (Key key, bs)) else refused line)
+      Ok (Key key, bs)) else syntax_fault line)
     else Ok (Scalar (leaf_of word), b ∷ bs)
 
 abbrev pub sign_of : ℕ → Option Sign
@@ -40,12 +40,12 @@ sign_or_word line None rest bytes = do
 
 -- the sign at the front of the bytes
 abbrev pub sign_at : ℕ → List ℕ → Result (Sign × List ℕ) ReadFault
-sign_at line [] = refused line
+sign_at line [] = syntax_fault line
 sign_at line (b ∷ bs) = sign_or_word line (sign_of b) bs (b ∷ bs)
 
 -- the signs up to the line's end, of which there are at most so many
 abbrev pub signs_of : ℕ → ℕ → List ℕ → Result (List Sign) ReadFault
-signs_of zero line bytes = if is_end bytes then Ok [] else refused line
+signs_of zero line bytes = if is_end bytes then Ok [] else syntax_fault line
 signs_of (suc most) line bytes = if is_end bytes then Ok [] else (do
   first ← sign_at line (skip_spaces bytes)
   with_front (first.0 ∷ []) (signs_of most line first.1))
@@ -55,11 +55,11 @@ abbrev pub after_value : ℕ → Nest → Result Nest ReadFault
 after_value line BeforeForm = Ok AfterForm
 after_value line BeforeItem = Ok AfterItem
 after_value line AfterKey = Ok AfterEntry
-after_value line nest = refused line
+after_value line nest = syntax_fault line
 
 abbrev pub after_key : ℕ → Nest → Result Nest ReadFault
 after_key line BeforeKey = Ok AfterKey
-after_key line nest = refused line
+after_key line nest = syntax_fault line
 
 -- what a sign adds where one stands, and the places that it leaves, the innermost first
 abbrev pub Turn : Type 0
@@ -69,18 +69,18 @@ abbrev pub comma : ℕ → Nest → Result Turn ReadFault
 comma line AfterItem = Ok ([], BeforeItem ∷ [])
 comma line AfterEntry = Ok ([], BeforeKey ∷ [])
 comma line AfterKey = Ok (event.Scalar leaf.Null ∷ [], BeforeKey ∷ [])
-comma line nest = refused line
+comma line nest = syntax_fault line
 
 abbrev pub close_list : ℕ → Nest → Result Turn ReadFault
 close_list line BeforeItem = Ok (event.Close ∷ [], [])
 close_list line AfterItem = Ok (event.Close ∷ [], [])
-close_list line nest = refused line
+close_list line nest = syntax_fault line
 
 abbrev pub close_map : ℕ → Nest → Result Turn ReadFault
 close_map line BeforeKey = Ok (event.Close ∷ [], [])
 close_map line AfterEntry = Ok (event.Close ∷ [], [])
 close_map line AfterKey = Ok (event.Scalar leaf.Null ∷ event.Close ∷ [], [])
-close_map line nest = refused line
+close_map line nest = syntax_fault line
 
 abbrev pub turn : ℕ → Nest → Sign → Result Turn ReadFault
 turn line nest OpenList = do
@@ -110,8 +110,8 @@ is_whole nests = false
 
 -- the events of a flow form, from places on, the innermost first
 abbrev pub form : ℕ → List Nest → List Sign → Result (List Event) ReadFault
-form line nests [] = if is_whole nests then Ok [] else refused line
-form line [] (sign ∷ signs) = refused line
+form line nests [] = if is_whole nests then Ok [] else syntax_fault line
+form line [] (sign ∷ signs) = syntax_fault line
 form line (nest ∷ nests) (sign ∷ signs) = do
   next ← turn line nest sign
   with_front next.0 (form line (next.1 ++ nests) signs)

@@ -1,4 +1,4 @@
--- What a JSON text reads as (RFC 8259, as `serde_json` reads it). A key that stands twice is settled by that crate, and maps come in the order of their keys.
+-- What a JSON text reads as (RFC 8259, as `serde_json` reads it). A key that stands twice is settled by that crate, and mappings come in the order of their keys.
 use Rattle.std.specs.Prelude.{ℕ, ℤ, Bool, true, false, ◌&&◌, List, [], ◌∷◌, ◌++◌, Option, Some, None, Result, Ok, Err, if◌then◌else◌}
 use Rattle.std.specs.Option.{is_some}
 use Rattle.std.specs.Str.{is_utf8}

@@ -1,4 +1,4 @@
--- How deep lists and maps nest in a tree, and that each key stands once in its map.
+-- How deep lists and mappings nest in a tree, and that each key stands once in its mapping.
 use Rattle.std.specs.Prelude.{◌≡◌, ℕ, suc, max, false}
 use Rattle.bosh_yaml.specs.Nodes.{Keys, no_keys, with_new}
 use Rattle.bosh_yaml.specs.Tree.{Tree, Trees, Fields, null, boolean, integer, text, list, map, no_trees, tree, no_fields, field}

@@ -34,12 +34,12 @@ body_text indent ends (line ∷ lines) =
     line_and_rest ends (without_spaces indent line) (body_text indent (suc ends) lines) (body_text indent 1 lines)
 
 -- `|` adds one LF where there is any line
-abbrev pub chomped : Chomping → List ℕ → List ℕ
-chomped Strip text = text
-chomped Clip [] = []
-chomped Clip (b ∷ bs) = (b ∷ bs) ++ 10 ∷ []
+abbrev pub chomped_text : Chomping → List ℕ → List ℕ
+chomped_text Strip text = text
+chomped_text Clip [] = []
+chomped_text Clip (b ∷ bs) = (b ∷ bs) ++ 10 ∷ []
 
 -- the text of a literal; a line with other content than spaces has fixed the indentation, or there is none
 abbrev pub literal_text : Chomping → Option ℕ → List (List ℕ) → List ℕ
 literal_text chomping None lines = []
-literal_text chomping (Some indent) lines = chomped chomping (body_text indent 0 lines)
+literal_text chomping (Some indent) lines = chomped_text chomping (body_text indent 0 lines)

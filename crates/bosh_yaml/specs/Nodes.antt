@@ -10,7 +10,7 @@ use Rattle.bosh_yaml.specs.Result.{◌>>=◌}
 use Rattle.bosh_yaml.specs.Scalar.{leaf_tree}
 use Rattle.bosh_yaml.specs.Keys.{has_key}
 use Rattle.bosh_yaml.specs.Tree.{Tree, list, map, trees_of, fields_of}
-use Rattle.bosh_yaml.specs.Word.{refused}
+use Rattle.bosh_yaml.specs.Word.{syntax_fault}
 
 -- the keys of a collection so far, as a test
 abbrev pub Keys : Type 0
@@ -27,15 +27,15 @@ line_or true line rest = Some line
 line_or false line rest = rest
 
 -- the line of the first key that stands a second time in its mapping, where the open collections have these keys, the innermost first
-abbrev pub repeated : List Keys → List Event → Option ℕ
-repeated all [] = None
-repeated all (Scalar leaf ∷ events) = repeated all events
-repeated all (OpenList ∷ events) = repeated (no_keys ∷ all) events
-repeated all (OpenMap ∷ events) = repeated (no_keys ∷ all) events
-repeated [] (Key line key ∷ events) = repeated [] events
-repeated (keys ∷ all) (Key line key ∷ events) = line_or (keys key) line (repeated (with_new keys key ∷ all) events)
-repeated [] (Close ∷ events) = repeated [] events
-repeated (keys ∷ all) (Close ∷ events) = repeated all events
+abbrev pub line_of_repeat : List Keys → List Event → Option ℕ
+line_of_repeat all [] = None
+line_of_repeat all (Scalar leaf ∷ events) = line_of_repeat all events
+line_of_repeat all (OpenList ∷ events) = line_of_repeat (no_keys ∷ all) events
+line_of_repeat all (OpenMap ∷ events) = line_of_repeat (no_keys ∷ all) events
+line_of_repeat [] (Key line key ∷ events) = line_of_repeat [] events
+line_of_repeat (keys ∷ all) (Key line key ∷ events) = line_or (keys key) line (line_of_repeat (with_new keys key ∷ all) events)
+line_of_repeat [] (Close ∷ events) = line_of_repeat [] events
+line_of_repeat (keys ∷ all) (Close ∷ events) = line_of_repeat all events
 
 -- how many collections are open after an event
 abbrev pub open_after : ℕ → Event → ℕ
@@ -58,21 +58,21 @@ abbrev pub with_value : Tree → List Open → Result Step ReadFault
 with_value t [] = Ok (Some t, [])
 with_value t (ListOf ts ∷ all) = Ok (None, ListOf (ts ++ t ∷ []) ∷ all)
 with_value t (EntryOf ps key ∷ all) = Ok (None, MapOf (ps ++ (key, t) ∷ []) ∷ all)
-with_value t (MapOf ps ∷ all) = refused 0
+with_value t (MapOf ps ∷ all) = syntax_fault 0
 
 -- a key in the innermost collection
 abbrev pub with_key : List ℕ → List Open → Result Step ReadFault
-with_key key [] = refused 0
+with_key key [] = syntax_fault 0
 with_key key (MapOf ps ∷ all) = Ok (None, EntryOf ps key ∷ all)
-with_key key (ListOf ts ∷ all) = refused 0
-with_key key (EntryOf ps k ∷ all) = refused 0
+with_key key (ListOf ts ∷ all) = syntax_fault 0
+with_key key (EntryOf ps k ∷ all) = syntax_fault 0
 
 -- the innermost collection is whole
 abbrev pub with_close : List Open → Result Step ReadFault
-with_close [] = refused 0
+with_close [] = syntax_fault 0
 with_close (ListOf ts ∷ all) = with_value (list (trees_of ts)) all
 with_close (MapOf ps ∷ all) = with_value (map (fields_of ps)) all
-with_close (EntryOf ps k ∷ all) = refused 0
+with_close (EntryOf ps k ∷ all) = syntax_fault 0
 
 abbrev pub with_event : Event → List Open → Result Step ReadFault
 with_event (Scalar leaf) all = with_value (leaf_tree leaf) all
@@ -82,13 +82,13 @@ with_event (Key line key) all = with_key key all
 with_event Close all = with_close all
 
 -- the tree that events make, from the open collections on
-abbrev pub made : Option Tree → List Open → List Event → Result Tree ReadFault
-made None all [] = refused 0
-made (Some t) all [] = Ok t
-made None all (event ∷ events) = do
+abbrev pub tree_from : Option Tree → List Open → List Event → Result Tree ReadFault
+tree_from None all [] = syntax_fault 0
+tree_from (Some t) all [] = Ok t
+tree_from None all (event ∷ events) = do
   next ← with_event event all
-  made next.0 next.1 events
-made (Some t) all (event ∷ events) = refused 0
+  tree_from next.0 next.1 events
+tree_from (Some t) all (event ∷ events) = syntax_fault 0
 
 -- each key whose value has not come is new
 abbrev pub AreNew : List Open → Type 0

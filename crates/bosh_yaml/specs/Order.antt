@@ -1,4 +1,4 @@
--- A tree with each map's fields in the byte order of their keys, and what the tree of a node always has.
+-- A tree with each mapping's fields in the byte order of their keys, and what the tree of a node always has.
 use Rattle.std.specs.Prelude.{ℕ, List, [], ◌∷◌, FitsSigned}
 use Rattle.std.specs.Cmp.Lexicographic.{slice_cmp}
 use Rattle.std.specs.Int.{w64}
@@ -13,7 +13,7 @@ abbrev pub put_field : List ℕ → Tree → Fields → Fields
 put_field k t no_fields = field k t no_fields
 put_field k t (field l u fs) = match_ordering (slice_cmp nat_cmp k l) (field k t (field l u fs)) (field l t fs) (field l u (put_field k t fs))
 
--- the tree with the fields of each map put one after another where their keys belong
+-- the tree with the fields of each mapping put one after another where their keys belong
 abbrev mutual
   pub in_key_order : Tree → Tree
   in_key_order null = null
@@ -35,7 +35,7 @@ abbrev pub keys_of : Fields → List (List ℕ)
 keys_of no_fields = []
 keys_of (field k t fs) = k ∷ keys_of fs
 
--- each key of a map is below those after it in byte order
+-- each key of a mapping is below those after it in byte order
 abbrev mutual
   pub IsInKeyOrder : Tree → Type 0
   IsInKeyOrder null = Unit {0}

@@ -1,4 +1,4 @@
--- Where the keys of a map stand, counted from its front.
+-- Where the keys of a mapping stand, counted from its front.
 use Rattle.std.specs.Prelude.{◌≡◌, ℕ, suc, List, [], ◌∷◌, Option, Some, None, Box, drop}
 use Rattle.std.specs.declared.alloc.Global.{Global}
 use Rattle.std.specs.BTreeMap.{get, get_by}

@@ -19,8 +19,8 @@ single_quoted (b ∷ c ∷ bs) =
     else after_text (b ∷ []) (single_quoted (c ∷ bs))
 
 -- the character that an escape of one letter stands for: `\\`, `\"`, `\/`, `\n`, `\r`, `\t` and `\0`
-abbrev pub escaped : ℕ → Option ℕ
-escaped b =
+abbrev pub escaped_character : ℕ → Option ℕ
+escaped_character b =
     if b == 92 then Some 92 else if b == 34 then Some 34 else if b == 47 then Some 47
     else if b == 110 then Some 10 else if b == 114 then Some 13 else if b == 116 then Some 9
     else if b == 48 then Some 0 else None
@@ -63,7 +63,7 @@ abbrev mutual
 
   pub double_escaped : List ℕ → Quoted
   double_escaped [] = None
-  double_escaped (e ∷ bs) = if e == 117 then double_unicode bs else after_character (escaped e) (double_quoted bs)
+  double_escaped (e ∷ bs) = if e == 117 then double_unicode bs else after_character (escaped_character e) (double_quoted bs)
 
   pub double_unicode : List ℕ → Quoted
   double_unicode [] = None

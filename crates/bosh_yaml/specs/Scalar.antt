@@ -12,8 +12,8 @@ is_counting [] = false
 is_counting (b ∷ bs) = (nat_le 49 b && nat_le b 57) && all_ascii_digits bs
 
 -- the number that digits write, where it is below a bound
-abbrev pub counted : ℕ → List ℕ → Option ℕ
-counted bound digits = if is_counting digits && nat_lt (digits_value 10 digits) bound then Some (digits_value 10 digits) else None
+abbrev pub number_below : ℕ → List ℕ → Option ℕ
+number_below bound digits = if is_counting digits && nat_lt (digits_value 10 digits) bound then Some (digits_value 10 digits) else None
 
 abbrev pub negated : Option ℕ → Option ℤ
 negated None = None
@@ -31,8 +31,8 @@ digits_of s = if starts_with_minus s then drop 1 s else s
 abbrev pub integer_of : List ℕ → Option ℤ
 integer_of s =
     if bytes_eq s (codes "0") then Some (pos 0)
-    else if starts_with_minus s then negated (counted (2 ^ 63 + 1) (drop 1 s))
-    else unsigned (counted (2 ^ 63) s)
+    else if starts_with_minus s then negated (number_below (2 ^ 63 + 1) (drop 1 s))
+    else unsigned (number_below (2 ^ 63) s)
 
 abbrev pub integer_or_text : Option ℤ → List ℕ → Leaf
 integer_or_text None s = Text s

@@ -8,7 +8,7 @@ use Rattle.bosh_yaml.specs.declared.word.Word.{Word}
 use Rattle.bosh_yaml.specs.Lines.{is_blank, is_end}
 use Rattle.bosh_yaml.specs.Literal.{indentation, is_spaces, literal_text}
 use Rattle.bosh_yaml.specs.Scalar.{leaf_tree}
-use Rattle.bosh_yaml.specs.SpelledWord.{SpellsWord, IsKey}
+use Rattle.bosh_yaml.specs.SpelledWord.{SpellsScalar, IsKey}
 use Rattle.bosh_yaml.specs.SpelledFlow.{SpellsFlow}
 use Rattle.bosh_yaml.specs.Tree.{Tree, null, text, list, map, trees_of, fields_of}
 use Rattle.bosh_yaml.specs.Word.{leaf_of}
@@ -57,7 +57,7 @@ pub data SpellsChomping : List ℕ → Chomping → Type 0 where
 -- a scalar, a flow form, or a literal, which stands behind a dash or a key at a column
 pub data SpellsValue : Option ℕ → List ℕ → List (List ℕ) → Tree → Type 0 where
   scalar : (owner : Option ℕ) (bytes rest : List ℕ) (word : Word) (lines : List (List ℕ))
-      → SpellsWord Block bytes word rest → is_end rest ≡ true → Each IsBlank lines → SpellsValue owner bytes lines (leaf_tree (leaf_of word))
+      → SpellsScalar Block bytes word rest → is_end rest ≡ true → Each IsBlank lines → SpellsValue owner bytes lines (leaf_tree (leaf_of word))
   flow : (owner : Option ℕ) (b : ℕ) (bs rest : List ℕ) (t : Tree) (lines : List (List ℕ))
       → (b == 91 || b == 123) ≡ true → SpellsFlow (b ∷ bs) t rest → is_end rest ≡ true → Each IsBlank lines → SpellsValue owner (b ∷ bs) lines t
   literal : (column : ℕ) (header : List ℕ) (chomping : Chomping) (indent : Option ℕ) (body tail : List (List ℕ))
@@ -91,9 +91,9 @@ mutual
   -- a mapping at a column: one or more keys there, each with `:` and its value
   pub data SpellsEntries : ℕ → List ℕ → List (List ℕ) → List (List ℕ × Tree) → Type 0 where
     last_entry : (column : ℕ) (bytes rest : List ℕ) (word : Word) (key : List ℕ) (lines : List (List ℕ)) (t : Tree)
-        → SpellsWord Block bytes word (58 ∷ rest) → IsKey word key → SpellsEntry column rest lines t → SpellsEntries column bytes lines ((key, t) ∷ [])
+        → SpellsScalar Block bytes word (58 ∷ rest) → IsKey word key → SpellsEntry column rest lines t → SpellsEntries column bytes lines ((key, t) ∷ [])
     entry : (column : ℕ) (bytes rest next : List ℕ) (word : Word) (key : List ℕ) (inner lines : List (List ℕ)) (t : Tree) (ps : List (List ℕ × Tree))
-        → SpellsWord Block bytes word (58 ∷ rest) → IsKey word key → SpellsEntry column rest inner t
+        → SpellsScalar Block bytes word (58 ∷ rest) → IsKey word key → SpellsEntry column rest inner t
         → begins_content next ≡ true → SpellsEntries column next lines ps → SpellsEntries column bytes (inner ++ (spaces column ++ next) ∷ lines) ((key, t) ∷ ps)
 
   -- behind a key and its `:`: the line's end, and then nothing, a node at a greater column or a sequence at the same; or spaces and a value on the line

@@ -18,11 +18,11 @@ Stops place [] = Unit {0}
 Stops place (b ∷ bs) = ends_plain place b bs ≡ true
 
 -- the bytes are a scalar and what follows it; its text is UTF-8, and a plain one has at least one byte
-pub data SpellsWord (place : Place) : List ℕ → Word → List ℕ → Type 0 where
-  in_single_quotes : (bs text rest : List ℕ) → single_quoted bs ≡ Some (text, rest) → is_utf8 text ≡ true → SpellsWord place (39 ∷ bs) (Quoted text) rest
-  in_double_quotes : (bs text rest : List ℕ) → double_quoted bs ≡ Some (text, rest) → is_utf8 text ≡ true → SpellsWord place (34 ∷ bs) (Quoted text) rest
+pub data SpellsScalar (place : Place) : List ℕ → Word → List ℕ → Type 0 where
+  in_single_quotes : (bs text rest : List ℕ) → single_quoted bs ≡ Some (text, rest) → is_utf8 text ≡ true → SpellsScalar place (39 ∷ bs) (Quoted text) rest
+  in_double_quotes : (bs text rest : List ℕ) → double_quoted bs ≡ Some (text, rest) → is_utf8 text ≡ true → SpellsScalar place (34 ∷ bs) (Quoted text) rest
   unquoted : (b : ℕ) (bs rest : List ℕ) → starts_plain (b ∷ (bs ++ rest)) ≡ true → GoesOn place (b ∷ bs) rest → Stops place rest
-      → is_utf8 (trim_end (b ∷ bs)) ≡ true → SpellsWord place (b ∷ (bs ++ rest)) (Plain (trim_end (b ∷ bs))) rest
+      → is_utf8 (trim_end (b ∷ bs)) ≡ true → SpellsScalar place (b ∷ (bs ++ rest)) (Plain (trim_end (b ∷ bs))) rest
 
 -- a scalar is this key: always text, and the plain key `<<` is none
 abbrev pub IsKey : Word → List ℕ → Type 0

@@ -13,29 +13,29 @@ use Rattle.bosh_yaml.specs.Quotes.{single_quoted, double_quoted}
 use Rattle.bosh_yaml.specs.Result.{◌>>=◌}
 use Rattle.bosh_yaml.specs.Scalar.{scalar_of}
 
-abbrev pub refused : {A : Type 0} → ℕ → Result A ReadFault
-refused line = Err (faults.Syntax line)
+abbrev pub syntax_fault : {A : Type 0} → ℕ → Result A ReadFault
+syntax_fault line = Err (faults.Syntax line)
 
 -- the bytes as text: those of a scalar are UTF-8 where the line's are
 abbrev pub text_of : ℕ → List ℕ → Result (List ℕ) ReadFault
-text_of line bytes = if is_utf8 bytes then Ok bytes else refused line
+text_of line bytes = if is_utf8 bytes then Ok bytes else syntax_fault line
 
 abbrev pub quoted_word : ℕ → Option (List ℕ × List ℕ) → Result (Word × List ℕ) ReadFault
-quoted_word line None = refused line
+quoted_word line None = syntax_fault line
 quoted_word line (Some q) = do
   text ← text_of line q.0
   Ok (Quoted text, q.1)
 
 abbrev pub plain_word : Place → ℕ → List ℕ → Result (Word × List ℕ) ReadFault
 plain_word place line bytes =
-    if starts_plain bytes then (if plain_len place bytes == 0 then refused line else (do
+    if starts_plain bytes then (if plain_len place bytes == 0 then syntax_fault line else (do
       text ← text_of line (trim_end (take (plain_len place bytes) bytes))
       Ok (Plain text, drop (plain_len place bytes) bytes)))
-    else refused line
+    else syntax_fault line
 
 -- the scalar at the front
 abbrev pub word_at : Place → ℕ → List ℕ → Result (Word × List ℕ) ReadFault
-word_at place line [] = refused line
+word_at place line [] = syntax_fault line
 word_at place line (b ∷ bs) =
     if b == 39 then quoted_word line (single_quoted bs)
     else if b == 34 then quoted_word line (double_quoted bs)
@@ -49,4 +49,4 @@ leaf_of (Plain text) = scalar_of text
 -- a scalar as a key: always text; the plain key `<<` is refused
 abbrev pub key_of : ℕ → Word → Result (List ℕ) ReadFault
 key_of line (Quoted text) = Ok text
-key_of line (Plain text) = if bytes_eq text (codes "<<") then refused line else Ok text
+key_of line (Plain text) = if bytes_eq text (codes "<<") then syntax_fault line else Ok text

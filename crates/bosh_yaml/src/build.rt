@@ -4,7 +4,7 @@ ghost use Rattle.std.specs.Prelude.{◌≡◌, ◌∷◌, [], None, false, map, 
 ghost use Rattle.std.specs.Option.{option_map};
 ghost use Rattle.bosh_yaml.specs.declared.build.Open.TheVariants.{Entry as EntryOf, List as ListOf};
 ghost use Rattle.bosh_yaml.specs.Keys.{has_key};
-ghost use Rattle.bosh_yaml.specs.Nodes.{AreNew, IsNewIn, made, repeated, with_close as with_closed, with_event, with_key as keyed, with_value as valued};
+ghost use Rattle.bosh_yaml.specs.Nodes.{AreNew, IsNewIn, line_of_repeat, tree_from, with_close as with_closed, with_event, with_key as keyed, with_value as valued};
 ghost use Rattle.bosh_yaml.specs.Result.{Gives};
 ghost use Rattle.bosh_yaml.specs.View.{tree_of};
 
@@ -15,12 +15,12 @@ use crate::text::Str;
 use std::alloc::Global;
 use std::collections::VecDeque;
 
-/// A list or a map that is not whole.
+/// A list or a mapping that is not whole.
 #[derive(Drop)]
 pub(crate) enum Open {
     List(Items),
     Map(Pairs),
-    /// A map, and a key whose value has not come.
+    /// A mapping, and a key whose value has not come.
     Entry(Pairs, Str),
 }
 
@@ -55,7 +55,7 @@ fn with_item(
     Ok(None)
 }
 
-// Opens a map again, with one more key and its value.
+// Opens a mapping again, with one more key and its value.
 fn with_entry(
     mut pairs: Pairs,
     key: Str,
@@ -127,8 +127,8 @@ fn take_event(
 /// The node that events make in which no key stands twice in its mapping.
 // Dear to prove: one loop over all events, in which each open list and mapping is alive.
 pub(crate) fn node_of(alloc: Global, events: Vec<Event>) -> Result<Node, ReadFault>
-    requires { repeated [] events.items ≡ None }
-    ensures { Gives tree_of result (made None [] events.items) }
+    requires { line_of_repeat [] events.items ≡ None }
+    ensures { Gives tree_of result (tree_from None [] events.items) }
 {
     let mut outer = VecDeque::new(alloc);
     let mut whole = None;

@@ -1,11 +1,11 @@
-//! The canonical text of a node: compact JSON with each map's keys in byte order.
+//! The canonical text of a node: compact JSON with each mapping's keys in byte order.
 
 ghost use Rattle.std.specs.Prelude.{◌≡◌, ◌≤◌, ℕ, List, IfErr, IfOk, OnOk, Ok, length, option_map, string_bytes};
 ghost use Rattle.std.specs.Str.{IsUtf8};
 ghost use Rattle.serde_json.specs.Data.{no_members};
 ghost use Rattle.serde_json.specs.View.{items_view, members_view, view};
 ghost use Rattle.bosh_yaml.specs.Canon.{canon_text, data_items, data_members, data_of};
-ghost use Rattle.bosh_yaml.specs.Keys.{found};
+ghost use Rattle.bosh_yaml.specs.Keys.{value_of_key};
 ghost use Rattle.bosh_yaml.specs.Limits.{depth};
 ghost use Rattle.bosh_yaml.specs.Order.{in_key_order, IsOfNode};
 ghost use Rattle.bosh_yaml.specs.Reading.{reading};
@@ -19,16 +19,16 @@ use serde_json::{Map, Number, Value};
 use std::alloc::{AllocError, Global};
 use std::str;
 
-/// The node as compact JSON, with each map's keys in byte order. Of a map the text is read back by `read`, as the map in
-/// the order of its keys, where it has at most 1,048,576 bytes and nests at most 64 lists and maps; each key has the value
-/// that it had.
+/// The node as compact JSON, with each mapping's keys in byte order. Of a mapping the text is read back by `read`, as
+/// the mapping in the order of its keys, where it has at most 1,048,576 bytes and nests at most 64 lists and mappings;
+/// each key has the value that it had.
 pub fn canon(alloc: Global, node: &Node) -> Result<Vec<u8>, ReadFault>
     ensures text { IfOk result (λ v. v.items ≡ canon_text (tree_of node.now)) }
     ensures read { IfOk result (λ v. (fs : Fields) → tree_of node.now ≡ map_tree fs
         → depth (tree_of node.now) ≤ 64 → length v.items ≤ 1048576
         → reading v.items ≡ Ok (in_key_order (tree_of node.now))) }
-    ensures values { OnOk result ((key : List ℕ) → found key (in_key_order (tree_of node.now))
-        ≡ option_map in_key_order (found key (tree_of node.now))) }
+    ensures values { OnOk result ((key : List ℕ) → value_of_key key (in_key_order (tree_of node.now))
+        ≡ option_map in_key_order (value_of_key key (tree_of node.now))) }
     ensures memory { IfErr result (λ e. e ≡ ReadFault.Memory) }
 {
     let value = value_of(alloc, node)?;

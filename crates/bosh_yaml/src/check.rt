@@ -4,7 +4,7 @@ ghost use Rattle.std.specs.Prelude.{◌≡◌, ◌+◌, ◌<◌, ◌≤◌, ◌^
 ghost use Rattle.bosh_yaml.specs.declared.event.Event.{Event};
 ghost use Rattle.bosh_yaml.specs.declared.event.Event.TheVariants.{Key};
 ghost use Rattle.bosh_yaml.specs.Seen.{keys_of_set, line_or_else};
-ghost use Rattle.bosh_yaml.specs.Nodes.{nesting as nests, open_after as opened, repeated};
+ghost use Rattle.bosh_yaml.specs.Nodes.{line_of_repeat, nesting as nests, open_after as opened};
 
 use crate::event::Event;
 use crate::hash::hash_of;
@@ -47,7 +47,7 @@ fn take_event<'a>(
     event: &'a Event,
     seen: &mut VecDeque<BTreeSet<(u64, &'a [u8])>>,
 ) -> Result<Option<u32>, AllocError>
-    ensures { IfOk result (λ found. (rest : List Event) → repeated (map keys_of_set seen.old.items) (event.now ∷ rest) ≡ line_or_else found (repeated (map keys_of_set seen.new.items) rest)) }
+    ensures { IfOk result (λ found. (rest : List Event) → line_of_repeat (map keys_of_set seen.old.items) (event.now ∷ rest) ≡ line_or_else found (line_of_repeat (map keys_of_set seen.new.items) rest)) }
 {
     match event {
         Event::Scalar(_) => Ok(None),
@@ -70,7 +70,7 @@ fn take_key<'a>(
     key: &'a Str,
     seen: &mut VecDeque<BTreeSet<(u64, &'a [u8])>>,
 ) -> Result<Option<u32>, AllocError>
-    ensures { IfOk result (λ found. (rest : List Event) → repeated (map keys_of_set seen.old.items) (Key line key.now ∷ rest) ≡ line_or_else found (repeated (map keys_of_set seen.new.items) rest)) }
+    ensures { IfOk result (λ found. (rest : List Event) → line_of_repeat (map keys_of_set seen.old.items) (Key line key.now ∷ rest) ≡ line_or_else found (line_of_repeat (map keys_of_set seen.new.items) rest)) }
 {
     let Some(mut keys) = seen.pop_front() else {
         return Ok(None);
@@ -83,7 +83,7 @@ fn take_key<'a>(
 
 // The line of the first key that stands a second time in its mapping.
 pub(crate) fn first_repeated(alloc: Global, events: &[Event]) -> Result<Option<u32>, AllocError>
-    ensures { IfOk result (λ line. line ≡ repeated [] events.now) }
+    ensures { IfOk result (λ line. line ≡ line_of_repeat [] events.now) }
 {
     let mut seen = VecDeque::new(alloc);
     for event in events {

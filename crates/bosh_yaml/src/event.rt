@@ -3,7 +3,8 @@
 use crate::plain::Leaf;
 use crate::text::Str;
 
-/// One step through a node, in the order of its text. Lists and maps end by `Close`; each key is followed by its value.
+/// One step through a node, in the order of its text. Lists and mappings end by `Close`; each key is followed by its
+/// value.
 #[derive(Drop)]
 pub(crate) enum Event {
     Scalar(Leaf),

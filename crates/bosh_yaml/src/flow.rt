@@ -1,4 +1,4 @@
-//! Flow forms: lists and maps on one line.
+//! Flow forms: lists and mappings on one line.
 
 ghost use Rattle.std.specs.Prelude.{◌≡◌, ◌<◌, ◌++◌, ◌≤◌, ◌∷◌, [], List, length, IfOk};
 ghost use Rattle.bosh_yaml.specs.declared.flow.Nest.TheVariants.{BeforeForm};

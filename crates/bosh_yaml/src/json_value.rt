@@ -46,7 +46,7 @@ fn as_text(bytes: &[u8]) -> Option<&str>
     }
 }
 
-// Whether lists and maps nest deeper than this.
+// Whether lists and mappings nest deeper than this.
 #[cycle(depth)]
 pub(crate) fn is_deeper(most: usize, value: &Value) -> bool
     ensures { result ≡ nat_lt most (depth (json_tree (view value.now))) }

@@ -2,7 +2,7 @@
 ghost use Rattle.std.specs.Prelude.{◌≡◌, ◌<◌, ◌≤◌, ◌-◌, ℕ, false, true, List, take, Result, Ok, Err, length, option_map};
 ghost use Rattle.bosh_yaml.specs.Canon.{canon_text};
 ghost use Rattle.bosh_yaml.specs.declared.fault.ReadFault.TheVariants.{Number, RepeatedKey, Syntax, TooDeep};
-ghost use Rattle.bosh_yaml.specs.Keys.{found};
+ghost use Rattle.bosh_yaml.specs.Keys.{value_of_key};
 ghost use Rattle.bosh_yaml.specs.Limits.{depth, HasEachKeyOnce};
 ghost use Rattle.bosh_yaml.specs.Lines.{begins, lines_of};
 ghost use Rattle.bosh_yaml.specs.Order.{in_key_order, IsInKeyOrder, IsWritable};
@@ -16,8 +16,8 @@ pub fn spelled_once()
     ensures { (text : List ℕ) (s t : Tree) → Spells text s → Spells text t → s ≡ t }
 {}
 
-/// What a text of at most 1,048,576 bytes spells, with each key once in its map, is what `read` reads, unless it nests
-/// deeper than 64 lists and maps and is refused for that.
+/// What a text of at most 1,048,576 bytes spells, with each key once in its mapping, is what `read` reads, unless it
+/// nests deeper than 64 lists and mappings and is refused for that.
 pub fn what_is_spelled_is_read()
     ensures read { (text : List ℕ) (t : Tree) → Spells text t → HasEachKeyOnce t
         → length text ≤ 1048576 → depth t ≤ 64 → reading text ≡ Ok t }
@@ -39,8 +39,8 @@ pub fn refused_spells_none()
         → (t : Tree) → Spells text t → ¬ HasEachKeyOnce t }
 {}
 
-/// A text of at most 1,048,576 bytes that spells a tree in which a key stands twice in a map is refused for that. No JSON
-/// text spells one: of a key that stands twice in an object the last value stays.
+/// A text of at most 1,048,576 bytes that spells a tree in which a key stands twice in a mapping is refused for that.
+/// No JSON text spells one: of a key that stands twice in an object the last value stays.
 pub fn what_repeats_a_key_is_refused()
     ensures refused { (text : List ℕ) (t : Tree) → Spells text t → ¬ HasEachKeyOnce t
         → length text ≤ 1048576 → (line : ℕ) × (reading text ≡ Err (RepeatedKey line)) }
@@ -60,8 +60,8 @@ pub fn refusals_name_a_line()
         → ¬ (reading text ≡ Err (RepeatedKey line)) }
 {}
 
-/// Of the lines up to the one that a refusal for a repeated key names some map repeats a key, and of the lines before it
-/// none does.
+/// Of the lines up to the one that a refusal for a repeated key names some mapping repeats a key, and of the lines
+/// before it none does.
 pub fn repeated_key_is_on_its_line()
     ensures up_to { (text : List ℕ) (line : ℕ) → reading text ≡ Err (RepeatedKey line)
         → RepeatsKey (take line (lines_of text)) }
@@ -69,24 +69,24 @@ pub fn repeated_key_is_on_its_line()
         → RepeatsNoKey (take (line - 1) (lines_of text)) }
 {}
 
-/// A YAML text that is refused for its depth spells a tree that nests deeper than 64 lists and maps.
+/// A YAML text that is refused for its depth spells a tree that nests deeper than 64 lists and mappings.
 pub fn what_is_too_deep_is_spelled()
     ensures { (text : List ℕ) → begins 123 text ≡ false → reading text ≡ Err TooDeep
         → (t : Tree) × Spells text t × (64 < depth t) }
 {}
 
-/// The canonical text of a map is read as the map in the order of its keys, where it has at most 1,048,576 bytes and
-/// nests at most 64 lists and maps. Each node's texts are UTF-8 and its integers within 64 bits; `canon` has the law
-/// for nodes.
+/// The canonical text of a mapping is read as the mapping in the order of its keys, where it has at most 1,048,576
+/// bytes and nests at most 64 lists and mappings. Each node's texts are UTF-8 and its integers within 64 bits; `canon`
+/// has the law for nodes.
 pub fn what_is_canonical_is_read()
     ensures { (fs : Fields) → IsWritable (map fs) → depth (map fs) ≤ 64
         → length (canon_text (map fs)) ≤ 1048576
         → reading (canon_text (map fs)) ≡ Ok (in_key_order (map fs)) }
 {}
 
-/// In key order, the keys of each map ascend; and where each key stands once, each has the value that it had.
+/// In key order, the keys of each mapping ascend; and where each key stands once, each has the value that it had.
 pub fn key_order_keeps_values()
     ensures ascending { (t : Tree) → IsInKeyOrder (in_key_order t) }
     ensures values { (t : Tree) → HasEachKeyOnce t → (key : List ℕ)
-        → found key (in_key_order t) ≡ option_map in_key_order (found key t) }
+        → value_of_key key (in_key_order t) ≡ option_map in_key_order (value_of_key key t) }
 {}

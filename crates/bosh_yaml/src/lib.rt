@@ -1,4 +1,4 @@
-//! Nodes: what a YAML or JSON text says, as null, truth values, integers, texts, lists and maps.
+//! Nodes: what a YAML or JSON text says, as null, truth values, integers, texts, lists and mappings.
 #![tactic(auto)]
 
 mod bare;

@@ -1,7 +1,7 @@
 //! Literals: texts of several lines.
 
 ghost use Rattle.std.specs.Prelude.{◌≡◌, ◌≤◌, ◌++◌, length, map, IfOk, OnOk};
-ghost use Rattle.bosh_yaml.specs.Literal.{body_text as texts, chomped, indentation as indent_of, is_spaces as spaces, line_ends, literal_text as text_of, without_spaces as unindented};
+ghost use Rattle.bosh_yaml.specs.Literal.{body_text as texts, chomped_text, indentation as indent_of, is_spaces as spaces, line_ends, literal_text as text_of, without_spaces as unindented};
 
 use std::alloc::{AllocError, Global};
 

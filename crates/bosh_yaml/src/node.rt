@@ -1,8 +1,8 @@
-//! Nodes, lists of nodes, and maps from keys to nodes.
+//! Nodes, lists of nodes, and mappings from keys to nodes.
 
 ghost use Rattle.std.specs.Prelude.{◌≡◌, ◌==◌, false, [], ◌∷◌, ◌++◌, length, map, slice_get, take, None, IfOk, IfErr, OnOk, OnErr};
 ghost use Rattle.std.specs.Option.{option_map};
-ghost use Rattle.bosh_yaml.specs.Keys.{HasDistinctKeys, found, has_key, value_at};
+ghost use Rattle.bosh_yaml.specs.Keys.{HasDistinctKeys, has_key, value_at, value_of_key};
 ghost use Rattle.bosh_yaml.specs.View.{tree_of, pair_of};
 
 use crate::copied::{Copied, CopyFault};
@@ -33,7 +33,7 @@ pub struct Items {
 impl Model for Items {
     ghost use Rattle.std.specs.Prelude.{List, map};
     ghost use Rattle.bosh_yaml.specs.Tree.{Tree};
-    ghost use Rattle.bosh_yaml.specs.Code.{tree_code, forest};
+    ghost use Rattle.bosh_yaml.specs.Code.{tree_code, nodes_in_list};
     ghost use Rattle.std.specs.Coded.{coded_list};
 
     ghost Value = { List Tree };
@@ -44,12 +44,12 @@ impl Model for Items {
 
     ghost view = { λ s. map tree_of s.nodes.items };
 
-    ghost size = { forest };
+    ghost size = { nodes_in_list };
 
     ghost use Rattle.std.proofs.Common.{arith};
-    ghost use Rattle.bosh_yaml.specs.Depth.{most_le_forest};
+    ghost use Rattle.bosh_yaml.specs.Depth.{most_le_nodes_in_list};
 
-    ghost size_decreases = { λ a h. omega (arith, most_le_forest a.nodes.items) };
+    ghost size_decreases = { λ a h. omega (arith, most_le_nodes_in_list a.nodes.items) };
 }
 
 impl Items {
@@ -109,7 +109,7 @@ impl Items {
     }
 }
 
-/// The keys and values of a map, in the order in which they were written. No key stands twice.
+/// The keys and values of a mapping, in the order in which they were written. No key stands twice.
 #[cycle(node)]
 #[derive(Drop)]
 pub struct Pairs {
@@ -120,7 +120,7 @@ pub struct Pairs {
 impl Model for Pairs {
     ghost use Rattle.std.specs.Prelude.{List, map, ℕ};
     ghost use Rattle.bosh_yaml.specs.Tree.{Tree};
-    ghost use Rattle.bosh_yaml.specs.Code.{tree_code, grove};
+    ghost use Rattle.bosh_yaml.specs.Code.{tree_code, nodes_in_pairs};
     ghost use Rattle.std.specs.Coded.{coded_list, coded×, coded_ℕ};
 
     ghost Value = { List (List ℕ × Tree) };
@@ -136,11 +136,11 @@ impl Model for Pairs {
     ghost invariant = { λ s. HasDistinctKeys (map pair_of s.entries.items)
         × IsNoted s.places 8 (map pair_of s.entries.items) };
 
-    ghost size = { grove };
+    ghost size = { nodes_in_pairs };
 
-    ghost use Rattle.bosh_yaml.specs.Depth.{most_le_grove, max_zero_le};
+    ghost use Rattle.bosh_yaml.specs.Depth.{most_le_nodes_in_pairs, max_zero_le};
 
-    ghost size_decreases = { λ a h. max_zero_le _ _ (most_le_grove a.entries.items) };
+    ghost size_decreases = { λ a h. max_zero_le _ _ (most_le_nodes_in_pairs a.entries.items) };
 }
 
 impl Pairs {
@@ -153,7 +153,7 @@ impl Pairs {
         }
     }
 
-    /// An empty map with room for so many keys.
+    /// An empty mapping with room for so many keys.
     pub fn with_capacity(alloc: Global, keys: usize) -> Result<Pairs, AllocError>
         ensures { IfOk result (λ pairs. pairs ≡ []) }
     {
@@ -176,7 +176,7 @@ impl Pairs {
         self.entries.is_empty()
     }
 
-    /// The key and the value at `k`, none where the map has no more than `k` keys.
+    /// The key and the value at `k`, none where the mapping has no more than `k` keys.
     pub fn get(&self, k: usize) -> Option<(&Str, &Node)>
         ensures { option_map (λ p. (p.0.now, tree_of p.1.now)) result ≡ slice_get self.now k }
     {
@@ -257,9 +257,9 @@ fn value_of<'a>(key: &[u8], entries: &'a [(Str, Node)]) -> Option<&'a Node>
 }
 
 impl Node {
-    /// The value at a key, none where this is no map or has no such key.
+    /// The value at a key, none where this is no mapping or has no such key.
     pub fn find(&self, key: &[u8]) -> Option<&Node>
-        ensures { option_map (λ n. tree_of n.now) result ≡ found key.now (tree_of self.now) }
+        ensures { option_map (λ n. tree_of n.now) result ≡ value_of_key key.now (tree_of self.now) }
     {
         match self {
             Node::Map(pairs) => pairs.find(key),

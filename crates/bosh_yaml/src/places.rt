@@ -1,4 +1,4 @@
-//! The places of the keys of a large map.
+//! The places of the keys of a large mapping.
 
 ghost use Rattle.std.specs.Prelude.{◌≡◌, ◌≤◌, ℕ, List, None, Some, false, IfOk, OnOk};
 ghost use Rattle.std.specs.Str.{bytes_eq};
@@ -8,10 +8,10 @@ use crate::hash::hash_of;
 use std::alloc::{AllocError, Global};
 use std::collections::BTreeMap;
 
-/// How many keys at a map's front have no place noted: to look at so few takes no longer than to look for a place.
+/// How many keys at a mapping's front have no place noted: to look at so few takes no longer than to look for a place.
 pub(crate) const FEW: usize = 8;
 
-/// The place of each key of a map but the first few. While there are no more it takes no memory.
+/// The place of each key of a mapping but the first few. While there are no more it takes no memory.
 #[derive(Drop)]
 pub(crate) struct Places {
     noted: Option<Box<Noted>>,

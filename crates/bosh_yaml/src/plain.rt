@@ -12,7 +12,7 @@ use crate::text::Str;
 use std::alloc::Global;
 use std::str;
 
-/// A value that is neither a list nor a map.
+/// A value that is neither a list nor a mapping.
 #[derive(Drop)]
 pub(crate) enum Leaf {
     Null,

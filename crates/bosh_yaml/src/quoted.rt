@@ -3,7 +3,7 @@
 ghost use Rattle.std.specs.Prelude.{◌≡◌, ◌≢◌, ◌<◌, ◌≤◌, ◌++◌, ◌∷◌, None, length, IfNone, IfOk, IfSome, OnOk};
 ghost use Rattle.std.specs.Char.{encode_utf8};
 ghost use Rattle.std.specs.Option.{option_map};
-ghost use Rattle.bosh_yaml.specs.Quotes.{after_text, character as character_of, double_escaped, double_quoted as double, double_unicode, escaped as unescaped, four_hex, hex as hexadecimal, single_quoted as single};
+ghost use Rattle.bosh_yaml.specs.Quotes.{after_text, character as character_of, double_escaped, double_quoted as double, double_unicode, escaped_character as unescaped, four_hex, hex as hexadecimal, single_quoted as single};
 
 use memchr::{memchr, memchr2};
 use std::alloc::{AllocError, Global};

@@ -2,8 +2,8 @@
 
 ghost use Rattle.std.specs.Prelude.{◌≡◌, [], ◌≤◌, length};
 ghost use Rattle.serde_json.specs.View.{view};
-ghost use Rattle.bosh_yaml.specs.Nodes.{repeated};
-ghost use Rattle.bosh_yaml.specs.Reading.{checked as approved, integers_only, json_reading, reading, yaml_reading};
+ghost use Rattle.bosh_yaml.specs.Nodes.{line_of_repeat};
+ghost use Rattle.bosh_yaml.specs.Reading.{checked_tree as approved, integers_only, json_reading, reading, yaml_reading};
 ghost use Rattle.bosh_yaml.specs.Result.{Gives};
 ghost use Rattle.bosh_yaml.specs.View.{tree_of};
 
@@ -20,7 +20,7 @@ use std::alloc::Global;
 /// How many bytes a text may have.
 pub const MAX_BYTES: usize = 1_048_576;
 
-/// How deep lists and maps may nest.
+/// How deep lists and mappings may nest.
 pub const MAX_DEPTH: usize = 64;
 
 /// The node that a text spells. A text whose first byte is `{` is JSON.
@@ -55,9 +55,9 @@ fn read_json(alloc: Global, text: &[u8]) -> Result<Node, ReadFault>
     json_value::node_of(alloc, value)
 }
 
-// The node of events, unless a key stands twice in its mapping, or lists and maps nest too deep.
+// The node of events, unless a key stands twice in its mapping, or lists and mappings nest too deep.
 fn checked(alloc: Global, events: Vec<Event>) -> Result<Node, ReadFault>
-    ensures { Gives tree_of result (approved (repeated [] events.items) events.items) }
+    ensures { Gives tree_of result (approved (line_of_repeat [] events.items) events.items) }
 {
     if let Some(line) = first_repeated(alloc, events.as_slice())? {
         return Err(ReadFault::RepeatedKey { line });

@@ -2,9 +2,9 @@ use Rattle.std.proofs.Common.{◌≡◌, ◌∙◌, ◌+◌, List, [], ◌∷◌
 use Rattle.std.proofs.lemmas.List.{take_more}
 use Rattle.bosh_base.specs.declared.entry.Entry.{Entry}
 use Rattle.bosh_book.proofs.AddsLemmas.{came_after}
-use Rattle.bosh_book.specs.Adds.{came_by}
-use Rattle.bosh_fold.specs.CameWith.{came_with}
-use Rattle.bosh_records.specs.Came.{came}
+use Rattle.bosh_book.specs.Adds.{arrivals_by}
+use Rattle.bosh_fold.specs.ArrivalsWith.{arrivals_with}
+use Rattle.bosh_records.specs.Arrivals.{arrivals}
 use Rattle.bosh_book.proofs.folding.fold.Goals as goal
 
 pub loop-place-preserved : goal.loop-place-preserved
@@ -16,6 +16,6 @@ loop-place-preserved c =
     take_more entries place entry c.loop-place-test.true
     ∙ ap (λ (it : Entry). take place entries ++ it ∷ []) (sym c.index-entries-place.is) in
     c.in_ok-apply.ensures.ok
-    ∙ ap (came_with entry) c.loop-place.invariant
-    ∙ sym (came_after (take place entries) (entry ∷ []) (came c.args.records.now))
-    ∙ ap (λ (them : List Entry). came_by them (came c.args.records.now)) (sym longer)
+    ∙ ap (arrivals_with entry) c.loop-place.invariant
+    ∙ sym (came_after (take place entries) (entry ∷ []) (arrivals c.args.records.now))
+    ∙ ap (λ (them : List Entry). arrivals_by them (arrivals c.args.records.now)) (sym longer)

@@ -2,7 +2,7 @@ use Rattle.std.proofs.Common.{◌∙◌, ap, ◌++◌, ℕ, List, [], codes, map
 use Rattle.sha2.specs.Sha256.{sha256}
 use Rattle.bosh_base.specs.declared.digest.Digest.{Digest}
 use Rattle.bosh_listing.specs.Listing.{dep_line, digest_line, file_line, name_line}
-use Rattle.bosh_listing.specs.Parts.{stamped}
+use Rattle.bosh_listing.specs.Parts.{stamp_view}
 use Rattle.bosh_listing.proofs.ListLemmas.{text_three}
 use Rattle.bosh_listing.proofs.listing.package_fingerprint.Goals as goal
 
@@ -19,6 +19,6 @@ returns c =
     let lines =
     text_three (codes "bosh-package 1") (name_line c.args.name.now)
     (digest_line (codes "script ") c.args.script.now)
-    (map (file_line (codes "file ")) (map stamped c.args.files.now)
-    ++ map dep_line (map stamped c.args.deps.now)) in
+    (map (file_line (codes "file ")) (map stamp_view c.args.files.now)
+    ++ map dep_line (map stamp_view c.args.deps.now)) in
     ap digest_with (c.finalize.ensures _ all ∙ ap sha256 lines)

@@ -3,7 +3,7 @@ use Rattle.std.proofs.Common.{◌≡◌, ◌∙◌, ◌++◌, Option, None, cond
 use Rattle.std.specs.Option.{option_copied, option_to_list}
 use Rattle.bosh_base.specs.declared.link.Joint.{Joint}
 use Rattle.bosh_base.specs.declared.release.LinkSpec.{LinkSpec}
-use Rattle.bosh_lookup.specs.Table.{named}
+use Rattle.bosh_lookup.specs.Table.{first_named}
 use Rattle.bosh_manifest.specs.declared.group.Group.{Group}
 use Rattle.bosh_manifest_parts.specs.declared.link.Provide.{Provide}
 use Rattle.bosh_template.specs.Environment.{JobEnv}
@@ -29,7 +29,7 @@ loop-link-preserved c =
     c.of-spot.ensures.joint ∙ ap (λ (g : Group). joint_of dep g.name used link) name in
     let said : option_copied c.find-provide.result ≡ provide_of used link =
     c.find-provide.ensures used.job.provides c.requires.said
-    ∙ ap (named (λ (provide : Provide). provide.link) used.job.provides) c.as_bytes.ensures.bytes in
+    ∙ ap (first_named (λ (provide : Provide). provide.link) used.job.provides) c.as_bytes.ensures.bytes in
     let found : c.in_ok-chosen.field-0 ≡ chosen choice dep group used link =
     c.in_ok-chosen.ensures
     ∙ (ap (λ (job : JobEnv). told job (spot_joint spot) spot.link.now (option_copied c.find-provide.result)) c.requires.job

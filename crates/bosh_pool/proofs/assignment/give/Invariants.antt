@@ -1,6 +1,6 @@
 use Rattle.std.proofs.Common.{◌≡◌, Option, drop, map}
 use Rattle.bosh_base.specs.declared.addr.Addr.{Addr}
-use Rattle.bosh_pool.specs.Assignment.{given}
+use Rattle.bosh_pool.specs.Assignment.{given_addresses}
 use Rattle.bosh_pool.specs.Free.{is_used}
 use Rattle.bosh_pool.specs.Search.{AreReady}
 use Rattle.bosh_pool.specs.declared.want.Want.{Want}
@@ -11,5 +11,5 @@ use Rattle.bosh_pool.proofs.assignment.give.Given as goal
 abbrev pub invariant-loop-i : goal.invariant-loop-i
 invariant-loop-i l = record {
   ready : AreReady l.plan.subnets l.closed l.used l.spots;
-  same : (find : Want → Option Addr) → l.own ≡ map find l.wants → given l.plan find (is_used l.fn.used) l.wants ≡ after l.addrs.items (given l.plan find (is_used l.used) (drop l.i l.wants));
+  same : (find : Want → Option Addr) → l.own ≡ map find l.wants → given_addresses l.plan find (is_used l.fn.used) l.wants ≡ after l.addrs.items (given_addresses l.plan find (is_used l.used) (drop l.i l.wants));
 }

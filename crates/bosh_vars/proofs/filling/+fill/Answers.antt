@@ -1,6 +1,6 @@
 use Rattle.std.proofs.Common.{◌≡◌, ℕ, ◌+◌, ◌<◌, ◌≤◌, false, List, [], ◌∷◌, ◌++◌, map, drop, Ok, arith, ap, sym, subst, ◌∙◌}
 use Rattle.std.proofs.lemmas.Grind.{common_steps}
-use Rattle.bosh_yaml.specs.Code.{weight, forest, grove}
+use Rattle.bosh_yaml.specs.Code.{node_count, nodes_in_list, nodes_in_pairs}
 use Rattle.bosh_yaml.specs.Keys.{has_key, HasDistinctKeys}
 use Rattle.bosh_yaml.specs.Tree.{fields_of, trees_of}
 use Rattle.bosh_yaml.specs.View.{pair_of, tree_of}
@@ -15,9 +15,9 @@ pub fill_items-fill_node-requires : goal.fill_items-fill_node-requires
 fill_items-fill_node-requires t c =
     let nodes = c.as_slice-node-items.result.now in
     let node = c.node-item.result in
-    let within : weight (tree_of node) ≤ forest (map tree_of nodes) = weight_at nodes c.loop-node.node-index node c.loop-node-test.true c.node-item.is in
-    let below : weight (tree_of node) ≤ forest c.args.items.now = subst (λ ts. weight (tree_of node) ≤ forest ts) c.as_slice-node-items.ensures within in
-    let falls : weight (tree_of node) + weight (tree_of node) < t = omega (arith, below, c.decreases) in
+    let within : node_count (tree_of node) ≤ nodes_in_list (map tree_of nodes) = weight_at nodes c.loop-node.node-index node c.loop-node-test.true c.node-item.is in
+    let below : node_count (tree_of node) ≤ nodes_in_list c.args.items.now = subst (λ ts. node_count (tree_of node) ≤ nodes_in_list ts) c.as_slice-node-items.ensures within in
+    let falls : node_count (tree_of node) + node_count (tree_of node) < t = omega (arith, below, c.decreases) in
     (falls, tt)
 
 pub fill_items-loop-node-preserved : goal.fill_items-loop-node-preserved
@@ -47,9 +47,9 @@ pub fill_pairs-fill_node-requires : goal.fill_pairs-fill_node-requires
 fill_pairs-fill_node-requires t c =
     let entries = c.as_slice-key-items.result.now in
     let entry = c.loop-key-item.result in
-    let within : weight (tree_of entry.1) ≤ grove (map pair_of entries) = weight_at_key entries c.loop-key.key-index entry c.loop-key-test.true c.loop-key-item.is in
-    let below : weight (tree_of entry.1) ≤ grove c.args.pairs.now = subst (λ ps. weight (tree_of entry.1) ≤ grove ps) c.as_slice-key-items.ensures.value within in
-    let falls : weight (tree_of entry.1) + weight (tree_of entry.1) < t = omega (arith, below, c.decreases) in
+    let within : node_count (tree_of entry.1) ≤ nodes_in_pairs (map pair_of entries) = weight_at_key entries c.loop-key.key-index entry c.loop-key-test.true c.loop-key-item.is in
+    let below : node_count (tree_of entry.1) ≤ nodes_in_pairs c.args.pairs.now = subst (λ ps. node_count (tree_of entry.1) ≤ nodes_in_pairs ps) c.as_slice-key-items.ensures.value within in
+    let falls : node_count (tree_of entry.1) + node_count (tree_of entry.1) < t = omega (arith, below, c.decreases) in
     (falls, tt)
 
 pub fill_pairs-push_pair-requires : goal.fill_pairs-push_pair-requires

@@ -1,5 +1,5 @@
 use Rattle.std.proofs.Common.{◌≡◌, ◌+◌, ◌++◌, map, drop}
-use Rattle.bosh_yaml.specs.Code.{weight, forest, grove}
+use Rattle.bosh_yaml.specs.Code.{node_count, nodes_in_list, nodes_in_pairs}
 use Rattle.bosh_yaml.specs.Keys.{HasDistinctKeys}
 use Rattle.bosh_yaml.specs.Tree.{fields_of, trees_of}
 use Rattle.bosh_yaml.specs.View.{pair_of, tree_of}
@@ -10,13 +10,13 @@ use Rattle.bosh_vars.proofs.filling.+fill.Given as goal
 
 -- how many nodes there are, twice, so that a list comes between the node that it is and its own nodes
 abbrev pub decreases-fill_node : goal.decreases-fill_node
-decreases-fill_node l = weight (tree_of l.node.now) + weight (tree_of l.node.now)
+decreases-fill_node l = node_count (tree_of l.node.now) + node_count (tree_of l.node.now)
 
 abbrev pub decreases-fill_items : goal.decreases-fill_items
-decreases-fill_items l = forest l.items.now + forest l.items.now + 1
+decreases-fill_items l = nodes_in_list l.items.now + nodes_in_list l.items.now + 1
 
 abbrev pub decreases-fill_pairs : goal.decreases-fill_pairs
-decreases-fill_pairs l = grove l.pairs.now + grove l.pairs.now + 1
+decreases-fill_pairs l = nodes_in_pairs l.pairs.now + nodes_in_pairs l.pairs.now + 1
 
 -- what is left, behind what is filled, fills to the whole
 abbrev pub invariant-fill_items-loop-node : goal.invariant-fill_items-loop-node

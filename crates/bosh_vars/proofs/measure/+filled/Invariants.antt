@@ -1,5 +1,5 @@
 use Rattle.std.proofs.Common.{◌≡◌, ◌+◌, map, drop}
-use Rattle.bosh_yaml.specs.Code.{weight, forest, grove}
+use Rattle.bosh_yaml.specs.Code.{node_count, nodes_in_list, nodes_in_pairs}
 use Rattle.bosh_yaml.specs.Tree.{fields_of, trees_of}
 use Rattle.bosh_yaml.specs.View.{pair_of, tree_of}
 use Rattle.bosh_vars.specs.Size.{filled_fields_size, filled_items_size}
@@ -8,13 +8,13 @@ use Rattle.bosh_vars.proofs.measure.+filled.Given as goal
 
 -- how many nodes there are, twice, so that a list comes between the node that it is and its own nodes
 abbrev pub decreases-after_filled : goal.decreases-after_filled
-decreases-after_filled l = weight (tree_of l.node.now) + weight (tree_of l.node.now)
+decreases-after_filled l = node_count (tree_of l.node.now) + node_count (tree_of l.node.now)
 
 abbrev pub decreases-after_items : goal.decreases-after_items
-decreases-after_items l = forest l.items.now + forest l.items.now + 1
+decreases-after_items l = nodes_in_list l.items.now + nodes_in_list l.items.now + 1
 
 abbrev pub decreases-after_pairs : goal.decreases-after_pairs
-decreases-after_pairs l = grove l.pairs.now + grove l.pairs.now + 1
+decreases-after_pairs l = nodes_in_pairs l.pairs.now + nodes_in_pairs l.pairs.now + 1
 
 -- what is left goes to the nodes that are left
 abbrev pub invariant-after_items-loop-node : goal.invariant-after_items-loop-node

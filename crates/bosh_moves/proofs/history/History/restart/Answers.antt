@@ -2,12 +2,12 @@ use Rattle.std.proofs.Common.{◌∙◌, ◌+◌, ◌≤◌, ap, length, Some, s
 use Rattle.bosh_base.specs.History.{chosen}
 use Rattle.bosh_base.specs.declared.moves.Cause.TheVariants as causes
 use Rattle.bosh_moves.proofs.RestartLemmas.{chosen_by, least_within, not_restarted, restarted}
-use Rattle.bosh_moves.specs.Story.{kept_by}
+use Rattle.bosh_moves.specs.Story.{kept_count}
 use Rattle.bosh_moves.proofs.history.History.restart.Goals as goal
 
 pub tell_stop-requires-clause-of : goal.tell_stop-requires-clause-of
 tell_stop-requires-clause-of c =
-    subst (λ (n : ℕ). n + kept_by (Some c.args.kept) ≤ length c.args.entries.now)
+    subst (λ (n : ℕ). n + kept_count (Some c.args.kept) ≤ length c.args.entries.now)
     (sym (ap (λ h. h.entries) c.owe.ensures))
     (least_within c.args.kept c.args.entries.now c.args.self.now.entries c.requires.there)
 

@@ -1,7 +1,7 @@
 use Rattle.std.proofs.Common.{◌≡◌, ◌∙◌, ◌++◌, ap}
 use Rattle.std.specs.Option.{option_copied, option_to_list}
 use Rattle.bosh_base.specs.declared.release.LinkSpec.{LinkSpec}
-use Rattle.bosh_lookup.specs.Table.{named}
+use Rattle.bosh_lookup.specs.Table.{first_named}
 use Rattle.bosh_ties.specs.Links.{consume_of, consumer, joint_of}
 use Rattle.bosh_ties.proofs.LinksLemmas.{filtered-more}
 use Rattle.bosh_ties.proofs.linked_jobs.ConsumerOfJob.add_of_job.Goals as goal
@@ -15,8 +15,8 @@ loop-link-preserved c =
     let gathered = λ (l : LinkSpec). consumer (joint_of c.args.dep.now c.args.group.now job l) l (consume_of job l) in
     let said : option_copied c.find.result ≡ consume_of job link =
     c.find.ensures c.as_slice.result.now c.in_ok-said.ensures
-    ∙ (ap (named (λ consume. consume.link) c.as_slice.result.now) c.as_bytes.ensures.bytes
-    ∙ ap (λ all. named (λ consume. consume.link) all link.name) (c.as_slice.ensures ∙ ap (λ j. j.consumes) c.job.ensures)) in
+    ∙ (ap (first_named (λ consume. consume.link) c.as_slice.result.now) c.as_bytes.ensures.bytes
+    ∙ ap (λ all. first_named (λ consume. consume.link) all link.name) (c.as_slice.ensures ∙ ap (λ j. j.consumes) c.job.ensures)) in
     let found : c.in_ok-consumer.field-0 ≡ gathered link =
     c.in_ok-consumer.ensures
     ∙ (ap (λ j. consumer j spot.link.now (option_copied c.find.result)) c.of-spot.ensures.joint

@@ -2,7 +2,7 @@ use Rattle.std.proofs.Common.{◌≡◌, ◌∙◌, ◌++◌, ap, filter_map, ta
 use Rattle.std.specs.Option.{option_copied, option_to_list}
 use Rattle.std.proofs.lemmas.Grind.{common_steps}
 use Rattle.bosh_base.specs.declared.release.LinkSpec.{LinkSpec}
-use Rattle.bosh_lookup.specs.Table.{named}
+use Rattle.bosh_lookup.specs.Table.{first_named}
 use Rattle.bosh_ties.specs.Links.{joint_of, provide_of, provider}
 use Rattle.bosh_ties.proofs.LinksLemmas.{filtered-more}
 use Rattle.bosh_ties.proofs.linked_jobs.ProviderOfJob.add_of_job.Goals as goal
@@ -16,8 +16,8 @@ loop-link-preserved c =
     let gathered = λ (l : LinkSpec). provider (joint_of c.args.dep.now c.args.group.now job l) l (provide_of job l) in
     let said : option_copied c.find.result ≡ provide_of job link =
     c.find.ensures c.as_slice.result.now c.in_ok-said.ensures
-    ∙ (ap (named (λ provide. provide.link) c.as_slice.result.now) c.as_bytes.ensures.bytes
-    ∙ ap (λ all. named (λ provide. provide.link) all link.name) (c.as_slice.ensures ∙ ap (λ j. j.provides) c.job.ensures)) in
+    ∙ (ap (first_named (λ provide. provide.link) c.as_slice.result.now) c.as_bytes.ensures.bytes
+    ∙ ap (λ all. first_named (λ provide. provide.link) all link.name) (c.as_slice.ensures ∙ ap (λ j. j.provides) c.job.ensures)) in
     let found : c.in_ok-provider.field-0 ≡ gathered link =
     c.in_ok-provider.ensures
     ∙ (ap (λ j. provider j spot.link.now (option_copied c.find.result)) c.of-spot.ensures.joint

@@ -6,7 +6,7 @@ use Rattle.bosh_book.specs.Faults.{IsUploadFault}
 use Rattle.bosh_ports.specs.Rigged.{faults_of}
 use Rattle.bosh_world.proofs.CallLemmas.{books_told, follows_at, new_err, new_ok, not_stopped, notes_told, refuses_told, site_stays}
 use Rattle.bosh_world.specs.Faults.{halt_of}
-use Rattle.bosh_world.specs.Steps.{bodies_of, noted_by}
+use Rattle.bosh_world.specs.Steps.{bodies_of, entries_for}
 use Rattle.bosh_world.proofs.site.Site.add_stemcell.Goals as goal
 
 pub invariant_of-self : goal.invariant_of-self
@@ -22,7 +22,7 @@ invariant_of-self g c = record {
 pub returns-clause-notes : goal.returns-clause-notes
 returns-clause-notes g c =
     notes_told g.K.Keeper.bodies g.K.Keeper.faults c.args.self.now _ c.told.result c.add_stemcell-added.result
-    c.sprung.result (λ added. noted_by added (entries.Stemcell (record { os = c.args.os.now; version = c.args.version.now })))
+    c.sprung.result (λ added. entries_for added (entries.Stemcell (record { os = c.args.os.now; version = c.args.version.now })))
     c.told.ensures.answer
     (record {
       running = c.in_ok-check_running.ensures.runs;

@@ -4,15 +4,15 @@ use Rattle.bosh_base.specs.declared.release.Release.{Release}
 use Rattle.bosh_base.specs.declared.stemcell.Stemcell.{Stemcell}
 use Rattle.bosh_records.specs.declared.records.Records.{Records}
 
-pub record Came : Type 0 where
+pub record Arrivals : Type 0 where
   pub releases : List Release
   pub stemcells : List Stemcell
   pub config : Option (List ℕ)
   pub opened : ℕ
   pub last_call : ℕ
 
-abbrev pub came : Records → Came
-came records = record {
+abbrev pub arrivals : Records → Arrivals
+arrivals records = record {
   releases = records.releases.items;
   stemcells = records.stemcells.items;
   config = records.config;
