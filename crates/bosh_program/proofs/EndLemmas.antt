@@ -1,8 +1,10 @@
 -- How a session ends, as a whole.
-use Rattle.std.proofs.Common.{◌≡◌, ℕ, Bool, List, ◌++◌, Option, Some, None, Result, Ok, Err, IfErr, OnOk, inl, inr, refl, sym, subst}
+use Rattle.std.proofs.Common.{◌≡◌, ◌∙◌, ℕ, Bool, List, [], ◌++◌, Option, Some, None, Result, Ok, Err, IfErr, OnOk, ap, drop, inl, inr, refl, sym, subst}
 use Rattle.std.specs.Prelude.{IfSome}
 use Rattle.bosh_base.specs.declared.reply.Refusal.{Refusal}
 use Rattle.bosh_handlers.specs.SiteFaults.{site_told}
+use Rattle.bosh_moves.proofs.SilentLemmas.{notes_silent}
+use Rattle.bosh_moves.specs.Replies.{replies_in}
 use Rattle.bosh_ports.specs.Faults.{Rose}
 use Rattle.bosh_ports.specs.declared.keeper.Keeper as keeper
 use Rattle.bosh_report.specs.Refusal.{refusal_line}
@@ -13,6 +15,7 @@ use Rattle.bosh_transcript.specs.Writing.{WritesFront}
 use Rattle.bosh_transcript.specs.declared.status.Status.{Status}
 use Rattle.bosh_transcript.specs.declared.status.Status.TheVariants.{Memory, Sink, Unloaded}
 use Rattle.bosh_world.specs.Loads.{IsNotSite, Loads}
+use Rattle.bosh_world.specs.Restarts.{read_count}
 use Rattle.bosh_world.specs.Silent.{moves_of}
 use Rattle.bosh_world.specs.declared.fault.SiteFault.{SiteFault}
 use Rattle.bosh_world.specs.declared.site.Site.{Site}
@@ -25,7 +28,7 @@ not_none : {A : Type 0} (it : Option A) (a : A) → it ≡ Some a → it ≡ Non
 not_none it a is none = cc
 
 if_some_at : {A : Type 0} (P : A → Type 0) (it : Option A) (a : A) → it ≡ Some a → IfSome it P → P a
-if_some_at P it a is x = subst (λ (o : Option A). IfSome o P) is x
+if_some_at {A} P it a is x = subst (λ (o : Option A). IfSome o P) is x
 
 -- a text was written whole, or the output failed
 pub text_written : {O : Type 0} (written : O → Option (List ℕ)) (faults : O → ℕ) (text : List ℕ) (o p : O)
@@ -50,6 +53,14 @@ line_written written faults fault told text o p result is line all failed front 
       subst (λ (bytes : List ℕ). IsTextWritten was bytes (written p) (faults o) (faults p)) line
       (text_written written faults text o p result all failed front was before),
 )
+
+-- a site that was loaded has told the ends of tasks, and no reply
+pub loaded_silent : {K L : Type 0} {k : keeper.Ghosts K} {l : keeper.Ghosts L}
+    (bodies : K → Option (List (List ℕ))) (faults : K → ℕ) (is_broken : K → Bool)
+    (cloud_bodies : L → Option (List (List ℕ))) (cloud_faults : L → ℕ) (store : K) (cloud : L) (site : Site K L k l) →
+    Loads bodies faults is_broken cloud_bodies cloud_faults store cloud site → replies_in (moves_of site) ≡ []
+loaded_silent bodies faults is_broken cloud_bodies cloud_faults store cloud site loads =
+    ap replies_in loads.moves_of ∙ notes_silent (drop (read_count site.book) site.book.journal.entries)
 
 -- a session over a site that was loaded
 pub plain_loaded : {I O K L : Type 0} {k : keeper.Ghosts K} {l : keeper.Ghosts L}

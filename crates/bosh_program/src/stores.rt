@@ -25,7 +25,10 @@ pub fn unmade<O: Sink>(alloc: Global, store: StoreName, out: &mut O) -> Status
     ensures { ((result ≡ statuses.Unloaded) × IsLineWritten O.written O.faults (fault_of store) out.old out.new)
         ⊎ ((result ≡ statuses.Memory) × (out.new ≡ out.old)) }
 {
-    match tell_fault(alloc, out, &fault_of(store)) {
+    let fault = fault_of(store);
+    let told = tell_fault(alloc, out, &fault);
+    drop(fault);
+    match told {
         Ok(()) => Status::Unloaded,
         Err(AnswerFault::Memory) => Status::Memory,
     }
