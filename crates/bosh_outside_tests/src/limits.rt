@@ -31,7 +31,7 @@ fn a_byte_too_many_ends_the_session(rt: HostRuntime) {
     assert!(rt; ends_so(&rt, alloc, session.as_slice(), 6, FIRST_OUTPUT));
 }
 
-// A deploy of a manifest of so many bytes.
+// A deploy of a manifest that a block keeps, of so many bytes and a line feed.
 fn deploy_of(rt: &impl Abort, alloc: Global, size: usize) -> Vec<u8> {
     let file = followed(rt, alloc, b"file m.yml\n|", b"x", size);
     followed(rt, alloc, file.as_slice(), b"\n-d dep deploy m.yml\n", 1)
@@ -42,7 +42,7 @@ fn a_file_has_at_most_a_mebibyte(rt: HostRuntime) {
     let alloc = rt.alloc();
     for (size, wanted) in [
         (1_048_575, b"error: manifest Missing name\n".as_slice()),
-        (1_048_576, b"error: yaml TooLarge\n"),
+        (1_048_576, b"error: lines TooLarge\nerror: shelf Absent\n"),
     ] {
         let session = deploy_of(&rt, alloc, size);
         assert!(rt; ends_so(&rt, alloc, session.as_slice(), 1, wanted));
