@@ -1,15 +1,18 @@
 //! A deploy of instances in eight groups.
+use crate::timed;
 use bosh_asks::{Ask, Deploy};
 use bosh_base::{Digest, Name};
 use bosh_manifest::Manifest;
 use bosh_yaml::read;
 use std::alloc::{AllocError, Global};
+use std::rt::Clock;
+use std::time::Duration;
 
 /// How many groups the instances stand in.
 const GROUPS: u32 = 8;
 
-/// How many instances there may be.
-pub const MOST: u32 = 512;
+// How many instances there may be.
+const MOST: u32 = 512;
 
 /// The text of the cloud config.
 pub const CONFIG: &str = "azs: [{name: z1}]
@@ -60,8 +63,8 @@ fn manifest_of(alloc: Global, instances: u32) -> Option<Manifest> {
     checked(alloc, &dep, text.as_str())
 }
 
-/// The task that deploys so many instances, of the stemcell `jammy`.
-pub fn ask_of(alloc: Global, instances: u32) -> Option<Ask> {
+// The task that deploys so many instances.
+fn ask_of(alloc: Global, instances: u32) -> Option<Ask> {
     let manifest = manifest_of(alloc, instances)?;
     Some(Ask::Deploy(Deploy {
         manifest,
@@ -69,4 +72,21 @@ pub fn ask_of(alloc: Global, instances: u32) -> Option<Ask> {
         fix: false,
         source: Digest([0; 32]),
     }))
+}
+
+/// How long it takes to do a task that deploys so many instances, at most 512, of the stemcell `jammy`, where that
+/// succeeds. What does it is given the task, and knows the cloud config and the stemcell or is told them first.
+pub fn time_of_deploy<F: FnOnce(&Ask) -> bool + Drop>(
+    clock: &impl Clock,
+    alloc: Global,
+    instances: u32,
+    run: F,
+) -> Option<Duration>
+    requires { F.IsAlwaysCallable run }
+{
+    if instances > MOST {
+        return None;
+    }
+    let ask = ask_of(alloc, instances)?;
+    timed(clock, &ask, run)
 }

@@ -4,5 +4,5 @@
 mod deploys;
 mod timing;
 
-pub use deploys::{CONFIG, MOST, ask_of};
-pub use timing::{both, timed, took};
+pub use deploys::{CONFIG, time_of_deploy};
+pub use timing::timed;

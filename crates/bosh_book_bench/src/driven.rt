@@ -8,6 +8,9 @@ use std::alloc::Global;
 /// How many calls a task may make.
 const MOST_CALLS: usize = 10_000;
 
+/// A book over a store in memory.
+pub(crate) type MemBook = Book<MemKeeper>;
+
 // Each call is done.
 fn answer_to(permit: &Permit) -> Answer {
     match permit.call() {
@@ -17,7 +20,7 @@ fn answer_to(permit: &Permit) -> Answer {
 }
 
 // Ends the call of a permit; where that is refused it is given up.
-fn settle(book: &mut Book<MemKeeper>, permit: Permit) -> bool {
+fn settle(book: &mut MemBook, permit: Permit) -> bool {
     let answer = answer_to(&permit);
     match book.settle(permit, answer) {
         Ok(()) => true,
@@ -26,18 +29,13 @@ fn settle(book: &mut Book<MemKeeper>, permit: Permit) -> bool {
 }
 
 // Generic, since an answer and a refusal that are let go are dear to prove.
-fn give_up<A: Drop, E: Drop>(
-    book: &mut Book<MemKeeper>,
-    permit: Permit,
-    _answer: A,
-    _fault: E,
-) -> bool {
+fn give_up<A: Drop, E: Drop>(book: &mut MemBook, permit: Permit, _answer: A, _fault: E) -> bool {
     book.abandon(permit);
     false
 }
 
 // Claims work and ends its call.
-fn work(book: &mut Book<MemKeeper>, task: u64) -> bool {
+fn work(book: &mut MemBook, task: u64) -> bool {
     match book.claim(task, 0).ok() {
         Some(Claim::Work(permit)) => settle(book, permit),
         Some(Claim::Wait) => false,
@@ -46,7 +44,7 @@ fn work(book: &mut Book<MemKeeper>, task: u64) -> bool {
     }
 }
 
-fn is_done(book: &mut Book<MemKeeper>, task: u64) -> bool {
+fn is_done(book: &mut MemBook, task: u64) -> bool {
     is_finished(book.end_task(task).ok())
 }
 
@@ -55,7 +53,7 @@ fn is_finished(end: Option<TaskEnd>) -> bool {
 }
 
 /// Whether a task is done that is carried out from its opening to its end, by claims and ends of calls alone.
-pub(crate) fn is_driven(book: &mut Book<MemKeeper>, ask: &Ask) -> bool {
+pub(crate) fn is_driven(book: &mut MemBook, ask: &Ask) -> bool {
     let Some(task) = book.begin_task(ask).ok() else {
         return false;
     };
@@ -68,16 +66,16 @@ pub(crate) fn is_driven(book: &mut Book<MemKeeper>, ask: &Ask) -> bool {
 }
 
 /// A new book.
-pub(crate) fn new_book(alloc: Global) -> Option<Book<MemKeeper>> {
+pub(crate) fn new_book(alloc: Global) -> Option<MemBook> {
     Book::load(alloc, MemKeeper::new(alloc)).ok()
 }
 
-fn is_told_of(book: &mut Book<MemKeeper>, os: &Name) -> bool {
+fn is_told_of(book: &mut MemBook, os: &Name) -> bool {
     book.set_config(CONFIG.as_bytes()).ok().is_some() && book.add_stemcell(os, b"1").ok().is_some()
 }
 
 /// Whether the book knows the cloud config and the stemcell now.
-pub(crate) fn is_told(book: &mut Book<MemKeeper>, alloc: Global) -> bool {
+pub(crate) fn is_told(book: &mut MemBook, alloc: Global) -> bool {
     match Name::of(alloc, b"jammy").ok() {
         Some(os) => is_told_of(book, &os),
         None => false,

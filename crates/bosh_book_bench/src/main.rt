@@ -5,12 +5,11 @@
 
 mod driven;
 
-use crate::driven::{is_driven, is_told, new_book};
+use crate::driven::{MemBook, is_driven, is_told, new_book};
 use bosh_base::Entry;
-use bosh_bench_deploys::{MOST, ask_of, both, timed, took};
-use bosh_book::{Ask, Book};
+use bosh_bench_deploys::{time_of_deploy, timed};
+use bosh_book::Ask;
 use bosh_fold::apply;
-use bosh_ports::MemKeeper;
 use bosh_records::Records;
 use std::alloc::Global;
 use std::process::ExitCode;
@@ -33,37 +32,48 @@ fn form_of(word: &str) -> Option<Form> {
     }
 }
 
-fn time_for(clock: &impl Clock, alloc: Global, form: Form, count: u32) -> Option<Duration> {
-    if count > MOST {
-        return None;
+// The book is taken apart at the end, since to let one go as a whole is dear to prove.
+fn time_for(clock: &impl Clock, alloc: Global, form: Form, instances: u32) -> Option<Duration> {
+    match new_book(alloc) {
+        Some(mut book) => {
+            let took = time_on(&mut book, clock, alloc, form, instances);
+            let _store = book.into_store();
+            took
+        }
+        None => None,
     }
+}
+
+fn time_on(
+    book: &mut MemBook,
+    clock: &impl Clock,
+    alloc: Global,
+    form: Form,
+    instances: u32,
+) -> Option<Duration> {
+    let drive = time_of_drive(book, clock, alloc, instances)?;
     match form {
-        Form::Drive => took(drive(clock, alloc, count)),
-        Form::Fold => took(fold(clock, alloc, count)),
+        Form::Drive => Some(drive),
+        Form::Fold => timed(clock, book, |book: &MemBook| folds(alloc, book.entries())),
     }
 }
 
-/// A book, and what it is asked.
-type Asked = (Book<MemKeeper>, Ask);
-
-// Generic, since a book is dear to prove where it is let go.
-fn untimed<T: Drop>(timed: Option<(T, Duration)>) -> Option<T> {
-    let (value, _took) = timed?;
-    Some(value)
+fn time_of_drive(
+    book: &mut MemBook,
+    clock: &impl Clock,
+    alloc: Global,
+    instances: u32,
+) -> Option<Duration> {
+    time_of_deploy(
+        clock,
+        alloc,
+        instances,
+        |ask: &Ask| is_done(book, alloc, ask),
+    )
 }
 
-fn drive(clock: &impl Clock, alloc: Global, count: u32) -> Option<(Asked, Duration)> {
-    let asked = both(new_book(alloc), ask_of(alloc, count));
-    timed(clock, asked, |it: &mut Asked| is_done(it, alloc))
-}
-
-fn is_done(asked: &mut Asked, alloc: Global) -> bool {
-    is_told(&mut asked.0, alloc) && is_driven(&mut asked.0, &asked.1)
-}
-
-fn fold(clock: &impl Clock, alloc: Global, count: u32) -> Option<(Asked, Duration)> {
-    let driven = untimed(drive(clock, alloc, count));
-    timed(clock, driven, |it: &mut Asked| folds(alloc, it.0.entries()))
+fn is_done(book: &mut MemBook, alloc: Global, ask: &Ask) -> bool {
+    is_told(book, alloc) && is_driven(book, ask)
 }
 
 fn folds(alloc: Global, entries: &[Entry]) -> bool {

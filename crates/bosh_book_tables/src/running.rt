@@ -123,6 +123,11 @@ impl Running {
         give_up(&mut book, third);
         book
     }
+
+    /// The store of the book, once each permit is given up.
+    pub(crate) fn into_store(self) -> Store {
+        self.into_book().into_store()
+    }
 }
 
 fn give_up(book: &mut Book<Store>, permit: Option<Permit>) {

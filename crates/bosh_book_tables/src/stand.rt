@@ -9,7 +9,6 @@ use bosh_book_texts::{Told, push_entries, push_permit};
 use bosh_case_texts::push_count;
 use bosh_cases::{CaseFault, Outcome, push_parts};
 use bosh_cloud::SimCloud;
-use bosh_owned::after;
 use bosh_ports::MemKeeper;
 use bosh_yaml::Node;
 use itoa::Buffer;
@@ -205,7 +204,7 @@ impl Stand {
 
     fn take_store(&mut self) -> Result<Store, CaseFault> {
         match self.running.take() {
-            Some(running) => Ok(running.into_book().into_store()),
+            Some(running) => Ok(running.into_store()),
             None => Err(CaseFault::Form),
         }
     }
@@ -226,7 +225,7 @@ impl Stand {
     // Goes on with a book.
     fn set(&mut self, book: Book<Store>) {
         match self.running.replace(Running::of(book)) {
-            Some(old) => drop(old.into_book()),
+            Some(old) => drop(old.into_store()),
             None => {}
         }
     }
@@ -284,11 +283,10 @@ impl Stand {
             cloud,
             told,
         } = self;
-        let book = match running {
-            Some(running) => Some(running.into_book()),
-            None => None,
-        };
-        after(cloud, finished(alloc, told, taken, book))
+        let outcome = finished(alloc, told, taken, running.as_ref());
+        close_book(running);
+        close_cloud(cloud);
+        outcome
     }
 }
 
@@ -296,13 +294,28 @@ fn finished(
     alloc: Global,
     told: Vec<u8>,
     taken: Result<(), CaseFault>,
-    book: Option<Book<Store>>,
+    running: Option<&Running>,
 ) -> Result<Outcome, CaseFault> {
-    let outcome = match taken {
-        Ok(()) => outcome(alloc, told, book.as_ref()),
+    match taken {
+        Ok(()) => outcome(alloc, told, running),
         Err(fault) => Err(fault),
-    };
-    after(book, outcome)
+    }
+}
+
+// A book is taken apart, since to let one go as a whole is dear to prove.
+fn close_book(running: Option<Running>) {
+    match running {
+        Some(running) => drop(running.into_store()),
+        None => {}
+    }
+}
+
+// So is a cloud.
+fn close_cloud(cloud: Option<SimCloud<MemKeeper>>) {
+    match cloud {
+        Some(cloud) => drop(cloud.into_store()),
+        None => {}
+    }
 }
 
 // Without the store, which is given back. Generic, as it is let go.
@@ -335,11 +348,11 @@ fn push_book(alloc: Global, text: &mut Vec<u8>, book: &Book<Store>) -> Result<()
     push_refused(text, first_refused(alloc, book.entries())?)
 }
 
-fn outcome(alloc: Global, told: Vec<u8>, book: Option<&Book<Store>>) -> Result<Outcome, CaseFault> {
+fn outcome(alloc: Global, told: Vec<u8>, running: Option<&Running>) -> Result<Outcome, CaseFault> {
     let mut text = told;
     text.push(b'\n')?;
-    if let Some(book) = book {
-        push_book(alloc, &mut text, book)?;
+    if let Some(running) = running {
+        push_book(alloc, &mut text, &running.book)?;
     }
     Ok(Outcome::bytes(text))
 }

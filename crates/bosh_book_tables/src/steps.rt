@@ -3,7 +3,7 @@ use crate::stand::Stand;
 use bosh_base::{Answer, Name, Text};
 use bosh_book::Ask;
 use bosh_book_texts::Opened;
-use bosh_book_words::{Steps, asked, deploy, over, with};
+use bosh_book_words::{Steps, Tasks, begin_in_map, begin_in_words, claim_in_words, over};
 use bosh_case_files::release;
 use bosh_case_words::{Worded, number, word};
 use bosh_cases::{CaseFault, Given, characters};
@@ -11,11 +11,6 @@ use bosh_entry_words::entry;
 use bosh_ports::Rig;
 use bosh_yaml::Node;
 use std::str::SplitWhitespace;
-
-fn begin(stand: &mut Stand, ask: &Ask) -> Result<(), CaseFault> {
-    let task = stand.book()?.begin_task(ask);
-    stand.tell_answer(task.map(Opened))
-}
 
 // As `stemcell jammy 1.1`.
 fn stemcell_step(stand: &mut Stand, words: &mut SplitWhitespace<'_>) -> Result<(), CaseFault> {
@@ -25,31 +20,19 @@ fn stemcell_step(stand: &mut Stand, words: &mut SplitWhitespace<'_>) -> Result<(
     stand.tell_answer(added)
 }
 
-// As `claim 1` or `claim 1 by 2`.
-fn claim_step(stand: &mut Stand, words: &mut SplitWhitespace<'_>) -> Result<(), CaseFault> {
-    let task = number(words)?;
-    match words.next() {
-        None => stand.claim(task, 0),
-        Some(_) => match u8::try_from(number(words)?) {
-            Ok(worker) => stand.claim(task, worker),
-            Err(_) => Err(CaseFault::Form),
-        },
-    }
-}
-
 // As `settle 3 cid 1`.
 fn settle_step(stand: &mut Stand, words: &mut SplitWhitespace<'_>) -> Result<(), CaseFault> {
     let n = number(words)?;
-    let answer = Answer::of(stand.alloc(), words);
-    with(stand, answer, |stand, answer| stand.settle(n, answer))
+    let answer = Answer::of(stand.alloc(), words)?;
+    stand.settle(n, answer)
 }
 
 // As `state 3 running drained`: the machine has the spec that is wanted of its instance.
 fn state_step(stand: &mut Stand, words: &mut SplitWhitespace<'_>) -> Result<(), CaseFault> {
     let n = number(words)?;
     let (running, drained) = (words.next(), words.next());
-    let answer = stand.facts(n, running.is_some(), drained.is_some());
-    with(stand, answer, |stand, answer| stand.settle(n, answer))
+    let answer = stand.facts(n, running.is_some(), drained.is_some())?;
+    stand.settle(n, answer)
 }
 
 // As `spoil 3`: the store has a body of no entry at a place, and is loaded.
@@ -85,28 +68,11 @@ fn entry_step(stand: &mut Stand, text: &str) -> Result<(), CaseFault> {
     over(stand, entry, |stand, entry| stand.ask(entry))
 }
 
-// A task is asked for.
-fn ask_step(
-    stand: &mut Stand,
-    verb: &str,
-    words: &mut SplitWhitespace<'_>,
-) -> Result<(), CaseFault> {
-    let ask = asked(stand.alloc(), verb, words);
-    over(
-        stand,
-        ask,
-        |stand: &mut Stand, ask: &Option<Ask>| match ask {
-            Some(ask) => begin(stand, ask),
-            None => Err(CaseFault::Form),
-        },
-    )
-}
-
 fn take_words(stand: &mut Stand, text: &str) -> Result<(), CaseFault> {
     let mut words = text.split_whitespace();
     match word(&mut words)? {
         "stemcell" => stemcell_step(stand, &mut words),
-        "claim" => claim_step(stand, &mut words),
+        "claim" => claim_in_words(stand, &mut words),
         "settle" => settle_step(stand, &mut words),
         "state" => state_step(stand, &mut words),
         "spoil" => spoil_step(stand, &mut words),
@@ -119,7 +85,7 @@ fn take_words(stand: &mut Stand, text: &str) -> Result<(), CaseFault> {
         "rig" => rig_step(stand, &mut words),
         "fold" => stand.fold_again(),
         "begin_at" => stand.begin_at(number(&mut words)?),
-        verb => ask_step(stand, verb, &mut words),
+        verb => begin_in_words(stand.alloc(), stand, verb, &mut words),
     }
 }
 
@@ -129,6 +95,13 @@ fn config_step(stand: &mut Stand, file: Result<Text, CaseFault>) -> Result<(), C
     stand.tell_answer(done)
 }
 
+fn release_step(stand: &mut Stand, folder: &Node) -> Result<(), CaseFault> {
+    let alloc = stand.alloc();
+    let book = stand.book()?;
+    let added = book.upload(release(alloc, folder)?);
+    stand.tell_answer(added)
+}
+
 // `{"config": TEXT}`, `{"release": ..}`, `{"asked": ENTRY}`, `{"version": ENTRIES}` or `{"deploy": ..}`.
 fn take_map(stand: &mut Stand, node: &Node) -> Result<(), CaseFault> {
     let alloc = stand.alloc();
@@ -136,10 +109,7 @@ fn take_map(stand: &mut Stand, node: &Node) -> Result<(), CaseFault> {
         return config_step(stand, Text::of(alloc, file));
     }
     if let Some(folder) = node.find(b"release") {
-        return with(stand, release(alloc, folder), |stand, release| {
-            let added = stand.book()?.upload(release);
-            stand.tell_answer(added)
-        });
+        return release_step(stand, folder);
     }
     if let Some(Node::Text(text)) = node.find(b"asked") {
         return entry_step(stand, characters(text)?);
@@ -147,10 +117,7 @@ fn take_map(stand: &mut Stand, node: &Node) -> Result<(), CaseFault> {
     if let Some(Node::List(parts)) = node.find(b"version") {
         return stand.ask_version(parts.as_slice());
     }
-    match node.find(b"deploy") {
-        Some(_) => over(stand, deploy(alloc, node), begin),
-        None => Err(CaseFault::Form),
-    }
+    begin_in_map(alloc, stand, node)
 }
 
 impl Steps for Stand {
@@ -164,5 +131,16 @@ impl Steps for Stand {
 
     fn end_step(&mut self) -> Result<(), CaseFault> {
         Ok(())
+    }
+}
+
+impl Tasks for Stand {
+    fn begin(&mut self, ask: &Ask) -> Result<(), CaseFault> {
+        let task = self.book()?.begin_task(ask);
+        self.tell_answer(task.map(Opened))
+    }
+
+    fn claim(&mut self, task: u64, worker: u8) -> Result<(), CaseFault> {
+        self.claim(task, worker)
     }
 }

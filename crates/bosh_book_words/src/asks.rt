@@ -13,8 +13,8 @@ fn flag(node: &Node, key: &[u8]) -> bool {
     matches!(node.find(key), Some(Node::Bool(true)))
 }
 
-/// `{"deploy": MANIFEST, "dep": NAME, "recreate": true, "fix": true}`, the last two only where they are asked for.
-pub fn deploy(alloc: Global, node: &Node) -> Result<Ask, CaseFault> {
+// As `{"deploy": MANIFEST, "dep": NAME, "recreate": true, "fix": true}`.
+pub(crate) fn deploy(alloc: Global, node: &Node) -> Result<Ask, CaseFault> {
     let given: Result<(Name, Text), CaseFault> = both(
         field(alloc, node, "dep"),
         field(alloc, node, "deploy"),
@@ -36,8 +36,8 @@ fn halt(alloc: Global, words: &mut SplitWhitespace<'_>, hard: bool) -> Result<As
     })
 }
 
-/// What a word asks for, with what it names; nothing where it is no word of an ask.
-pub fn asked(
+// What a word asks for, with what it names; nothing where it is no word of an ask.
+pub(crate) fn asked(
     alloc: Global,
     verb: &str,
     words: &mut SplitWhitespace<'_>,

@@ -6,7 +6,8 @@ mod places;
 mod steps;
 mod words;
 
-pub use asks::{asked, deploy};
 pub use places::Places;
-pub use steps::{Steps, over, take_steps, with};
+pub use steps::{
+    Steps, Tasks, begin_in_map, begin_in_words, claim_in_words, over, take_steps, worker_of,
+};
 pub use words::{next, written};

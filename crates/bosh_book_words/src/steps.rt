@@ -1,6 +1,11 @@
 //! Steps that are taken with what a case gives.
+use crate::asks::{asked, deploy};
+use bosh_asks::Ask;
+use bosh_case_words::number;
 use bosh_cases::{CaseFault, characters};
 use bosh_yaml::Node;
+use std::alloc::Global;
+use std::str::SplitWhitespace;
 
 /// What takes the steps of a case.
 pub trait Steps {
@@ -12,6 +17,15 @@ pub trait Steps {
 
     /// A step was taken.
     fn end_step(&mut self) -> Result<(), CaseFault>;
+}
+
+/// What opens tasks and gives their work.
+pub trait Tasks {
+    /// Opens a task.
+    fn begin(&mut self, ask: &Ask) -> Result<(), CaseFault>;
+
+    /// Claims work of a task for a worker.
+    fn claim(&mut self, task: u64, worker: u8) -> Result<(), CaseFault>;
 }
 
 fn take_named<S: Steps>(stand: &mut S, setting: &Node, text: &str) -> Result<(), CaseFault> {
@@ -44,18 +58,46 @@ pub fn take_steps<S: Steps>(stand: &mut S, setting: &Node, given: &Node) -> Resu
     Ok(())
 }
 
-/// Takes a step with what is given. It is generic, since what is given is let go after it, which is dear to prove where it
-/// has many kinds.
-pub fn with<S, T: Drop, F: FnOnce(&mut S, T) -> Result<(), CaseFault> + Drop>(
-    stand: &mut S,
-    given: Result<T, CaseFault>,
-    step: F,
-) -> Result<(), CaseFault>
-    requires { F.IsAlwaysCallable step }
-{
-    match given {
-        Ok(given) => step(stand, given),
-        Err(fault) => Err(fault),
+/// Opens the task that words ask for, as `recreate dep/web/0`. What is asked is let go here, and not where steps are taken,
+/// since that is dear to prove.
+pub fn begin_in_words<T: Tasks>(
+    alloc: Global,
+    stand: &mut T,
+    verb: &str,
+    words: &mut SplitWhitespace<'_>,
+) -> Result<(), CaseFault> {
+    match asked(alloc, verb, words)? {
+        Some(ask) => stand.begin(&ask),
+        None => Err(CaseFault::Form),
+    }
+}
+
+/// Opens the task that a map asks for: `{"deploy": MANIFEST, "dep": NAME, "recreate": true, "fix": true}`, the last two
+/// only where they are asked for.
+pub fn begin_in_map<T: Tasks>(alloc: Global, stand: &mut T, node: &Node) -> Result<(), CaseFault> {
+    match node.find(b"deploy") {
+        Some(_) => stand.begin(&deploy(alloc, node)?),
+        None => Err(CaseFault::Form),
+    }
+}
+
+/// The number of a worker.
+pub fn worker_of(number: u64) -> Result<u8, CaseFault> {
+    match u8::try_from(number) {
+        Ok(worker) => Ok(worker),
+        Err(_) => Err(CaseFault::Form),
+    }
+}
+
+/// Claims work as words say: `1`, a task, for worker 0, or `1 by 2`.
+pub fn claim_in_words<T: Tasks>(
+    stand: &mut T,
+    words: &mut SplitWhitespace<'_>,
+) -> Result<(), CaseFault> {
+    let task = number(words)?;
+    match words.next() {
+        None => stand.claim(task, 0),
+        Some(_) => stand.claim(task, worker_of(number(words)?)?),
     }
 }
 

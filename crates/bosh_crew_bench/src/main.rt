@@ -3,7 +3,7 @@
 #![tactic(auto)]
 
 use bosh_base::{Name, TaskEnd};
-use bosh_bench_deploys::{CONFIG, MOST, ask_of, both, timed, took};
+use bosh_bench_deploys::{CONFIG, time_of_deploy};
 use bosh_book::Ask;
 use bosh_crew::drive;
 use bosh_ports::MemKeeper;
@@ -52,16 +52,34 @@ fn is_driven(site: &mut MemSite, ask: &Ask) -> bool {
     is_carried_out(site, task) && is_ended(site, task)
 }
 
-fn is_done(asked: &mut (MemSite, Ask), alloc: Global) -> bool {
-    is_told(&mut asked.0, alloc) && is_driven(&mut asked.0, &asked.1)
+fn is_done(site: &mut MemSite, alloc: Global, ask: &Ask) -> bool {
+    is_told(site, alloc) && is_driven(site, ask)
 }
 
-fn time_for(clock: &impl Clock, alloc: Global, count: u32) -> Option<Duration> {
-    if count > MOST {
-        return None;
+fn time_on(
+    site: &mut MemSite,
+    clock: &impl Clock,
+    alloc: Global,
+    instances: u32,
+) -> Option<Duration> {
+    time_of_deploy(
+        clock,
+        alloc,
+        instances,
+        |ask: &Ask| is_done(site, alloc, ask),
+    )
+}
+
+// The site is taken apart at the end, since to let one go as a whole is dear to prove.
+fn time_for(clock: &impl Clock, alloc: Global, instances: u32) -> Option<Duration> {
+    match new_site(alloc) {
+        Some(mut site) => {
+            let took = time_on(&mut site, clock, alloc, instances);
+            let _stores = site.into_stores();
+            took
+        }
+        None => None,
     }
-    let asked = both(new_site(alloc), ask_of(alloc, count));
-    took(timed(clock, asked, |it: &mut (MemSite, Ask)| is_done(it, alloc)))
 }
 
 fn main(rt: HostRuntime) -> io::Result<ExitCode> {

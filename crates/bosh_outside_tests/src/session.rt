@@ -49,5 +49,5 @@ pub(crate) fn run_session(
         &OpenGate,
     );
     let written = sink.written().to_vec(alloc).expect(rt, "memory");
-    (ended.status.code(), written)
+    (ended.close().code(), written)
 }

@@ -16,14 +16,38 @@ use bosh_transcript::{Status, write_all};
 use bosh_world::{Site, SiteFault, Unloaded};
 use std::alloc::Global;
 
-/// How a session ended, and what it leaves.
-#[derive(Drop)]
+/// How a session ended, and what it leaves. `close` lets that go.
 pub struct Ended<K: Keeper, L: Keeper> {
     pub status: Status,
     /// The site as the session left it, where it was loaded.
     pub site: Option<Site<K, L>>,
     /// The keepers that were not loaded, with status `Unloaded`.
     pub refused: Option<Unloaded<K, L>>,
+}
+
+impl<K: Keeper + Drop, L: Keeper + Drop> Ended<K, L> {
+    /// How the session ended, for a caller that wants nothing of what it leaves.
+    pub fn close(self) -> Status
+        ensures { result ≡ self.status }
+    {
+        let Ended {
+            status,
+            site,
+            refused: _refused,
+        } = self;
+        close_site(site);
+        status
+    }
+}
+
+// A site is taken apart, since to let one go as a whole is dear to prove.
+fn close_site<K: Keeper + Drop, L: Keeper + Drop>(site: Option<Site<K, L>>) {
+    match site {
+        Some(site) => {
+            let _stores = site.into_stores();
+        }
+        None => {}
+    }
 }
 
 /// Carries out the commands of an input, one after the other, over two keepers, and writes what each is answered.

@@ -134,6 +134,11 @@ impl Running {
         } = self;
         give_up_held(give_up(site, permits), held)
     }
+
+    /// Gives each call up, and lets the site go. It is taken apart, since to let one go as a whole is dear to prove.
+    pub fn close(self) {
+        let _stores = self.into_site().into_stores();
+    }
 }
 
 fn give_up(site: MemSite, permits: Places<Permit>) -> MemSite {

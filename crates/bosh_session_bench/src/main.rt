@@ -20,7 +20,7 @@ fn session(rt: &HostRuntime) -> Status {
         MemKeeper::new(alloc),
         MemKeeper::new(alloc),
     )
-    .status
+    .close()
 }
 
 fn main(rt: HostRuntime) -> ExitCode {

@@ -4,7 +4,6 @@ use bosh_base::Inst;
 use bosh_book_texts::{Told, push_answer, push_permit};
 use bosh_cases::{CaseFault, push_parts};
 use bosh_crew::drive;
-use bosh_owned::let_go;
 use bosh_ports::Rig;
 use bosh_running_sites::{
     Claimed, Harm, MemSite, Running, do_harm, harmed, load, new_site, rig, work,
@@ -54,7 +53,7 @@ impl Stand {
             moves: _,
         } = self;
         match running {
-            Some(running) => let_go(running.into_site()),
+            Some(running) => running.close(),
             None => {}
         }
     }
@@ -248,7 +247,7 @@ impl Stand {
     // Goes on with a site.
     fn set(&mut self, site: MemSite) {
         match self.running.replace(Running::of(site)) {
-            Some(old) => let_go(old.into_site()),
+            Some(old) => old.close(),
             None => {}
         }
     }

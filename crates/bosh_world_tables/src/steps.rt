@@ -3,7 +3,9 @@ use crate::stand::Stand;
 use bosh_base::{Inst, Name, Reply, Text};
 use bosh_book::Ask;
 use bosh_book_texts::Opened;
-use bosh_book_words::{Steps, asked, deploy, next, over, with};
+use bosh_book_words::{
+    Steps, Tasks, begin_in_map, begin_in_words, claim_in_words, next, worker_of,
+};
 use bosh_case_files::release;
 use bosh_case_words::{number, number_of, word};
 use bosh_cases::{CaseFault, Given, field};
@@ -13,11 +15,6 @@ use bosh_site_words::trap;
 use bosh_yaml::Node;
 use std::alloc::Global;
 use std::str::SplitWhitespace;
-
-fn begin(stand: &mut Stand, ask: &Ask) -> Result<(), CaseFault> {
-    let task = stand.site()?.begin_task(ask);
-    stand.tell_answer(task.map(Opened))
-}
 
 // As `stemcell jammy 1.1`.
 fn stemcell_step(stand: &mut Stand, words: &mut SplitWhitespace<'_>) -> Result<(), CaseFault> {
@@ -31,22 +28,6 @@ fn config_step(stand: &mut Stand, file: Result<Text, CaseFault>) -> Result<(), C
     let file = file?;
     let done = stand.site()?.set_config(file.as_slice());
     stand.tell_answer(done)
-}
-
-fn worker_of(number: u64) -> Result<u8, CaseFault> {
-    match u8::try_from(number) {
-        Ok(worker) => Ok(worker),
-        Err(_) => Err(CaseFault::Form),
-    }
-}
-
-// As `claim 1` or `claim 1 by 2`.
-fn claim_step(stand: &mut Stand, words: &mut SplitWhitespace<'_>) -> Result<(), CaseFault> {
-    let task = number(words)?;
-    match words.next() {
-        None => stand.claim(task, 0),
-        Some(_) => stand.claim(task, worker_of(number(words)?)?),
-    }
 }
 
 fn tasks_of(alloc: Global, words: &mut SplitWhitespace<'_>) -> Result<Vec<u64>, CaseFault> {
@@ -136,24 +117,8 @@ fn trap_step(
     let trap = trap(stand.alloc(), verb, words)?;
     match trap {
         Some(trap) => stand.arm(trap),
-        None => ask_step(stand, verb, words),
+        None => begin_in_words(stand.alloc(), stand, verb, words),
     }
-}
-
-fn ask_step(
-    stand: &mut Stand,
-    verb: &str,
-    words: &mut SplitWhitespace<'_>,
-) -> Result<(), CaseFault> {
-    let ask = asked(stand.alloc(), verb, words);
-    over(
-        stand,
-        ask,
-        |stand: &mut Stand, ask: &Option<Ask>| match ask {
-            Some(ask) => begin(stand, ask),
-            None => Err(CaseFault::Form),
-        },
-    )
 }
 
 // What stops and starts the director, or changes the stores.
@@ -180,7 +145,7 @@ fn take_words(stand: &mut Stand, text: &str) -> Result<(), CaseFault> {
     let mut words = text.split_whitespace();
     match word(&mut words)? {
         "stemcell" => stemcell_step(stand, &mut words),
-        "claim" => claim_step(stand, &mut words),
+        "claim" => claim_in_words(stand, &mut words),
         "perform" => stand.perform(number(&mut words)?),
         "settle" => stand.settle(number(&mut words)?),
         "abandon" => stand.abandon(number(&mut words)?),
@@ -197,22 +162,20 @@ fn end_step(stand: &mut Stand, task: u64) -> Result<(), CaseFault> {
 }
 
 fn release_step(stand: &mut Stand, folder: &Node) -> Result<(), CaseFault> {
-    let release = release(stand.alloc(), folder);
-    with(stand, release, |stand: &mut Stand, release| {
-        let added = stand.site()?.upload(release);
-        stand.tell_answer(added)
-    })
+    let alloc = stand.alloc();
+    let site = stand.site()?;
+    let added = site.upload(release(alloc, folder)?);
+    stand.tell_answer(added)
 }
 
 // `{"say": COMMAND, "reply": REPLY}`.
 fn say_step(stand: &mut Stand, node: &Node) -> Result<(), CaseFault> {
     let alloc = stand.alloc();
     let command: u32 = field(alloc, node, "say")?;
-    let reply: Result<Reply, CaseFault> = field(alloc, node, "reply");
-    with(stand, reply, |stand: &mut Stand, reply| {
-        let said = stand.site()?.say(command, reply);
-        stand.tell_answer(said)
-    })
+    let site = stand.site()?;
+    let reply: Reply = field(alloc, node, "reply")?;
+    let said = site.say(command, reply);
+    stand.tell_answer(said)
 }
 
 // `{"config": TEXT}`, `{"release": ..}`, `{"say": .., "reply": ..}` or `{"deploy": ..}`.
@@ -227,10 +190,7 @@ fn take_map(stand: &mut Stand, node: &Node) -> Result<(), CaseFault> {
     if let Some(_) = node.find(b"say") {
         return say_step(stand, node);
     }
-    match node.find(b"deploy") {
-        Some(_) => over(stand, deploy(alloc, node), begin),
-        None => Err(CaseFault::Form),
-    }
+    begin_in_map(alloc, stand, node)
 }
 
 /// Of each step is told on a line what was answered and which moves it made.
@@ -245,5 +205,16 @@ impl Steps for Stand {
 
     fn end_step(&mut self) -> Result<(), CaseFault> {
         self.tell_moves()
+    }
+}
+
+impl Tasks for Stand {
+    fn begin(&mut self, ask: &Ask) -> Result<(), CaseFault> {
+        let task = self.site()?.begin_task(ask);
+        self.tell_answer(task.map(Opened))
+    }
+
+    fn claim(&mut self, task: u64, worker: u8) -> Result<(), CaseFault> {
+        self.claim(task, worker)
     }
 }

@@ -93,7 +93,7 @@ fn session<S: Alter + Drop, T: Alter + Drop>(
         cloud,
         &OpenGate,
     )
-    .status
+    .close()
 }
 
 fn main(rt: HostRuntime) -> ExitCode {
