@@ -1,6 +1,8 @@
 -- How tasks that have ended are told (this project's profile).
 use Rattle.std.specs.Prelude.{ℕ, codes, Option}
 use Rattle.std.specs.Option.{option_and_then}
+use Rattle.bosh_base.specs.declared.moves.Cause.{Cause}
+use Rattle.bosh_base.specs.declared.moves.Cause.TheVariants as causes
 use Rattle.bosh_base.specs.declared.reply.Reply.{Reply}
 use Rattle.bosh_base.specs.declared.reply.Reply.TheVariants.{Refused, TaskFailed, TaskFinished, TaskGone}
 use Rattle.bosh_base.specs.declared.task.TaskEnd.{TaskEnd}
@@ -22,3 +24,9 @@ told_end task ends.Finished = TaskFinished task
 told_end task ends.Interrupted = stopped_reply
 told_end task (ends.Fault n method owner) = TaskFailed (record { task = task; n = n; method = method; owner = owner })
 told_end task (ends.Gone n method owner) = TaskGone (record { task = task; n = n; method = method; owner = owner })
+
+-- how a halt is told of a task that it left without an end
+abbrev pub told_halt : Cause → Reply
+told_halt causes.Stop = stopped_reply
+told_halt causes.Store = Refused (bare_refusal (codes "book") (codes "StoreFault"))
+told_halt causes.CloudStore = Refused (bare_refusal (codes "world") (codes "CloudStore"))

@@ -3,7 +3,7 @@ ghost use Rattle.bosh_answers.specs.Texts.{text_told};
 ghost use Rattle.bosh_answers.specs.declared.text_fault.TextFault.TheVariants.{Memory, Unfilled, Unfit, Unread};
 
 use bosh_base::Refusal;
-use bosh_manifest::ManFault;
+use bosh_manifest::ManifestFault;
 use bosh_refusals::Refuses;
 use bosh_report::ReportFault;
 use bosh_vars::VarsFault;
@@ -18,7 +18,7 @@ pub enum TextFault {
     /// A placeholder of it has no value that can stand there.
     Unfilled(VarsFault),
     /// It is not a manifest of the deployment.
-    Unfit(ManFault),
+    Unfit(ManifestFault),
     Memory,
 }
 
@@ -51,10 +51,10 @@ impl From<VarsFault> for TextFault {
     }
 }
 
-impl From<ManFault> for TextFault {
+impl From<ManifestFault> for TextFault {
     ghost from_gives = { λ given fault. fault ≡ Unfit given };
 
-    fn from(fault: ManFault) -> Self {
+    fn from(fault: ManifestFault) -> Self {
         TextFault::Unfit(fault)
     }
 }

@@ -10,9 +10,9 @@ use Rattle.bosh_cloudcfg.specs.declared.config.Config.{Config}
 use Rattle.bosh_goal.specs.Anew.{anew}
 use Rattle.bosh_goal.specs.Goal.{IsGoal}
 use Rattle.bosh_goal.specs.declared.change.Change.{Change}
-use Rattle.bosh_uses.specs.Answer.{IsAnswer}
-use Rattle.bosh_uses.specs.declared.fault.GoalFault.{GoalFault}
-use Rattle.bosh_uses.specs.declared.fault.GoalFault.TheVariants as goals
+use Rattle.bosh_manifest_names.specs.Answer.{IsAnswer}
+use Rattle.bosh_manifest_names.specs.declared.fault.GoalFault.{GoalFault}
+use Rattle.bosh_manifest_names.specs.declared.fault.GoalFault.TheVariants as goals
 use Rattle.bosh_asks.specs.Faults.{answered, of_goal}
 use Rattle.bosh_asks.proofs.GoalLemmas.{given_dep}
 use Rattle.bosh_asks.specs.Changed.{is_in}

@@ -11,10 +11,10 @@ use Rattle.bosh_goal.specs.Goal.{addresses, goal_with, slots_and_rows}
 use Rattle.bosh_manifest.specs.declared.manifest.Contents.{Contents}
 use Rattle.bosh_offers.specs.Sited.{sites}
 use Rattle.bosh_ties.specs.Links.{ties}
-use Rattle.bosh_uses.specs.Answer.{◌>>=◌, or_fault}
-use Rattle.bosh_uses.specs.Uses.{uses}
-use Rattle.bosh_uses.specs.declared.fault.GoalFault.{GoalFault}
-use Rattle.bosh_uses.specs.declared.fault.GoalFault.TheVariants.{NoConfig}
+use Rattle.bosh_manifest_names.specs.Answer.{◌>>=◌, or_fault}
+use Rattle.bosh_manifest_names.specs.Uses.{uses}
+use Rattle.bosh_manifest_names.specs.declared.fault.GoalFault.{GoalFault}
+use Rattle.bosh_manifest_names.specs.declared.fault.GoalFault.TheVariants.{NoConfig}
 use Rattle.bosh_asks.specs.Goals.{Gives}
 use Rattle.bosh_asks.specs.declared.ask.Deploy.{Deploy}
 

@@ -16,8 +16,8 @@ use Rattle.bosh_records.specs.declared.records.Records.{Records}
 use Rattle.bosh_goal.specs.Anew.{anew}
 use Rattle.bosh_goal.specs.Goal.{IsGoal}
 use Rattle.bosh_goal.specs.declared.change.Change.{Change}
-use Rattle.bosh_uses.specs.Answer.{IsAnswer}
-use Rattle.bosh_uses.specs.declared.fault.GoalFault.{GoalFault}
+use Rattle.bosh_manifest_names.specs.Answer.{IsAnswer}
+use Rattle.bosh_manifest_names.specs.declared.fault.GoalFault.{GoalFault}
 use Rattle.bosh_asks.proofs.AnswerLemmas.{of_err}
 use Rattle.bosh_asks.specs.Cause.{IsCause}
 use Rattle.bosh_asks.specs.Goals.{AreSound, recorded_config}

@@ -4,7 +4,7 @@ use Rattle.std.specs.Option.{option_map_or}
 use Rattle.bosh_base.specs.declared.goal.Goal.{Goal}
 use Rattle.bosh_base.specs.declared.link.Joint.{Joint}
 use Rattle.bosh_records.specs.declared.records.Records.{Records}
-use Rattle.bosh_uses.specs.declared.fault.GoalFault.{GoalFault}
+use Rattle.bosh_manifest_names.specs.declared.fault.GoalFault.{GoalFault}
 use Rattle.bosh_asks.specs.Goals.{AreSound}
 use Rattle.bosh_asks.specs.Known.{is_orphaned, is_owned, is_recorded, is_wanted, lacks_room, lock_holder}
 use Rattle.bosh_asks.specs.Recorded.{first_consumer}

@@ -9,14 +9,14 @@ use Rattle.bosh_base.specs.declared.stemcell.Stemcell.{Stemcell}
 use Rattle.bosh_base.specs.declared.view.View.{View}
 use Rattle.bosh_cloudcfg.specs.Check.{config_of_tree}
 use Rattle.bosh_cloudcfg.specs.declared.config.Config.{Config}
-use Rattle.bosh_cloudcfg.specs.declared.fault.CfgFault.{CfgFault}
-use Rattle.bosh_cloudcfg.specs.declared.fault.CfgFault.TheVariants.{Memory}
+use Rattle.bosh_cloudcfg.specs.declared.fault.ConfigFault.{ConfigFault}
+use Rattle.bosh_cloudcfg.specs.declared.fault.ConfigFault.TheVariants.{Memory}
 use Rattle.bosh_goal.specs.Anew.{anew}
 use Rattle.bosh_goal.specs.Goal.{IsGoal}
 use Rattle.bosh_goal.specs.declared.change.Change.{Change}
 use Rattle.bosh_release.specs.Sound.{IsSound}
-use Rattle.bosh_uses.specs.Answer.{IsAnswer}
-use Rattle.bosh_uses.specs.declared.fault.GoalFault.{GoalFault}
+use Rattle.bosh_manifest_names.specs.Answer.{IsAnswer}
+use Rattle.bosh_manifest_names.specs.declared.fault.GoalFault.{GoalFault}
 use Rattle.bosh_yaml.specs.Reading.{reading}
 use Rattle.bosh_yaml.specs.Tree.{Tree}
 use Rattle.bosh_yaml.specs.declared.fault.ReadFault.{ReadFault}
@@ -25,7 +25,7 @@ use Rattle.bosh_asks.specs.declared.ask.Deploy.{Deploy}
 
 -- ---- the cloud config
 
-abbrev pub if_checked : {A : Type 0} → Result A CfgFault → Option A
+abbrev pub if_checked : {A : Type 0} → Result A ConfigFault → Option A
 if_checked (Ok value) = Some value
 if_checked (Err fault) = None
 
@@ -33,7 +33,7 @@ abbrev pub if_read : Result Tree ReadFault → Option Config
 if_read (Ok tree) = if_checked (config_of_tree tree)
 if_read (Err fault) = None
 
-abbrev pub is_memory : Result Config CfgFault → Bool
+abbrev pub is_memory : Result Config ConfigFault → Bool
 is_memory (Err Memory) = true
 is_memory answer = false
 

@@ -10,8 +10,8 @@ use Rattle.bosh_goal.specs.Anew.{anew}
 use Rattle.bosh_goal.specs.Goal.{IsGoal}
 use Rattle.bosh_goal.specs.declared.change.Change.{Change}
 use Rattle.bosh_goal.specs.declared.change.Change.TheVariants as changes
-use Rattle.bosh_uses.specs.Answer.{IsAnswer}
-use Rattle.bosh_uses.specs.declared.fault.GoalFault.{GoalFault}
+use Rattle.bosh_manifest_names.specs.Answer.{IsAnswer}
+use Rattle.bosh_manifest_names.specs.declared.fault.GoalFault.{GoalFault}
 use Rattle.bosh_asks.specs.Asked.{halting}
 use Rattle.bosh_asks.specs.Changed.{changed_of, obsolete_of}
 use Rattle.bosh_asks.specs.Goals.{AreSound, nothing, recorded_config}

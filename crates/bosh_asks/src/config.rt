@@ -7,7 +7,7 @@ ghost use Rattle.bosh_cloudcfg.specs.Check.{config_of_tree};
 ghost use Rattle.bosh_yaml.specs.View.{tree_of};
 
 use crate::BookFault;
-use bosh_cloudcfg::{CfgFault, Config, check};
+use bosh_cloudcfg::{Config, ConfigFault, check};
 use bosh_yaml::{Node, ReadFault, read};
 use std::alloc::Global;
 
@@ -26,10 +26,10 @@ fn value_of<A: Drop, F: Drop>(
     Ok(answer.ok())
 }
 
-fn lacks_memory(answer: &Result<Config, CfgFault>) -> bool
+fn lacks_memory(answer: &Result<Config, ConfigFault>) -> bool
     ensures { result ≡ is_memory answer.now }
 {
-    matches!(answer, Err(CfgFault::Memory))
+    matches!(answer, Err(ConfigFault::Memory))
 }
 
 fn checked(alloc: Global, node: &Node) -> Result<Option<Config>, BookFault>

@@ -15,7 +15,7 @@ use crate::naming::no_deployment;
 use crate::obsolete::obsolete_of;
 use crate::plan::Plan;
 use bosh_base::{Copyable, Goal, Inst, Name, Seq};
-use bosh_owned::beside;
+use bosh_drops::beside;
 use bosh_records::Records;
 use std::alloc::Global;
 

@@ -3,8 +3,8 @@ ghost use Rattle.bosh_asks.specs.Faults.{answered, of_goal};
 ghost use Rattle.bosh_asks.specs.declared.fault.BookFault.TheVariants.{Memory};
 
 use bosh_base::{CopyFault, Goal, Inst, Joint, Name, Text};
+use bosh_manifest_names::GoalFault;
 use bosh_records::RecordsFault;
-use bosh_uses::GoalFault;
 use std::alloc::{AllocError, AllocFailed};
 
 /// Why the director's book did not do what it was asked.

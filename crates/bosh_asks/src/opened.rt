@@ -10,7 +10,7 @@ ghost use Rattle.bosh_asks.specs.Refused.{MayRefuse};
 use crate::planned::planned;
 use crate::{Ask, BookFault};
 use bosh_base::{CopyFault, Copyable, Digest, Name, TaskKind, TaskOpen};
-use bosh_owned::beside;
+use bosh_drops::beside;
 use bosh_records::Records;
 use std::alloc::Global;
 

@@ -1,3 +1,4 @@
 pub mod HistoryLemmas
+mod MethodLemmas
 pub mod VersionLemmas
 pub mod VersionOrderLemmas

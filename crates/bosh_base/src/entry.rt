@@ -1,6 +1,6 @@
 use crate::{
     Answer, Call, CopyFault, Copyable, Digest, Failure, Goal, Inst, Name, Owner, Release, Seq,
-    Snapshot, Stemcell, TaskKind, Text, copy_both, copy_six, copy_three,
+    Snapshot, Stemcell, TaskKind, Text, both, copy_both, copy_three,
 };
 use std::alloc::Global;
 
@@ -25,14 +25,9 @@ pub struct TaskOpen {
 
 impl Copyable for TaskOpen {
     fn copy(&self, alloc: Global) -> Result<Self, CopyFault> {
-        let (kind, dep, goal, changed, obsolete, disks) = copy_six(
-            &self.kind,
-            &self.dep,
-            &self.goal,
-            &self.changed,
-            &self.obsolete,
-            &self.disks,
-            alloc,
+        let ((kind, dep, goal), (changed, obsolete, disks)) = both(
+            copy_three(&self.kind, &self.dep, &self.goal, alloc),
+            copy_three(&self.changed, &self.obsolete, &self.disks, alloc),
         )?;
         Ok(TaskOpen {
             task: self.task,

@@ -1,6 +1,6 @@
 use crate::{
-    CopyFault, Copyable, DiskWant, Inst, KeyWork, Make, Name, Offer, Seq, Spec, State, Tie,
-    copy_four, copy_seven,
+    CopyFault, Copyable, DiskWant, Inst, KeyWork, Make, Name, Offer, Seq, Spec, State, Tie, both,
+    copy_four, copy_three,
 };
 use std::alloc::Global;
 
@@ -74,15 +74,9 @@ pub struct Goal {
 
 impl Copyable for Goal {
     fn copy(&self, alloc: Global) -> Result<Self, CopyFault> {
-        let (dep, rows, groups, ties, keys, slots, offers) = copy_seven(
-            &self.dep,
-            &self.rows,
-            &self.groups,
-            &self.ties,
-            &self.keys,
-            &self.slots,
-            &self.offers,
-            alloc,
+        let ((dep, rows, groups, ties), (keys, slots, offers)) = both(
+            copy_four(&self.dep, &self.rows, &self.groups, &self.ties, alloc),
+            copy_three(&self.keys, &self.slots, &self.offers, alloc),
         )?;
         Ok(Goal {
             dep,

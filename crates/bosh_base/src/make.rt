@@ -1,4 +1,4 @@
-use crate::{CopyFault, Copyable, Name, NetAddr, Seq, Text, copy_five};
+use crate::{CopyFault, Copyable, Name, NetAddr, Seq, Text, both, copy_both, copy_three};
 use std::alloc::Global;
 
 /// What a machine is made from.
@@ -18,13 +18,9 @@ pub struct Make {
 
 impl Copyable for Make {
     fn copy(&self, alloc: Global) -> Result<Self, CopyFault> {
-        let (os, version, az, vm, nets) = copy_five(
-            &self.os,
-            &self.version,
-            &self.az,
-            &self.vm,
-            &self.nets,
-            alloc,
+        let ((os, version, az), (vm, nets)) = both(
+            copy_three(&self.os, &self.version, &self.az, alloc),
+            copy_both(&self.vm, &self.nets, alloc),
         )?;
         Ok(Make {
             os,

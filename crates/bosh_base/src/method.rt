@@ -1,4 +1,5 @@
-ghost use Rattle.std.specs.Prelude.{◌≡◌};
+ghost use Rattle.std.specs.Prelude.{◌≡◌, Some, slice_get};
+ghost use Rattle.bosh_base.specs.declared.method.TheConstants.{METHODS};
 ghost use Rattle.bosh_base.specs.Method.{name_of, place_of, is_changing, is_agents};
 
 use crate::{CopyFault, Copyable};
@@ -30,6 +31,37 @@ pub enum Method {
     MigrateDisk,
     CompilePackage,
 }
+
+/// All methods, each at its place.
+pub const METHODS: [Method; 22] = [
+    Method::CreateVm,
+    Method::DeleteVm,
+    Method::HasVm,
+    Method::FindVm,
+    Method::CreateDisk,
+    Method::DeleteDisk,
+    Method::HasDisk,
+    Method::FindDisk,
+    Method::AttachDisk,
+    Method::DetachDisk,
+    Method::GetDisks,
+    Method::Ping,
+    Method::GetState,
+    Method::Apply,
+    Method::Start,
+    Method::Drain,
+    Method::Stop,
+    Method::MountDisk,
+    Method::UnmountDisk,
+    Method::ListDisk,
+    Method::MigrateDisk,
+    Method::CompilePackage,
+];
+
+/// No method is left out of the list, and none stands twice.
+pub fn each_method_is_at_its_place(method: Method)
+    ensures { slice_get METHODS (place_of method) ≡ Some method }
+{}
 
 impl Method {
     /// Its name, as `create_vm`.

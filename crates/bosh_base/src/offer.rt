@@ -1,4 +1,4 @@
-use crate::{Addr, CopyFault, Copyable, Joint, Name, Prop, Seq, Text, copy_both, copy_six};
+use crate::{Addr, CopyFault, Copyable, Joint, Name, Prop, Seq, Text, both, copy_both, copy_three};
 use std::alloc::Global;
 
 /// A link that its deployment shares with others.
@@ -18,14 +18,9 @@ pub struct Offer {
 
 impl Copyable for Offer {
     fn copy(&self, alloc: Global) -> Result<Self, CopyFault> {
-        let (joint, kind, public_name, addrs, listed, properties) = copy_six(
-            &self.joint,
-            &self.kind,
-            &self.public_name,
-            &self.addrs,
-            &self.listed,
-            &self.properties,
-            alloc,
+        let ((joint, kind, public_name), (addrs, listed, properties)) = both(
+            copy_three(&self.joint, &self.kind, &self.public_name, alloc),
+            copy_three(&self.addrs, &self.listed, &self.properties, alloc),
         )?;
         Ok(Offer {
             joint,

@@ -1,6 +1,4 @@
-use crate::{
-    CopyFault, Copyable, Digest, Name, Seq, Text, copy_both, copy_four, copy_six, copy_three,
-};
+use crate::{CopyFault, Copyable, Digest, Name, Seq, Text, both, copy_both, copy_four, copy_three};
 use std::alloc::Global;
 
 /// The value of a property.
@@ -116,14 +114,9 @@ pub struct JobSpec {
 
 impl Copyable for JobSpec {
     fn copy(&self, alloc: Global) -> Result<Self, CopyFault> {
-        let (name, templates, packages, properties, provides, consumes) = copy_six(
-            &self.name,
-            &self.templates,
-            &self.packages,
-            &self.properties,
-            &self.provides,
-            &self.consumes,
-            alloc,
+        let ((name, templates, packages), (properties, provides, consumes)) = both(
+            copy_three(&self.name, &self.templates, &self.packages, alloc),
+            copy_three(&self.properties, &self.provides, &self.consumes, alloc),
         )?;
         Ok(JobSpec {
             name,

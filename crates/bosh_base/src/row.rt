@@ -1,4 +1,6 @@
-use crate::{Call, CopyFault, Copyable, DiskWant, Inst, Make, Seq, Spec, copy_five};
+use crate::{
+    Call, CopyFault, Copyable, DiskWant, Inst, Make, Seq, Spec, both, copy_both, copy_three,
+};
 use std::alloc::Global;
 
 /// What a disk is to its instance.
@@ -95,13 +97,9 @@ pub struct Row {
 
 impl Copyable for Row {
     fn copy(&self, alloc: Global) -> Result<Self, CopyFault> {
-        let (inst, make, spec, disks, doubt) = copy_five(
-            &self.inst,
-            &self.make,
-            &self.spec,
-            &self.disks,
-            &self.doubt,
-            alloc,
+        let ((inst, make, spec), (disks, doubt)) = both(
+            copy_three(&self.inst, &self.make, &self.spec, alloc),
+            copy_both(&self.disks, &self.doubt, alloc),
         )?;
         Ok(Row {
             inst,

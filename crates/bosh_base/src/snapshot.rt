@@ -1,6 +1,6 @@
 use crate::{
     CopyFault, Copyable, Digest, DiskWant, Doubt, Goal, Inst, Key, Make, Name, Offer, Release, Row,
-    Seq, Stemcell, TaskRow, Text, Vm, copy_both, copy_nine, copy_three,
+    Seq, Stemcell, TaskRow, Text, Vm, both, copy_both, copy_three,
 };
 use std::alloc::Global;
 
@@ -116,26 +116,14 @@ pub struct Snapshot {
 impl Copyable for Snapshot {
     fn copy(&self, alloc: Global) -> Result<Self, CopyFault> {
         let (
-            releases,
-            stemcells,
-            config,
-            deployments,
-            rows,
-            compile_rows,
-            orphans,
-            built_keys,
-            tasks,
-        ) = copy_nine(
-            &self.releases,
-            &self.stemcells,
-            &self.config,
-            &self.deployments,
-            &self.rows,
-            &self.compile_rows,
-            &self.orphans,
-            &self.built_keys,
-            &self.tasks,
-            alloc,
+            ((releases, stemcells, config), (deployments, rows, compile_rows)),
+            (orphans, built_keys, tasks),
+        ) = both(
+            both(
+                copy_three(&self.releases, &self.stemcells, &self.config, alloc),
+                copy_three(&self.deployments, &self.rows, &self.compile_rows, alloc),
+            ),
+            copy_three(&self.orphans, &self.built_keys, &self.tasks, alloc),
         )?;
         Ok(Snapshot {
             releases,

@@ -20,7 +20,7 @@ use Rattle.bosh_journal.specs.JournalView.{JournalView}
 use Rattle.bosh_journal.specs.declared.fault.JournalFault.{JournalFault}
 use Rattle.bosh_journal.specs.declared.fault.JournalFault.TheVariants as journal
 use Rattle.bosh_ports.specs.Faults.{Rose}
-use Rattle.bosh_uses.specs.declared.fault.GoalFault.TheVariants as goal
+use Rattle.bosh_manifest_names.specs.declared.fault.GoalFault.TheVariants as goal
 
 -- how the refusal of a journal is told as one of the book's
 abbrev pub of_journal : JournalFault → BookFault

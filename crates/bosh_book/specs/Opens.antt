@@ -13,7 +13,7 @@ use Rattle.bosh_records.specs.declared.records.Records.{Records}
 
 -- How a task opens that does what is asked, over what is recorded: it has the next number, no open task has its lock,
 -- what is named is there, and it does what is asked by the records.
-pub record IsOpening (records : Records) (ask : Ask) (opening : task_open.TaskOpen) : Type 0 where
+pub record IsOpeningOf (records : Records) (ask : Ask) (opening : task_open.TaskOpen) : Type 0 where
   pub opens : Opens ask opening
   pub number : opening.task ≡ next_task records
   pub free : lock_holder records (dep_of ask) ≡ None
@@ -25,6 +25,6 @@ pub record OpensTask {K : Type 0}
     (bodies : K → Option (List (List ℕ))) (faults : K → ℕ) (was : Book K) (ask : Ask) (task : ℕ) (now : Book K) :
     Type 0 where
   pub opening : task_open.TaskOpen
-  pub is_opening : IsOpening was.records ask opening
+  pub is_opening : IsOpeningOf was.records ask opening
   pub adds : Adds bodies faults was (entries.TaskOpen opening ∷ []) now
   pub told : task ≡ opening.task

@@ -1,11 +1,11 @@
 ghost use Rattle.std.specs.Prelude.{◌≡◌};
 ghost use Rattle.bosh_asks.specs.declared.fault.BookFault.TheVariants as book;
 ghost use Rattle.bosh_book.specs.Faults.{of_journal};
-ghost use Rattle.bosh_uses.specs.declared.fault.GoalFault.TheVariants as goal;
+ghost use Rattle.bosh_manifest_names.specs.declared.fault.GoalFault.TheVariants as goal;
 
 use bosh_asks::BookFault;
 use bosh_journal::JournalFault;
-use bosh_uses::GoalFault;
+use bosh_manifest_names::GoalFault;
 
 /// How the refusal of a journal is told as one of the book's.
 pub(crate) fn of_journal(fault: JournalFault) -> BookFault

@@ -3,7 +3,7 @@ ghost use Rattle.bosh_book.specs.Current.{IsFor};
 
 use crate::granted::Granted;
 use bosh_base::{Begin, Call, Name, Owner};
-use bosh_owned::let_go;
+use bosh_drops::let_go;
 use std::marker::Model;
 
 /// The leave to make one call. A claim alone makes it, and it has to be spent.

@@ -7,7 +7,7 @@ ghost use Rattle.bosh_book.specs.Claims.{Begins, Claims, TakesOn, Turn, Turns, m
 ghost use Rattle.bosh_book.specs.Current.{IsFor, dep_of, permit_of};
 ghost use Rattle.bosh_book.specs.Faults.{FailsAs, IsClaimFault, IsNoteFault, IsOpenFault, IsQuiet};
 ghost use Rattle.bosh_book.specs.Made.{Noted};
-ghost use Rattle.bosh_book.specs.Opens.{IsOpening, OpensTask};
+ghost use Rattle.bosh_book.specs.Opens.{IsOpeningOf, OpensTask};
 ghost use Rattle.bosh_book.specs.Running.{is_full, is_stopped};
 ghost use Rattle.bosh_book.specs.Turns.{IsUpdate, Notes, some};
 ghost use Rattle.bosh_book.specs.declared.claim.Claim.TheVariants as claims;
@@ -39,7 +39,7 @@ impl<K: Keeper> Book<K> {
 
     #[tactic(auto, using(crate::proofs::FaultLemmas::refuses_open, crate::proofs::FaultLemmas::refuses_quietly))]
     fn opened(&self, ask: &Ask) -> Result<TaskOpen, BookFault>
-        ensures opens { IfOk result (IsOpening self.now.records ask.now) }
+        ensures opens { IfOk result (IsOpeningOf self.now.records ask.now) }
         ensures quiet { IfErr result IsQuiet }
         ensures fault { IfErr result (IsOpenFault self.now ask.now) }
         ensures runs { OnOk result (is_stopped self.now ≡ false) }

@@ -19,7 +19,7 @@ use bosh_asks::{BookFault, config_in, differs};
 use bosh_base::{
     Copyable, Entry, Name, Release, Stemcell, Text, is_same, is_version, version_order,
 };
-use bosh_owned::is_there;
+use bosh_drops::is_there;
 use bosh_ports::Keeper;
 use bosh_sound::{are_sound, are_sound_with};
 use std::alloc::{AllocError, Global};

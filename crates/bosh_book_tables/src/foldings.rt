@@ -2,8 +2,8 @@
 use crate::store::body_of;
 use bosh_base::Entry;
 use bosh_cases::CaseFault;
+use bosh_drops::beside;
 use bosh_fold::apply;
-use bosh_owned::beside;
 use bosh_records::Records;
 use bosh_views::snapshot;
 use std::alloc::Global;

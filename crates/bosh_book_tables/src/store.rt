@@ -1,8 +1,8 @@
 //! The stores of a book and a cloud: in memory, and the book's can be made to fail.
 use bosh_base::{Entry, Snapshot};
 use bosh_cases::CaseFault;
+use bosh_drops::after;
 use bosh_entry::write;
-use bosh_owned::after;
 use bosh_ports::{Keeper, MemKeeper, Rigged};
 use bosh_records::{Records, RecordsFault};
 use bosh_views::snapshot;

@@ -3,7 +3,7 @@ use crate::told::Told;
 use bosh_book::BookFault;
 use bosh_case_texts::{push_count, push_inst, push_joint};
 use bosh_cases::{CaseFault, push_parts};
-use bosh_uses::GoalFault;
+use bosh_manifest_names::GoalFault;
 use std::alloc::AllocError;
 
 fn goal_word(fault: &GoalFault) -> &'static [u8] {

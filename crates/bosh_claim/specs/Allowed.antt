@@ -13,12 +13,12 @@ use Rattle.bosh_base.specs.declared.entry.Entry.{Entry}
 use Rattle.bosh_base.specs.declared.entry.Entry.TheVariants as entries
 use Rattle.bosh_base.specs.declared.release.Release.{Release}
 use Rattle.bosh_base.specs.declared.stemcell.Stemcell.{Stemcell}
+use Rattle.bosh_rows.specs.SoundSnapshot.{is_sound_snapshot}
 use Rattle.bosh_records.specs.Readers.{call_at, is_empty}
 use Rattle.bosh_records.specs.declared.records.Records.{Records}
 use Rattle.bosh_claim.specs.Beginning.{begins}
 use Rattle.bosh_claim.specs.Ending.{ends_task, fails_task}
 use Rattle.bosh_claim.specs.Opening.{opens}
-use Rattle.bosh_claim.specs.Sound.{is_sound}
 use Rattle.bosh_claim.specs.Updating.{begins_update, ends_update, leaves}
 
 abbrev pub is_equal : Option Ordering → Bool
@@ -62,7 +62,7 @@ allowed records (entries.UpdDone update) = ends_update records update
 allowed records (entries.Gone update) = leaves records update
 allowed records (entries.TaskDone task) = ends_task records task
 allowed records (entries.TaskError error) = fails_task records error
-allowed records (entries.Snapshot it) = is_empty records && is_sound it
+allowed records (entries.Snapshot it) = is_empty records && is_sound_snapshot it
 allowed records (entries.Effect it) = false
 allowed records (entries.Write it) = false
 allowed records (entries.Lost it) = false

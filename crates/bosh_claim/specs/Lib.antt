@@ -7,7 +7,6 @@ pub mod Number
 pub mod Opening
 pub mod Phase
 pub mod Slot
-pub mod Sound
 pub mod Step
 pub mod Sweep
 pub mod Updated

@@ -15,14 +15,15 @@ use Rattle.bosh_base.specs.declared.offer.Offer.{Offer}
 use Rattle.bosh_base.specs.declared.snapshot.DepRow.{DepRow}
 use Rattle.bosh_base.specs.declared.task.TaskKind.{TaskKind}
 use Rattle.bosh_base.specs.declared.task.TaskKind.TheVariants.{Recreate, Start, Stop, Resolve, DeleteDisk, CleanUp, Fix}
-use Rattle.bosh_base.specs.declared.task.TaskRow.{TaskRow}
 use Rattle.bosh_rows.specs.Disks.{is_detached}
 use Rattle.bosh_rows.specs.Same.{same_inst}
+use Rattle.bosh_rows.specs.SoundSnapshot.{has_lock}
 use Rattle.bosh_rows.specs.Standing.{is_empty, stands}
 use Rattle.bosh_records.specs.Kinds.{deploys}
 use Rattle.bosh_records.specs.Readers.{goal_of, orphan_at, row_at}
 use Rattle.bosh_records.specs.Table.{things}
 use Rattle.bosh_records.specs.declared.instances.Instance.{Instance}
+use Rattle.bosh_records.specs.declared.orphans.LooseDisk.{LooseDisk}
 use Rattle.bosh_records.specs.declared.records.Records.{Records}
 use Rattle.bosh_claim.specs.Number.{is_next}
 
@@ -30,22 +31,29 @@ use Rattle.bosh_claim.specs.Number.{is_next}
 abbrev pub same_dep : Option (List ℕ) → Option (List ℕ) → Bool
 same_dep one other = option_eq bytes_eq one other
 
--- an open task has the lock: that of a deployment, or that of the tasks that delete disks
-abbrev pub has_lock : Option (List ℕ) → TaskRow → Bool
-has_lock dep row = is_none row.end && same_dep row.dep dep
-
+-- no open task has the lock: that of a deployment, or that of the tasks that delete disks
 abbrev pub is_free : Records → Option (List ℕ) → Bool
 is_free records dep = not (list_any (has_lock dep) (things records.tasks.places.entries))
 
 -- ---- tasks that delete disks
 
--- each of the disks is recorded orphaned, and the task has no deployment
-abbrev pub opens_on : Records → TaskOpen → Bool
-opens_on records opening =
-    is_none opening.dep
-    && (is_empty opening.changed
-    && (is_empty opening.obsolete
-    && list_all (λ disk. is_some (orphan_at records disk)) opening.disks))
+-- the task has no deployment, and changes no instance
+abbrev pub has_disks_alone : TaskOpen → Bool
+has_disks_alone opening = is_none opening.dep && (is_empty opening.changed && is_empty opening.obsolete)
+
+-- the disks that are recorded orphaned, by number
+abbrev pub orphaned_in : List (ℕ × Option LooseDisk) → List ℕ
+orphaned_in places = map (λ place. place.0) (filter (λ place. is_some place.1) places)
+
+-- the disks are all that are recorded orphaned
+abbrev pub cleans_up : Records → TaskOpen → Bool
+cleans_up records opening =
+    has_disks_alone opening && pointwise nat_eq opening.disks (orphaned_in records.orphans.places.entries)
+
+-- the disk is the only one, and is recorded orphaned
+abbrev pub deletes_disk : Records → TaskOpen → ℕ → Bool
+deletes_disk records opening disk =
+    has_disks_alone opening && (pointwise nat_eq opening.disks (disk ∷ []) && is_some (orphan_at records disk))
 
 -- ---- tasks of a deployment
 
@@ -135,9 +143,8 @@ opens_with records opening goal =
 
 -- what the task is to do is what its kind does over what is recorded
 abbrev pub does_its_kind : Records → TaskOpen → TaskKind → Option Goal → Bool
-does_its_kind records opening CleanUp None = opens_on records opening
-does_its_kind records opening (DeleteDisk disk) None =
-    opens_on records opening && pointwise nat_eq opening.disks (disk ∷ [])
+does_its_kind records opening CleanUp None = cleans_up records opening
+does_its_kind records opening (DeleteDisk disk) None = deletes_disk records opening disk
 does_its_kind records opening CleanUp (Some goal) = false
 does_its_kind records opening (DeleteDisk disk) (Some goal) = false
 does_its_kind records opening kind (Some goal) = opens_with records opening goal

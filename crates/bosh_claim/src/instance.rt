@@ -8,7 +8,7 @@ ghost use Rattle.bosh_claim.specs.Step.{step_of, step_on};
 use crate::ClaimFault;
 use crate::choice::{begin, beginning};
 use bosh_base::{Call, Copyable, Entry, GoalRow, Inst, Owner, Row, Update};
-use bosh_owned::beside;
+use bosh_drops::beside;
 use bosh_records::Records;
 use bosh_rows::{bare, call_of, has_its_machine, next};
 use bosh_work::Work;

@@ -8,6 +8,7 @@ mod compile;
 mod ending;
 mod fault;
 mod instance;
+mod listed;
 mod number;
 mod opening;
 mod phase;

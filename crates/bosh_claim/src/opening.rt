@@ -1,15 +1,16 @@
-ghost use Rattle.std.specs.Prelude.{◌≡◌, [], ◌∷◌, false, IfNone, IfSome, List, is_some, not};
+ghost use Rattle.std.specs.Prelude.{◌≡◌, [], ◌∷◌, ℕ, false, nat_eq, IfNone, IfSome, List, not};
 ghost use Rattle.std.specs.Cmp.Lexicographic.{pointwise};
 ghost use Rattle.std.specs.List.{list_all, list_any};
 ghost use Rattle.std.specs.Option.{option_copied, option_map_or};
 ghost use Rattle.bosh_base.specs.declared.inst.Inst.{Inst};
 ghost use Rattle.bosh_rows.specs.Same.{same_inst};
+ghost use Rattle.bosh_rows.specs.SoundSnapshot.{has_lock};
 ghost use Rattle.bosh_records.specs.Kinds.{deploys};
-ghost use Rattle.bosh_records.specs.Readers.{orphan_at};
-ghost use Rattle.bosh_claim.specs.Opening.{changed_in, changes, deletes, does_its_kind, does_not_stand, has_lock};
-ghost use Rattle.bosh_claim.specs.Opening.{has_named, is_fix, is_free, is_in, is_obsolete, is_of, is_offered_still};
-ghost use Rattle.bosh_claim.specs.Opening.{keeps, named_instance, names_what_is_there, obsolete_in, opens, opens_on};
-ghost use Rattle.bosh_claim.specs.Opening.{opens_with, same_dep, withdraws_nothing};
+ghost use Rattle.bosh_claim.specs.Opening.{changed_in, changes, cleans_up, deletes, deletes_disk, does_its_kind};
+ghost use Rattle.bosh_claim.specs.Opening.{does_not_stand, has_disks_alone, has_named, is_fix, is_free, is_in};
+ghost use Rattle.bosh_claim.specs.Opening.{is_obsolete, is_of, is_offered_still, keeps, named_instance};
+ghost use Rattle.bosh_claim.specs.Opening.{names_what_is_there, obsolete_in, opens, opens_with, orphaned_in};
+ghost use Rattle.bosh_claim.specs.Opening.{same_dep, withdraws_nothing};
 
 use crate::number::is_next;
 use bosh_base::{
@@ -34,10 +35,8 @@ fn does_its_kind(records: &Records, opening: &TaskOpen) -> bool
     ensures { result ≡ does_its_kind records.now opening.now opening.now.kind opening.now.goal }
 {
     match (&opening.kind, &opening.goal) {
-        (TaskKind::CleanUp, None) => opens_on(records, opening),
-        (TaskKind::DeleteDisk(disk), None) => {
-            opens_on(records, opening) && is_just(opening.disks.as_slice(), disk)
-        }
+        (TaskKind::CleanUp, None) => cleans_up(records, opening),
+        (TaskKind::DeleteDisk(disk), None) => deletes_disk(records, opening, *disk),
         (TaskKind::CleanUp | TaskKind::DeleteDisk(_), Some(_)) => false,
         (_, Some(goal)) => opens_with(records, opening, goal),
         (_, None) => false,
@@ -98,20 +97,54 @@ fn deploys(kind: &TaskKind) -> bool
     matches!(kind, TaskKind::Deploy | TaskKind::Fix)
 }
 
-// Disks are to be deleted: each is recorded orphaned.
-fn opens_on(records: &Records, opening: &TaskOpen) -> bool
-    ensures { result ≡ opens_on records.now opening.now }
+// The task has no deployment, and changes no instance.
+fn has_disks_alone(opening: &TaskOpen) -> bool
+    ensures { result ≡ has_disks_alone opening.now }
 {
-    opening.dep.is_none()
-        && opening.changed.is_empty()
-        && opening.obsolete.is_empty()
-        && are_orphans(records, opening.disks.as_slice())
+    opening.dep.is_none() && opening.changed.is_empty() && opening.obsolete.is_empty()
 }
 
-fn are_orphans(records: &Records, disks: &[u64]) -> bool
-    ensures { result ≡ list_all (λ disk. is_some (orphan_at records.now disk)) disks.now }
+// All disks that are recorded orphaned are deleted, by number.
+fn cleans_up(records: &Records, opening: &TaskOpen) -> bool
+    ensures { result ≡ cleans_up records.now opening.now }
 {
-    disks.iter().all(|disk| records.orphan(*disk).is_some())
+    has_disks_alone(opening) && are_orphaned(records, opening.disks.as_slice())
+}
+
+fn are_orphaned(records: &Records, disks: &[u64]) -> bool
+    ensures { result ≡ pointwise nat_eq disks.now (orphaned_in records.now.orphans.places.entries) }
+{
+    let mut left = disks;
+    for (disk, loose) in records.orphans() {
+        if loose.is_some() {
+            match after_disk(left, *disk) {
+                Some(rest) => left = rest,
+                None => return false,
+            }
+        }
+    }
+    left.is_empty()
+}
+
+// What comes after a disk, where it is the first.
+fn after_disk(disks: &[u64], disk: u64) -> Option<&[u64]>
+    ensures some { IfSome result (λ rest. (others : List ℕ)
+        → pointwise nat_eq disks.now (disk ∷ others) ≡ pointwise nat_eq rest.now others) }
+    ensures none { IfNone result ((others : List ℕ) → pointwise nat_eq disks.now (disk ∷ others) ≡ false) }
+{
+    match disks {
+        [first, rest @ ..] if *first == disk => Some(rest),
+        _ => None,
+    }
+}
+
+// The disk is the only one, and is recorded orphaned.
+fn deletes_disk(records: &Records, opening: &TaskOpen, disk: u64) -> bool
+    ensures { result ≡ deletes_disk records.now opening.now disk }
+{
+    has_disks_alone(opening)
+        && is_just(opening.disks.as_slice(), &disk)
+        && records.orphan(disk).is_some()
 }
 
 // A deploy, a task of one instance, or a deletion of a deployment.

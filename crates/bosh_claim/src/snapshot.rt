@@ -1,21 +1,22 @@
-ghost use Rattle.std.specs.Prelude.{◌≡◌, ◌==◌, count_by};
+ghost use Rattle.std.specs.Prelude.{◌≡◌, count_by};
 ghost use Rattle.std.specs.List.{list_all, list_any};
 ghost use Rattle.std.specs.Option.{option_copied};
 ghost use Rattle.bosh_rows.specs.CallOf.{is_doubt_on_machine};
 ghost use Rattle.bosh_rows.specs.Disks.{is_active};
-ghost use Rattle.bosh_claim.specs.Opening.{has_lock};
-ghost use Rattle.bosh_claim.specs.Sound.{are_distinct, are_numbered, have_locks_of_their_own, is_sound};
-ghost use Rattle.bosh_claim.specs.Sound.{is_sound_machine, is_sound_row};
+ghost use Rattle.bosh_rows.specs.SoundSnapshot.{are_distinct, are_numbered, has_lock, have_locks_of_their_own};
+ghost use Rattle.bosh_rows.specs.SoundSnapshot.{is_sound_machine, is_sound_row, is_sound_snapshot, same_disk};
 
+use crate::listed::is_listed_well;
 use crate::number::is_next;
 use crate::opening::has_lock;
 use bosh_base::{Call, CompileRow, DiskRow, Doubt, Role, Row, Seq, Snapshot, TaskRow};
 
-/// Whether a store may begin with a snapshot: its rows, compile machines and tasks are such as entries leave them.
+/// Whether a store may begin with a snapshot: what it lists is such as entries leave it.
 pub(crate) fn is_sound(snapshot: &Snapshot) -> bool
-    ensures { result ≡ is_sound snapshot.now }
+    ensures { result ≡ is_sound_snapshot snapshot.now }
 {
-    are_sound_rows(snapshot.rows.as_slice())
+    is_listed_well(snapshot)
+        && are_sound_rows(snapshot.rows.as_slice())
         && are_sound_machines(snapshot.compile_rows.as_slice())
         && are_numbered(&snapshot.tasks)
         && have_locks_of_their_own(snapshot.tasks.as_slice())
@@ -62,11 +63,11 @@ fn needs_machine(doubt: Option<&Doubt>) -> bool
 }
 
 fn are_distinct(disks: &[DiskRow]) -> bool
-    ensures { result ≡ are_distinct disks.now }
+    ensures { result ≡ are_distinct same_disk disks.now }
 {
     let mut left = disks;
     while let [disk, rest @ ..] = left {
-        if has_disk(rest, disk.disk) {
+        if has_disk(rest, disk) {
             return false;
         }
         left = rest;
@@ -74,10 +75,10 @@ fn are_distinct(disks: &[DiskRow]) -> bool
     true
 }
 
-fn has_disk(disks: &[DiskRow], disk: u64) -> bool
-    ensures { result ≡ list_any (λ other. other.disk == disk) disks.now }
+fn has_disk(disks: &[DiskRow], disk: &DiskRow) -> bool
+    ensures { result ≡ list_any (same_disk disk.now) disks.now }
 {
-    disks.iter().any(|other| other.disk == disk)
+    disks.iter().any(|other| disk.disk == other.disk)
 }
 
 fn is_sound_machine(row: &CompileRow) -> bool

@@ -5,7 +5,7 @@ ghost use Rattle.bosh_claim.specs.Updated.{noted_of, update_entry, with_claimabl
 use crate::ClaimFault;
 use crate::instance::{begun, update, wanted_step};
 use bosh_base::{Entry, Inst};
-use bosh_owned::is_some;
+use bosh_drops::is_some;
 use bosh_records::Records;
 use bosh_work::{GroupPlace, GroupWork, Work};
 use std::alloc::Global;

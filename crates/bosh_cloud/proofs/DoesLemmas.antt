@@ -10,9 +10,9 @@ use Rattle.bosh_cloud.specs.declared.fault.CloudFault.{CloudFault}
 use Rattle.bosh_cloud.specs.declared.fault.CloudFault.TheVariants.{StoreFault, Damaged, Broken, Memory}
 use Rattle.bosh_entry.specs.Body.{spelling}
 use Rattle.bosh_inventory.specs.Happens.{MayFollow}
-use Rattle.bosh_changes.specs.Store.{Appends}
-use Rattle.bosh_changes.specs.declared.put_fault.PutFault.{PutFault}
-use Rattle.bosh_changes.specs.declared.put_fault.PutFault.TheVariants as put
+use Rattle.bosh_registers.specs.Store.{Appends}
+use Rattle.bosh_registers.specs.declared.put_fault.PutFault.{PutFault}
+use Rattle.bosh_registers.specs.declared.put_fault.PutFault.TheVariants as put
 use Rattle.bosh_ports.specs.Faults.{NeverFalls, Rose}
 
 same_told : (told : Option (List (List ℕ))) → IfSome told (λ list. told ≡ Some list)

@@ -2,8 +2,8 @@ ghost use Rattle.std.specs.Prelude.{◌≡◌};
 ghost use Rattle.bosh_cloud.specs.Faults.{of_keeper};
 ghost use Rattle.bosh_cloud.specs.declared.fault.CloudFault.TheVariants.{Memory};
 
-use bosh_changes::InventoryFault;
 use bosh_ports::KeepFault;
+use bosh_registers::InventoryFault;
 use std::alloc::AllocFailed;
 
 /// Why the cloud did not do what it was asked.

@@ -10,10 +10,10 @@ ghost use Rattle.bosh_inventory.specs.Steps.{IsStep};
 
 use crate::{CloudFault, SimCloud};
 use bosh_base::{Call, Effect, Entry, Loss, Name, Owner, Text, Write, copy_three};
-use bosh_changes::PutFault;
 use bosh_entry::write;
 use bosh_inventory::Step;
 use bosh_ports::Keeper;
+use bosh_registers::PutFault;
 use std::alloc::Global;
 
 impl<L: Keeper> SimCloud<L> {

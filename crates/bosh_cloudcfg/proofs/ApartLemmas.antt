@@ -17,8 +17,8 @@ use Rattle.bosh_cloudcfg.specs.Config.{config_of}
 use Rattle.bosh_cloudcfg.specs.Passes.{first_fault, first_in, have_common, out_of_place, overlap, unknown_name}
 use Rattle.bosh_cloudcfg.specs.Tables.{tables}
 use Rattle.bosh_cloudcfg.specs.declared.config.Config.{Config}
-use Rattle.bosh_cloudcfg.specs.declared.fault.CfgFault.{CfgFault}
-use Rattle.bosh_cloudcfg.specs.declared.fault.CfgFault.TheVariants.{Overlap}
+use Rattle.bosh_cloudcfg.specs.declared.fault.ConfigFault.{ConfigFault}
+use Rattle.bosh_cloudcfg.specs.declared.fault.ConfigFault.TheVariants.{Overlap}
 use Rattle.bosh_cloudcfg.specs.declared.tables.Tables.{Tables}
 
 or_none : (a b : Bool) → (a || b) ≡ false → (a ≡ false) × (b ≡ false)
@@ -54,7 +54,7 @@ no_overlap config h = by (overlap config.plan.subnets) (last_none (first_in out_
     by true h = absurd (cc)
     by false h = refl
 
-passed : (fault : Option CfgFault) (config given : Config) → unless fault config ≡ Ok given → (fault ≡ None) × (config ≡ given)
+passed : (fault : Option ConfigFault) (config given : Config) → unless fault config ≡ Ok given → (fault ≡ None) × (config ≡ given)
 passed None config given h = (refl, cc)
 passed (Some fault) config given h = absurd (cc)
 

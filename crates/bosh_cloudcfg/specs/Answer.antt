@@ -2,11 +2,11 @@
 use Rattle.std.specs.Prelude.{◌≡◌, ◌⊎◌, Option, Some, None, Result, Ok, Err}
 use Rattle.bosh_fields.specs.declared.fault.FieldFault.{FieldFault}
 use Rattle.bosh_fields.specs.declared.fault.FieldFault.TheVariants as field
-use Rattle.bosh_cloudcfg.specs.declared.fault.CfgFault.{CfgFault}
-use Rattle.bosh_cloudcfg.specs.declared.fault.CfgFault.TheVariants.{Missing, WrongKind, Repeated, Address, Unsupported, Limit, Memory}
+use Rattle.bosh_cloudcfg.specs.declared.fault.ConfigFault.{ConfigFault}
+use Rattle.bosh_cloudcfg.specs.declared.fault.ConfigFault.TheVariants.{Missing, WrongKind, Repeated, Address, Unsupported, Limit, Memory}
 
 -- the texts without the form that their keys take are those of addresses
-abbrev pub fault_of : FieldFault → CfgFault
+abbrev pub fault_of : FieldFault → ConfigFault
 fault_of (field.Missing key) = Missing key
 fault_of (field.WrongKind key) = WrongKind key
 fault_of (field.Repeated name) = Repeated name
@@ -16,11 +16,11 @@ fault_of (field.Limit key) = Limit key
 fault_of field.Memory = Memory
 
 -- a call's answer is the one that the rules give, or want of memory
-abbrev pub IsAnswer : {A : Type 0} → Result A CfgFault → Result A CfgFault → Type 0
+abbrev pub IsAnswer : {A : Type 0} → Result A ConfigFault → Result A ConfigFault → Type 0
 IsAnswer (Ok value) answer = answer ≡ Ok value
 IsAnswer (Err fault) answer = (fault ≡ Memory) ⊎ (answer ≡ Err fault)
 
 -- a test passes where the rules find no fault, and refuses with the fault that they find, or for want of memory
-abbrev pub IsTest : {A : Type 0} → Result A CfgFault → Option CfgFault → Type 0
+abbrev pub IsTest : {A : Type 0} → Result A ConfigFault → Option ConfigFault → Type 0
 IsTest (Ok passed) found = found ≡ None
 IsTest (Err fault) found = (fault ≡ Memory) ⊎ (found ≡ Some fault)

@@ -10,8 +10,8 @@ use Rattle.bosh_base.specs.declared.plan.Subnet.{Subnet}
 use Rattle.bosh_bands.specs.Least.{first_of, least}
 use Rattle.bosh_cloudcfg.specs.declared.config.Config.{Config}
 use Rattle.bosh_cloudcfg.specs.declared.config.VmKind.{VmKind}
-use Rattle.bosh_cloudcfg.specs.declared.fault.CfgFault.{CfgFault}
-use Rattle.bosh_cloudcfg.specs.declared.fault.CfgFault.TheVariants.{Unknown, OutsideRange, StaticReserved, Overlap}
+use Rattle.bosh_cloudcfg.specs.declared.fault.ConfigFault.{ConfigFault}
+use Rattle.bosh_cloudcfg.specs.declared.fault.ConfigFault.TheVariants.{Unknown, OutsideRange, StaticReserved, Overlap}
 
 -- what is found in the first item in which something is
 abbrev pub first_in : {A B : Type 0} → (A → Option B) → List A → Option B
@@ -19,18 +19,18 @@ first_in look [] = None
 first_in look (x ∷ xs) = first_of (look x) (first_in look xs)
 
 -- a name, where a test of it fails
-abbrev pub unless_known : Bool → List ℕ → Option CfgFault
+abbrev pub unless_known : Bool → List ℕ → Option ConfigFault
 unless_known known name = if known then None else Some (Unknown name)
 
 -- the first zone of a subnet that is none of the config's
-abbrev pub unknown_zone : List (List ℕ) → Subnet → Option CfgFault
+abbrev pub unknown_zone : List (List ℕ) → Subnet → Option ConfigFault
 unknown_zone azs subnet = option_map Unknown (find (λ az. not (is_listed az azs)) subnet.azs)
 
 abbrev pub is_vm_type : List ℕ → List VmKind → Bool
 is_vm_type name kinds = list_any (λ kind. bytes_eq kind.name name) kinds
 
 -- the zones of the subnets, and then the zone, the type of machines and the network of the compilation
-abbrev pub unknown_name : Config → Option CfgFault
+abbrev pub unknown_name : Config → Option ConfigFault
 unknown_name config =
     first_of (first_in (unknown_zone config.azs) config.plan.subnets)
     (first_of (unless_known (is_listed config.compilation.az config.azs) config.compilation.az)
@@ -59,7 +59,7 @@ outside_range subnet =
 abbrev pub static_reserved : Subnet → Option Addr
 static_reserved subnet = least (λ addr. is_in_some addr subnet.fixed && is_reserved subnet addr)
 
-abbrev pub out_of_place : Subnet → Option CfgFault
+abbrev pub out_of_place : Subnet → Option ConfigFault
 out_of_place subnet =
     first_of (option_map OutsideRange (outside_range subnet)) (option_map StaticReserved (static_reserved subnet))
 
@@ -71,7 +71,7 @@ abbrev pub overlap : List Subnet → Bool
 overlap [] = false
 overlap (subnet ∷ subnets) = list_any (λ other. have_common subnet.range other.range) subnets || overlap subnets
 
-abbrev pub first_fault : Config → Option CfgFault
+abbrev pub first_fault : Config → Option ConfigFault
 first_fault config =
     first_of (unknown_name config)
     (first_of (first_in out_of_place config.plan.subnets)

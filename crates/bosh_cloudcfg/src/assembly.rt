@@ -3,12 +3,12 @@ ghost use Rattle.std.specs.Prelude.{◌≡◌, ◌++◌, map, unwrap_or, OnOk, O
 ghost use Rattle.std.specs.List.{flat_map};
 ghost use Rattle.bosh_cloudcfg.specs.Answer.{IsAnswer};
 ghost use Rattle.bosh_cloudcfg.specs.Config.{config_of, network_name, subnet_of, subnets_of, zone_name};
-ghost use Rattle.bosh_cloudcfg.specs.declared.fault.CfgFault.TheVariants.{Memory};
+ghost use Rattle.bosh_cloudcfg.specs.declared.fault.ConfigFault.TheVariants.{Memory};
 
 use crate::items::Zone;
 use crate::subnet::{NetworkFields, SubnetFields};
 use crate::tables::Tables;
-use crate::{CfgFault, Config};
+use crate::{Config, ConfigFault};
 use bosh_base::{Band, Copyable, Name, NetPlan, Seq, Subnet, copy_both};
 use std::alloc::{AllocError, Global};
 
@@ -42,7 +42,7 @@ impl Titled for NetworkFields {
     }
 }
 
-fn titles<T: Titled>(alloc: Global, items: &[T]) -> Result<Seq<Name>, CfgFault>
+fn titles<T: Titled>(alloc: Global, items: &[T]) -> Result<Seq<Name>, ConfigFault>
     ensures { IsAnswer result (Ok (map T.title items.now)) }
 {
     let mut names = Vec::new(alloc);
@@ -78,7 +78,7 @@ fn subnet_of(
     azs: &Seq<Name>,
     net: &Name,
     fields: &SubnetFields,
-) -> Result<Subnet, CfgFault>
+) -> Result<Subnet, ConfigFault>
     ensures { IsAnswer result (Ok (subnet_of azs.now net.now fields.now)) }
 {
     let (reserved, fixed) = copy_bands(alloc, &fields.reserved, &fields.fixed)?;
@@ -98,7 +98,7 @@ fn add_subnets(
     azs: &Seq<Name>,
     network: &NetworkFields,
     subnets: &mut Vec<Subnet>,
-) -> Result<(), CfgFault>
+) -> Result<(), ConfigFault>
     ensures ok { OnOk result (subnets.new.items ≡ subnets.old.items ++ subnets_of azs.now network.now) }
     ensures err { IsOkUnless result Memory }
 {
@@ -108,7 +108,11 @@ fn add_subnets(
     Ok(())
 }
 
-fn plan_of(alloc: Global, azs: &Seq<Name>, networks: &[NetworkFields]) -> Result<NetPlan, CfgFault>
+fn plan_of(
+    alloc: Global,
+    azs: &Seq<Name>,
+    networks: &[NetworkFields],
+) -> Result<NetPlan, ConfigFault>
     ensures ok { IfOk result (λ plan. plan.subnets ≡ flat_map (subnets_of azs.now) networks.now) }
     ensures err { IsOkUnless result Memory }
 {
@@ -126,7 +130,7 @@ fn networks_of(
     alloc: Global,
     azs: &Seq<Name>,
     networks: &[NetworkFields],
-) -> Result<(Seq<Name>, NetPlan), CfgFault>
+) -> Result<(Seq<Name>, NetPlan), ConfigFault>
     ensures ok { IfOk result (λ both. (both.0 ≡ map network_name networks.now)
         × (both.1.subnets ≡ flat_map (subnets_of azs.now) networks.now)) }
     ensures err { IsOkUnless result Memory }
@@ -136,7 +140,10 @@ fn networks_of(
 }
 
 // The zones, the names of the networks, and their subnets.
-fn places_of(alloc: Global, tables: &Tables) -> Result<(Seq<Name>, (Seq<Name>, NetPlan)), CfgFault>
+fn places_of(
+    alloc: Global,
+    tables: &Tables,
+) -> Result<(Seq<Name>, (Seq<Name>, NetPlan)), ConfigFault>
     ensures ok { IfOk result (λ all. (all.0 ≡ map zone_name tables.now.azs)
         × (all.1.0 ≡ map network_name tables.now.networks)
         × (all.1.1.subnets ≡ flat_map (subnets_of (map zone_name tables.now.azs)) tables.now.networks)) }
@@ -148,7 +155,7 @@ fn places_of(alloc: Global, tables: &Tables) -> Result<(Seq<Name>, (Seq<Name>, N
 }
 
 /// The config that tables make.
-pub(crate) fn config_of(alloc: Global, tables: Tables) -> Result<Config, CfgFault>
+pub(crate) fn config_of(alloc: Global, tables: Tables) -> Result<Config, ConfigFault>
     ensures { IsAnswer result (Ok (config_of tables)) }
 {
     let (azs, (networks, plan)) = places_of(alloc, &tables)?;

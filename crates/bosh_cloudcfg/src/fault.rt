@@ -1,6 +1,6 @@
 ghost use Rattle.std.specs.Prelude.{◌≡◌};
 ghost use Rattle.bosh_cloudcfg.specs.Answer.{fault_of};
-ghost use Rattle.bosh_cloudcfg.specs.declared.fault.CfgFault.TheVariants.{Memory};
+ghost use Rattle.bosh_cloudcfg.specs.declared.fault.ConfigFault.TheVariants.{Memory};
 
 use bosh_base::{Addr, CopyFault, Text};
 use bosh_fields::FieldFault;
@@ -8,7 +8,7 @@ use std::alloc::{AllocError, AllocFailed};
 
 /// Why a node is no cloud config. A key is that of the field at fault.
 #[derive(Drop)]
-pub enum CfgFault {
+pub enum ConfigFault {
     /// A required key is absent.
     Missing { key: Text },
     /// A value, or an item of a list, is of another kind than its key takes.
@@ -33,42 +33,42 @@ pub enum CfgFault {
     Memory,
 }
 
-impl From<AllocError> for CfgFault {
+impl From<AllocError> for ConfigFault {
     ghost from_gives = { λ _ fault. fault ≡ Memory };
 
     fn from(_: AllocError) -> Self {
-        CfgFault::Memory
+        ConfigFault::Memory
     }
 }
 
-impl<T: Drop> From<AllocFailed<T>> for CfgFault {
+impl<T: Drop> From<AllocFailed<T>> for ConfigFault {
     ghost from_gives = { λ _ fault. fault ≡ Memory };
 
     fn from(_: AllocFailed<T>) -> Self {
-        CfgFault::Memory
+        ConfigFault::Memory
     }
 }
 
-impl From<CopyFault> for CfgFault {
+impl From<CopyFault> for ConfigFault {
     ghost from_gives = { λ _ fault. fault ≡ Memory };
 
     fn from(_: CopyFault) -> Self {
-        CfgFault::Memory
+        ConfigFault::Memory
     }
 }
 
-impl From<FieldFault> for CfgFault {
+impl From<FieldFault> for ConfigFault {
     ghost from_gives = { λ given fault. fault ≡ fault_of given };
 
     fn from(fault: FieldFault) -> Self {
         match fault {
-            FieldFault::Missing { key } => CfgFault::Missing { key },
-            FieldFault::WrongKind { key } => CfgFault::WrongKind { key },
-            FieldFault::Repeated { name } => CfgFault::Repeated { name },
-            FieldFault::Malformed { key } => CfgFault::Address { key },
-            FieldFault::Unsupported { key } => CfgFault::Unsupported { key },
-            FieldFault::Limit { key } => CfgFault::Limit { key },
-            FieldFault::Memory => CfgFault::Memory,
+            FieldFault::Missing { key } => ConfigFault::Missing { key },
+            FieldFault::WrongKind { key } => ConfigFault::WrongKind { key },
+            FieldFault::Repeated { name } => ConfigFault::Repeated { name },
+            FieldFault::Malformed { key } => ConfigFault::Address { key },
+            FieldFault::Unsupported { key } => ConfigFault::Unsupported { key },
+            FieldFault::Limit { key } => ConfigFault::Limit { key },
+            FieldFault::Memory => ConfigFault::Memory,
         }
     }
 }

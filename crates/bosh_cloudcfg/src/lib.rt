@@ -16,5 +16,5 @@ mod zones;
 
 pub use checking::check;
 pub use config::{Compilation, Config, DiskKind, VmKind};
-pub use fault::CfgFault;
+pub use fault::ConfigFault;
 pub use laws::checked_subnets_are_apart;

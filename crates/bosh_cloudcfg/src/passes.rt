@@ -5,10 +5,10 @@ ghost use Rattle.std.specs.Option.{option_copied};
 ghost use Rattle.bosh_base.specs.Plan.{is_listed};
 ghost use Rattle.bosh_cloudcfg.specs.Answer.{IsTest};
 ghost use Rattle.bosh_cloudcfg.specs.Passes.{first_fault, first_in, have_common, is_vm_type, out_of_place, overlap, unknown_name, unknown_zone, unless_known};
-ghost use Rattle.bosh_cloudcfg.specs.declared.fault.CfgFault.TheVariants.{Overlap};
+ghost use Rattle.bosh_cloudcfg.specs.declared.fault.ConfigFault.TheVariants.{Overlap};
 
 use crate::place::{outside_range, static_reserved};
-use crate::{CfgFault, Config, VmKind};
+use crate::{Config, ConfigFault, VmKind};
 use bosh_base::{Band, Copyable, Name, Seq, Subnet};
 use std::alloc::Global;
 
@@ -25,14 +25,14 @@ fn is_vm_type(name: &Name, kinds: &Seq<VmKind>) -> bool
 }
 
 // Refuses a name that is not known.
-fn check_known(alloc: Global, known: bool, name: &Name) -> Result<(), CfgFault>
+fn check_known(alloc: Global, known: bool, name: &Name) -> Result<(), ConfigFault>
     ensures { IsTest result (unless_known known name.now) }
 {
     if known {
         return Ok(());
     }
     let name = Seq::from(Vec::from_slice(alloc, name.as_bytes())?);
-    Err(CfgFault::Unknown { name })
+    Err(ConfigFault::Unknown { name })
 }
 
 // The first zone of a subnet that is none of the config's.
@@ -42,7 +42,7 @@ fn unknown_zone<'a>(azs: &Seq<Name>, subnet: &'a Subnet) -> Option<&'a Name>
     subnet.azs.iter().find(|az| !is_listed(az, azs))
 }
 
-fn check_zones(alloc: Global, azs: &Seq<Name>, subnet: &Subnet) -> Result<(), CfgFault>
+fn check_zones(alloc: Global, azs: &Seq<Name>, subnet: &Subnet) -> Result<(), ConfigFault>
     ensures { IsTest result (unknown_zone azs.now subnet.now) }
 {
     match unknown_zone(azs, subnet) {
@@ -51,7 +51,7 @@ fn check_zones(alloc: Global, azs: &Seq<Name>, subnet: &Subnet) -> Result<(), Cf
     }
 }
 
-fn check_all_zones(alloc: Global, azs: &Seq<Name>, subnets: &[Subnet]) -> Result<(), CfgFault>
+fn check_all_zones(alloc: Global, azs: &Seq<Name>, subnets: &[Subnet]) -> Result<(), ConfigFault>
     ensures { IsTest result (first_in (unknown_zone azs.now) subnets.now) }
 {
     for subnet in subnets {
@@ -60,7 +60,7 @@ fn check_all_zones(alloc: Global, azs: &Seq<Name>, subnets: &[Subnet]) -> Result
     Ok(())
 }
 
-fn check_names(alloc: Global, config: &Config) -> Result<(), CfgFault>
+fn check_names(alloc: Global, config: &Config) -> Result<(), ConfigFault>
     ensures { IsTest result (unknown_name config.now) }
 {
     let wanted = &config.compilation;
@@ -72,19 +72,19 @@ fn check_names(alloc: Global, config: &Config) -> Result<(), CfgFault>
     check_known(alloc, is_listed(network, &config.networks), network)
 }
 
-fn check_place(alloc: Global, subnet: &Subnet) -> Result<(), CfgFault>
+fn check_place(alloc: Global, subnet: &Subnet) -> Result<(), ConfigFault>
     ensures { IsTest result (out_of_place subnet.now) }
 {
     if let Some(addr) = outside_range(subnet) {
-        return Err(CfgFault::OutsideRange { addr });
+        return Err(ConfigFault::OutsideRange { addr });
     }
     match static_reserved(alloc, subnet)? {
-        Some(addr) => Err(CfgFault::StaticReserved { addr }),
+        Some(addr) => Err(ConfigFault::StaticReserved { addr }),
         None => Ok(()),
     }
 }
 
-fn check_places(alloc: Global, subnets: &[Subnet]) -> Result<(), CfgFault>
+fn check_places(alloc: Global, subnets: &[Subnet]) -> Result<(), ConfigFault>
     ensures { IsTest result (first_in out_of_place subnets.now) }
 {
     for subnet in subnets {
@@ -117,18 +117,18 @@ fn overlap(subnets: &[Subnet]) -> bool
     false
 }
 
-fn check_apart(subnets: &[Subnet]) -> Result<(), CfgFault>
+fn check_apart(subnets: &[Subnet]) -> Result<(), ConfigFault>
     ensures { IsTest result (if overlap subnets.now then Some Overlap else None) }
 {
     if overlap(subnets) {
-        Err(CfgFault::Overlap)
+        Err(ConfigFault::Overlap)
     } else {
         Ok(())
     }
 }
 
 /// Refuses a config with a fault, with the first.
-pub(crate) fn check_config(alloc: Global, config: &Config) -> Result<(), CfgFault>
+pub(crate) fn check_config(alloc: Global, config: &Config) -> Result<(), ConfigFault>
     ensures { IsTest result (first_fault config.now) }
 {
     let subnets = config.plan.subnets.as_slice();

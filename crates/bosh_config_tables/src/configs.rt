@@ -3,7 +3,7 @@ use crate::refusals::of_config;
 use crate::shown::{push_addr, push_band, push_bands, push_count};
 use bosh_base::{Addr, Name, Seq, Subnet, Text};
 use bosh_cases::{CaseFault, Given, Outcome, both, field, push_parts, two};
-use bosh_cloudcfg::{CfgFault, Compilation, Config, DiskKind, VmKind, check};
+use bosh_cloudcfg::{Compilation, Config, ConfigFault, DiskKind, VmKind, check};
 use bosh_yaml::{Node, read};
 use std::alloc::{AllocError, Global};
 
@@ -92,7 +92,7 @@ pub(crate) fn config_of(alloc: Global, given: &Node) -> Result<Config, CaseFault
     let node = node_of(alloc, given)?;
     match check(alloc, &node) {
         Ok(config) => Ok(config),
-        Err(CfgFault::Memory) => Err(CaseFault::Memory),
+        Err(ConfigFault::Memory) => Err(CaseFault::Memory),
         Err(_) => Err(CaseFault::Form),
     }
 }

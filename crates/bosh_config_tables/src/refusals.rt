@@ -2,7 +2,7 @@
 use crate::shown::{push_addr, push_owner};
 use bosh_base::{Addr, Owner};
 use bosh_cases::{CaseFault, Outcome, joined};
-use bosh_cloudcfg::CfgFault;
+use bosh_cloudcfg::ConfigFault;
 use bosh_pool::PoolFault;
 use std::alloc::{AllocError, Global};
 
@@ -13,19 +13,19 @@ fn with_addr(alloc: Global, word: &[u8], addr: Addr) -> Result<Vec<u8>, AllocErr
 }
 
 /// The refusal of a cloud config. Dear to prove, with an arm for each of eleven faults.
-pub(crate) fn of_config(alloc: Global, fault: &CfgFault) -> Result<Outcome, CaseFault> {
+pub(crate) fn of_config(alloc: Global, fault: &ConfigFault) -> Result<Outcome, CaseFault> {
     let words = match fault {
-        CfgFault::Missing { key } => joined(alloc, &[b"Missing ", key.as_slice()]),
-        CfgFault::WrongKind { key } => joined(alloc, &[b"WrongKind ", key.as_slice()]),
-        CfgFault::Repeated { name } => joined(alloc, &[b"Repeated ", name.as_slice()]),
-        CfgFault::Unknown { name } => joined(alloc, &[b"Unknown ", name.as_slice()]),
-        CfgFault::Address { key } => joined(alloc, &[b"Address ", key.as_slice()]),
-        CfgFault::OutsideRange { addr } => with_addr(alloc, b"OutsideRange ", *addr),
-        CfgFault::StaticReserved { addr } => with_addr(alloc, b"StaticReserved ", *addr),
-        CfgFault::Overlap => joined(alloc, &[b"Overlap"]),
-        CfgFault::Unsupported { key } => joined(alloc, &[b"Unsupported ", key.as_slice()]),
-        CfgFault::Limit { key } => joined(alloc, &[b"Limit ", key.as_slice()]),
-        CfgFault::Memory => return Err(CaseFault::Memory),
+        ConfigFault::Missing { key } => joined(alloc, &[b"Missing ", key.as_slice()]),
+        ConfigFault::WrongKind { key } => joined(alloc, &[b"WrongKind ", key.as_slice()]),
+        ConfigFault::Repeated { name } => joined(alloc, &[b"Repeated ", name.as_slice()]),
+        ConfigFault::Unknown { name } => joined(alloc, &[b"Unknown ", name.as_slice()]),
+        ConfigFault::Address { key } => joined(alloc, &[b"Address ", key.as_slice()]),
+        ConfigFault::OutsideRange { addr } => with_addr(alloc, b"OutsideRange ", *addr),
+        ConfigFault::StaticReserved { addr } => with_addr(alloc, b"StaticReserved ", *addr),
+        ConfigFault::Overlap => joined(alloc, &[b"Overlap"]),
+        ConfigFault::Unsupported { key } => joined(alloc, &[b"Unsupported ", key.as_slice()]),
+        ConfigFault::Limit { key } => joined(alloc, &[b"Limit ", key.as_slice()]),
+        ConfigFault::Memory => return Err(CaseFault::Memory),
     };
     Ok(Outcome::refusal(words?))
 }

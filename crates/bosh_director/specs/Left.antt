@@ -1,19 +1,11 @@
 -- How tasks are told that have no end after a run (this project's profile).
 use Rattle.std.specs.Prelude.{codes, decimal}
-use Rattle.bosh_answers.specs.Ends.{stopped_reply}
-use Rattle.bosh_base.specs.declared.moves.Cause.{Cause}
-use Rattle.bosh_base.specs.declared.moves.Cause.TheVariants as causes
+use Rattle.bosh_answers.specs.Ends.{stopped_reply, told_halt}
 use Rattle.bosh_base.specs.declared.reply.Reply.{Reply}
 use Rattle.bosh_base.specs.declared.reply.Reply.TheVariants.{Refused}
 use Rattle.bosh_director.specs.declared.left.Left.{Left}
 use Rattle.bosh_director.specs.declared.left.Left.TheVariants as left
 use Rattle.bosh_refusals.specs.Refused.{bare_refusal, refusal_with}
-
--- how a halt is told of a task that it left without an end
-abbrev pub told_halt : Cause → Reply
-told_halt causes.Stop = stopped_reply
-told_halt causes.Store = Refused (bare_refusal (codes "book") (codes "StoreFault"))
-told_halt causes.CloudStore = Refused (bare_refusal (codes "world") (codes "CloudStore"))
 
 -- how a task is told that has no end
 abbrev pub told_left : Left → Reply

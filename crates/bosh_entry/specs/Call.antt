@@ -91,7 +91,11 @@ call_of_at methods.MountDisk = making MountDisk with number_at with number_at
 call_of_at methods.UnmountDisk = making UnmountDisk with number_at with number_at
 call_of_at methods.ListDisk = making ListDisk with number_at
 call_of_at methods.MigrateDisk = making MigrateDisk with number_at with number_at with number_at
-call_of_at methods.CompilePackage = making CompilePackage with number_at with key_work_at with list_at digest_at
+call_of_at methods.CompilePackage =
+    making CompilePackage
+    with number_at
+    with key_work_at
+    with list_at digest_at
 
 unfoldable pub call_at : Reader Call
 call_at bytes = method_at bytes >>= λ asked. call_of_at asked.0 asked.1

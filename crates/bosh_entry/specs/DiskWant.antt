@@ -13,4 +13,10 @@ unfoldable pub is_disk_want : DiskWant → Bool
 is_disk_want w = is_small w.size && is_text w.properties
 
 unfoldable pub disk_want_at : Reader DiskWant
-disk_want_at = making (λ size properties. record { size = size; properties = properties }) with small_at with text_at
+disk_want_at =
+    making (λ size properties. record {
+      size = size;
+      properties = properties;
+    })
+    with small_at
+    with text_at

@@ -27,23 +27,74 @@ use Rattle.bosh_entry.specs.Task.{task_kind, is_task_kind, task_kind_at}
 
 -- a task is opened; the older format has not its source
 unfoldable pub task_open : Format → TaskOpen → List ℕ
-task_open format t = number t.task ++ task_kind t.kind ++ option text t.dep ++ option (goal format) t.goal ++ list inst t.changed ++ list inst t.obsolete ++ list number t.disks ++ later (option digest) format t.source
+task_open format t =
+    number t.task
+    ++ task_kind t.kind
+    ++ option text t.dep
+    ++ option (goal format) t.goal
+    ++ list inst t.changed
+    ++ list inst t.obsolete
+    ++ list number t.disks
+    ++ later (option digest) format t.source
 
 unfoldable pub is_task_open : Format → TaskOpen → Bool
-is_task_open format t = is_number t.task && is_task_kind format t.kind && is_option is_name t.dep && is_option (is_goal format) t.goal && is_list is_inst t.changed && is_list is_inst t.obsolete && is_list is_number t.disks && is_later is_none (is_option is_digest) format t.source
+is_task_open format t =
+    is_number t.task
+    && is_task_kind format t.kind
+    && is_option is_name t.dep
+    && is_option (is_goal format) t.goal
+    && is_list is_inst t.changed
+    && is_list is_inst t.obsolete
+    && is_list is_number t.disks
+    && is_later is_none (is_option is_digest) format t.source
 
 unfoldable pub task_open_at : Format → Reader TaskOpen
-task_open_at format = making (λ task kind dep goal changed obsolete disks source. record { task = task; kind = kind; dep = dep; goal = goal; changed = changed; obsolete = obsolete; disks = disks; source = source }) with number_at with task_kind_at format with option_at name_at with option_at (goal_at format) with list_at inst_at with list_at inst_at with list_at number_at with later_at None (option_at digest_at) format
+task_open_at format =
+    making (λ task kind dep goal changed obsolete disks source. record {
+      task = task;
+      kind = kind;
+      dep = dep;
+      goal = goal;
+      changed = changed;
+      obsolete = obsolete;
+      disks = disks;
+      source = source;
+    })
+    with number_at
+    with task_kind_at format
+    with option_at name_at
+    with option_at (goal_at format)
+    with list_at inst_at
+    with list_at inst_at
+    with list_at number_at
+    with later_at None (option_at digest_at) format
 
 -- the intent of a call
 unfoldable pub begin : Begin → List ℕ
 begin b = number b.n ++ number b.task ++ number b.worker ++ owner b.owner ++ call b.call
 
 unfoldable pub is_begin : Begin → Bool
-is_begin b = is_number b.n && is_number b.task && is_byte b.worker && is_owner b.owner && is_call b.call
+is_begin b =
+    is_number b.n
+    && is_number b.task
+    && is_byte b.worker
+    && is_owner b.owner
+    && is_call b.call
 
 unfoldable pub begin_at : Reader Begin
-begin_at = making (λ n task worker owner call. record { n = n; task = task; worker = worker; owner = owner; call = call }) with number_at with number_at with worker_at with owner_at with call_at
+begin_at =
+    making (λ n task worker owner call. record {
+      n = n;
+      task = task;
+      worker = worker;
+      owner = owner;
+      call = call;
+    })
+    with number_at
+    with number_at
+    with worker_at
+    with owner_at
+    with call_at
 
 -- what a call answered
 unfoldable pub end : End → List ℕ
@@ -73,7 +124,13 @@ unfoldable pub is_task_error : Format → TaskError → Bool
 is_task_error format t = is_number t.task && is_failure format t.cause
 
 unfoldable pub task_error_at : Format → Reader TaskError
-task_error_at format = making (λ task cause. record { task = task; cause = cause }) with number_at with failure_at format
+task_error_at format =
+    making (λ task cause. record {
+      task = task;
+      cause = cause;
+    })
+    with number_at
+    with failure_at format
 
 -- a call that changed the cloud
 unfoldable pub effect : Effect → List ℕ
@@ -83,7 +140,17 @@ unfoldable pub is_effect : Effect → Bool
 is_effect e = is_number e.n && is_owner e.owner && is_name e.dep && is_call e.call
 
 unfoldable pub effect_at : Reader Effect
-effect_at = making (λ n owner dep call. record { n = n; owner = owner; dep = dep; call = call }) with number_at with owner_at with name_at with call_at
+effect_at =
+    making (λ n owner dep call. record {
+      n = n;
+      owner = owner;
+      dep = dep;
+      call = call;
+    })
+    with number_at
+    with owner_at
+    with name_at
+    with call_at
 
 -- what a running job wrote to its disk
 unfoldable pub write : Write → List ℕ

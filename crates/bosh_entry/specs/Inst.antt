@@ -15,4 +15,12 @@ unfoldable pub is_inst : Inst → Bool
 is_inst i = is_name i.dep && is_name i.group && is_small i.index
 
 unfoldable pub inst_at : Reader Inst
-inst_at = making (λ dep group index. record { dep = dep; group = group; index = index }) with name_at with name_at with small_at
+inst_at =
+    making (λ dep group index. record {
+      dep = dep;
+      group = group;
+      index = index;
+    })
+    with name_at
+    with name_at
+    with small_at

@@ -15,7 +15,15 @@ unfoldable pub is_key : Key → Bool
 is_key k = is_digest k.fingerprint && is_text k.os && is_text k.version
 
 unfoldable pub key_at : Reader Key
-key_at = making (λ fingerprint os version. record { fingerprint = fingerprint; os = os; version = version }) with digest_at with text_at with text_at
+key_at =
+    making (λ fingerprint os version. record {
+      fingerprint = fingerprint;
+      os = os;
+      version = version;
+    })
+    with digest_at
+    with text_at
+    with text_at
 
 -- a package to be compiled
 unfoldable pub key_work : KeyWork → List ℕ
@@ -25,4 +33,12 @@ unfoldable pub is_key_work : KeyWork → Bool
 is_key_work w = is_name w.name && is_key w.key && is_list is_key w.deps
 
 unfoldable pub key_work_at : Reader KeyWork
-key_work_at = making (λ name key deps. record { name = name; key = key; deps = deps }) with name_at with key_at with list_at key_at
+key_work_at =
+    making (λ name key deps. record {
+      name = name;
+      key = key;
+      deps = deps;
+    })
+    with name_at
+    with key_at
+    with list_at key_at

@@ -15,7 +15,17 @@ unfoldable pub is_joint : Joint → Bool
 is_joint j = is_name j.dep && is_name j.group && is_name j.job && is_name j.link
 
 unfoldable pub joint_at : Reader Joint
-joint_at = making (λ dep group job link. record { dep = dep; group = group; job = job; link = link }) with name_at with name_at with name_at with name_at
+joint_at =
+    making (λ dep group job link. record {
+      dep = dep;
+      group = group;
+      job = job;
+      link = link;
+    })
+    with name_at
+    with name_at
+    with name_at
+    with name_at
 
 -- a consumed link and its provider
 unfoldable pub tie : Tie → List ℕ
@@ -25,4 +35,12 @@ unfoldable pub is_tie : Tie → Bool
 is_tie t = is_joint t.consumer && is_joint t.provider && is_text t.kind
 
 unfoldable pub tie_at : Reader Tie
-tie_at = making (λ consumer provider kind. record { consumer = consumer; provider = provider; kind = kind }) with joint_at with joint_at with text_at
+tie_at =
+    making (λ consumer provider kind. record {
+      consumer = consumer;
+      provider = provider;
+      kind = kind;
+    })
+    with joint_at
+    with joint_at
+    with text_at

@@ -12,7 +12,24 @@ unfoldable pub make : Make → List ℕ
 make m = text m.os ++ text m.version ++ text m.az ++ text m.vm ++ list net_addr m.nets
 
 unfoldable pub is_make : Make → Bool
-is_make m = is_text m.os && is_text m.version && is_name m.az && is_text m.vm && is_list is_net_addr m.nets
+is_make m =
+    is_text m.os
+    && is_text m.version
+    && is_name m.az
+    && is_text m.vm
+    && is_list is_net_addr m.nets
 
 unfoldable pub make_at : Reader Make
-make_at = making (λ os version az vm nets. record { os = os; version = version; az = az; vm = vm; nets = nets }) with text_at with text_at with name_at with text_at with list_at net_addr_at
+make_at =
+    making (λ os version az vm nets. record {
+      os = os;
+      version = version;
+      az = az;
+      vm = vm;
+      nets = nets;
+    })
+    with text_at
+    with text_at
+    with name_at
+    with text_at
+    with list_at net_addr_at

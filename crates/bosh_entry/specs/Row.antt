@@ -39,13 +39,39 @@ role_at = one_of_at roles
 
 -- a disk, as it is recorded
 unfoldable pub disk_row : DiskRow → List ℕ
-disk_row d = number d.disk ++ number d.tag ++ disk_want d.want ++ role d.role ++ flag d.attached ++ flag d.mounted
+disk_row d =
+    number d.disk
+    ++ number d.tag
+    ++ disk_want d.want
+    ++ role d.role
+    ++ flag d.attached
+    ++ flag d.mounted
 
 unfoldable pub is_disk_row : DiskRow → Bool
-is_disk_row d = is_number d.disk && is_number d.tag && is_disk_want d.want && is_role d.role && is_flag d.attached && is_flag d.mounted
+is_disk_row d =
+    is_number d.disk
+    && is_number d.tag
+    && is_disk_want d.want
+    && is_role d.role
+    && is_flag d.attached
+    && is_flag d.mounted
 
 unfoldable pub disk_row_at : Reader DiskRow
-disk_row_at = making (λ disk tag want role attached mounted. record { disk = disk; tag = tag; want = want; role = role; attached = attached; mounted = mounted }) with number_at with number_at with disk_want_at with role_at with flag_at with flag_at
+disk_row_at =
+    making (λ disk tag want role attached mounted. record {
+      disk = disk;
+      tag = tag;
+      want = want;
+      role = role;
+      attached = attached;
+      mounted = mounted;
+    })
+    with number_at
+    with number_at
+    with disk_want_at
+    with role_at
+    with flag_at
+    with flag_at
 
 -- a machine, as it is recorded
 unfoldable pub vm : Vm → List ℕ
@@ -69,10 +95,48 @@ doubt_at = making (λ n call. record { n = n; call = call }) with number_at with
 
 -- what is recorded of an instance; the older format has not whether it is lost
 unfoldable pub row : Format → Row → List ℕ
-row format r = inst r.inst ++ option make r.make ++ option vm r.vm ++ option spec r.spec ++ flag r.running ++ flag r.drained ++ list disk_row r.disks ++ option doubt r.doubt ++ later flag format r.lost
+row format r =
+    inst r.inst
+    ++ option make r.make
+    ++ option vm r.vm
+    ++ option spec r.spec
+    ++ flag r.running
+    ++ flag r.drained
+    ++ list disk_row r.disks
+    ++ option doubt r.doubt
+    ++ later flag format r.lost
 
 unfoldable pub is_row : Format → Row → Bool
-is_row format r = is_inst r.inst && is_option is_make r.make && is_option is_vm r.vm && is_option is_spec r.spec && is_flag r.running && is_flag r.drained && is_list is_disk_row r.disks && is_option is_doubt r.doubt && is_later not is_flag format r.lost
+is_row format r =
+    is_inst r.inst
+    && is_option is_make r.make
+    && is_option is_vm r.vm
+    && is_option is_spec r.spec
+    && is_flag r.running
+    && is_flag r.drained
+    && is_list is_disk_row r.disks
+    && is_option is_doubt r.doubt
+    && is_later not is_flag format r.lost
 
 unfoldable pub row_at : Format → Reader Row
-row_at format = making (λ inst make vm spec running drained disks doubt lost. record { inst = inst; make = make; vm = vm; spec = spec; running = running; drained = drained; disks = disks; doubt = doubt; lost = lost }) with inst_at with option_at make_at with option_at vm_at with option_at spec_at with flag_at with flag_at with list_at disk_row_at with option_at doubt_at with later_at false flag_at format
+row_at format =
+    making (λ inst make vm spec running drained disks doubt lost. record {
+      inst = inst;
+      make = make;
+      vm = vm;
+      spec = spec;
+      running = running;
+      drained = drained;
+      disks = disks;
+      doubt = doubt;
+      lost = lost;
+    })
+    with inst_at
+    with option_at make_at
+    with option_at vm_at
+    with option_at spec_at
+    with flag_at
+    with flag_at
+    with list_at disk_row_at
+    with option_at doubt_at
+    with later_at false flag_at format

@@ -16,7 +16,13 @@ unfoldable pub is_mark : Mark → Bool
 is_mark m = is_name m.name && is_digest m.fingerprint
 
 unfoldable pub mark_at : Reader Mark
-mark_at = making (λ name fingerprint. record { name = name; fingerprint = fingerprint }) with name_at with digest_at
+mark_at =
+    making (λ name fingerprint. record {
+      name = name;
+      fingerprint = fingerprint;
+    })
+    with name_at
+    with digest_at
 
 -- a file and where it lies
 unfoldable pub placed : Placed → List ℕ
@@ -36,4 +42,12 @@ unfoldable pub is_spec : Spec → Bool
 is_spec s = is_list is_mark s.jobs && is_list is_mark s.packages && is_list is_placed s.files
 
 unfoldable pub spec_at : Reader Spec
-spec_at = making (λ jobs packages files. record { jobs = jobs; packages = packages; files = files }) with list_at mark_at with list_at mark_at with list_at placed_at
+spec_at =
+    making (λ jobs packages files. record {
+      jobs = jobs;
+      packages = packages;
+      files = files;
+    })
+    with list_at mark_at
+    with list_at mark_at
+    with list_at placed_at

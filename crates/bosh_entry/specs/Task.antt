@@ -90,10 +90,36 @@ task_end_at format = one_of_at (task_ends format)
 
 -- what is recorded of a task; the older format has neither its source nor its calls
 unfoldable pub task_row : Format → TaskRow → List ℕ
-task_row format t = number t.task ++ task_kind t.kind ++ option text t.dep ++ option task_end t.end ++ later (option digest) format t.source ++ later (option number) format t.calls
+task_row format t =
+    number t.task
+    ++ task_kind t.kind
+    ++ option text t.dep
+    ++ option task_end t.end
+    ++ later (option digest) format t.source
+    ++ later (option number) format t.calls
 
 unfoldable pub is_task_row : Format → TaskRow → Bool
-is_task_row format t = is_number t.task && is_task_kind format t.kind && is_option is_name t.dep && is_option (is_task_end format) t.end && is_later is_none (is_option is_digest) format t.source && is_later is_none (is_option is_number) format t.calls
+is_task_row format t =
+    is_number t.task
+    && is_task_kind format t.kind
+    && is_option is_name t.dep
+    && is_option (is_task_end format) t.end
+    && is_later is_none (is_option is_digest) format t.source
+    && is_later is_none (is_option is_number) format t.calls
 
 unfoldable pub task_row_at : Format → Reader TaskRow
-task_row_at format = making (λ task kind dep ended source calls. record { task = task; kind = kind; dep = dep; end = ended; source = source; calls = calls }) with number_at with task_kind_at format with option_at name_at with option_at (task_end_at format) with later_at None (option_at digest_at) format with later_at None (option_at number_at) format
+task_row_at format =
+    making (λ task kind dep ended source calls. record {
+      task = task;
+      kind = kind;
+      dep = dep;
+      end = ended;
+      source = source;
+      calls = calls;
+    })
+    with number_at
+    with task_kind_at format
+    with option_at name_at
+    with option_at (task_end_at format)
+    with later_at None (option_at digest_at) format
+    with later_at None (option_at number_at) format

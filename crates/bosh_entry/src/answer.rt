@@ -7,7 +7,7 @@ use crate::fault::EntryFault;
 use crate::format::Format;
 use crate::pair::write_three;
 use crate::source::Source;
-use crate::variant::write_variant;
+use crate::variant::{write_place, write_variant};
 use bosh_base::{Answer, Digest, Seq};
 use std::alloc::Global;
 
@@ -35,11 +35,11 @@ impl Coded for Answer {
     #[tactic(auto, unfolding(crate::specs::Answer::answer, crate::specs::Answer::is_answer))]
     fn write(&self, out: &mut Vec<u8>) -> Result<(), EntryFault> {
         match self {
-            Answer::Done => 0u8.write(out),
+            Answer::Done => write_place(0, out),
             Answer::Cid(number) => write_variant(1, number, out),
             Answer::Found(found) => write_variant(2, found, out),
-            Answer::Yes => 3u8.write(out),
-            Answer::No => 4u8.write(out),
+            Answer::Yes => write_place(3, out),
+            Answer::No => write_place(4, out),
             Answer::Disks(items) => write_variant(5, items, out),
             Answer::Facts {
                 spec,
@@ -50,8 +50,8 @@ impl Coded for Answer {
                 write_three(spec, running, drained, out)
             }
             Answer::Built(digest) => write_variant(7, digest, out),
-            Answer::Gone => 8u8.write(out),
-            Answer::Failed => 9u8.write(out),
+            Answer::Gone => write_place(8, out),
+            Answer::Failed => write_place(9, out),
         }
     }
 

@@ -1,4 +1,4 @@
-ghost use Rattle.std.specs.Prelude.{◌≡◌};
+ghost use Rattle.std.specs.Prelude.{◌≡◌, ◌<◌};
 ghost use Rattle.bosh_entry.specs.Reading.{Gives, variant_at};
 ghost use Rattle.bosh_entry.specs.Body.{kind_of, first_of, kinds};
 
@@ -45,8 +45,7 @@ fn first(format: Format, kind: u8) -> u8
     }
 }
 
-// Dear to prove: one arm for each kind of entry, each a function of its own.
-#[tactic(auto, unfolding(crate::specs::Later::present_at))]
+// The fields of a kind up to 8.
 fn fields(alloc: Global, format: Format, kind: u8, from: &mut Source) -> Result<Entry, EntryFault>
     ensures { Gives result from.new.rest.now (variant_at 1 (kinds format) kind from.old.rest.now) }
 {
@@ -59,8 +58,25 @@ fn fields(alloc: Global, format: Format, kind: u8, from: &mut Source) -> Result<
         6 => End::read(alloc, format, from).map(Entry::End),
         7 => Update::read(alloc, format, from).map(Entry::UpdBegin),
         8 => Update::read(alloc, format, from).map(Entry::UpdDone),
+        9.. => later_fields(alloc, format, kind, from),
+        0 => Err(EntryFault::NotAnEntry),
+    }
+}
+
+// The fields of a kind from 9 on.
+#[tactic(auto, unfolding(crate::specs::Later::present_at))]
+fn later_fields(
+    alloc: Global,
+    format: Format,
+    kind: u8,
+    from: &mut Source,
+) -> Result<Entry, EntryFault>
+    requires { 8 < kind }
+    ensures { Gives result from.new.rest.now (variant_at 1 (kinds format) kind from.old.rest.now) }
+{
+    match kind {
         9 => Update::read(alloc, format, from).map(Entry::Gone),
-        10 => u64::read(alloc, format, from).map(Entry::TaskDone),
+        10 => from.number().map(Entry::TaskDone),
         11 => TaskError::read(alloc, format, from).map(Entry::TaskError),
         12 => Snapshot::read(alloc, format, from).map(Entry::Snapshot),
         13 => Effect::read(alloc, format, from).map(Entry::Effect),

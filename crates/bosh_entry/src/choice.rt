@@ -4,7 +4,7 @@ use crate::coded::Coded;
 use crate::fault::EntryFault;
 use crate::format::Format;
 use crate::source::Source;
-use crate::variant::write_variant;
+use crate::variant::{write_place, write_variant};
 use std::alloc::Global;
 
 impl Coded for bool {
@@ -45,7 +45,7 @@ impl<T: Coded> Coded for Option<T> {
 
     fn write(&self, out: &mut Vec<u8>) -> Result<(), EntryFault> {
         match self {
-            None => 0u8.write(out),
+            None => write_place(0, out),
             Some(value) => write_variant(1, value, out),
         }
     }

@@ -8,8 +8,7 @@ use crate::number::worker;
 use crate::pair::write_four;
 use crate::source::Source;
 use bosh_base::{
-    Answer, Begin, Call, Effect, End, Failure, Inst, Loss, Owner, TaskError, TaskOpen, Text,
-    Update, Write,
+    Answer, Begin, Effect, End, Failure, Inst, Loss, TaskError, TaskOpen, Text, Update, Write,
 };
 use std::alloc::Global;
 
@@ -51,7 +50,6 @@ impl Coded for TaskOpen {
     }
 }
 
-// Its `read` is dear to prove: a call of 22 variants is alive beside what is read after it.
 impl Coded for Begin {
     ghost use Rattle.bosh_entry.specs.Entry.{begin, is_begin, begin_at};
 
@@ -70,13 +68,12 @@ impl Coded for Begin {
         self.call.write(out)
     }
 
-    #[tactic(auto, unfolding(crate::specs::Entry::begin_at))]
+    #[tactic(auto, unfolding(crate::specs::Entry::begin_at, crate::specs::Pair::pair_at))]
     fn read(alloc: Global, format: Format, from: &mut Source) -> Result<Self, EntryFault> {
         let n = from.number()?;
         let task = from.number()?;
         let worker = worker(from)?;
-        let owner = Owner::read(alloc, format, from)?;
-        let call = Call::read(alloc, format, from)?;
+        let (owner, call) = Coded::read(alloc, format, from)?;
         Ok(Begin {
             n,
             task,

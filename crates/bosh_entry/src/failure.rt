@@ -4,7 +4,7 @@ use crate::coded::Coded;
 use crate::fault::EntryFault;
 use crate::format::Format;
 use crate::source::Source;
-use crate::variant::write_variant;
+use crate::variant::{write_place, write_variant};
 use bosh_base::Failure;
 use std::alloc::Global;
 
@@ -20,7 +20,7 @@ impl Coded for Failure {
     #[tactic(auto, unfolding(crate::specs::Failure::failure, crate::specs::Failure::is_failure))]
     fn write(&self, out: &mut Vec<u8>) -> Result<(), EntryFault> {
         match self {
-            Failure::Interrupted => 0u8.write(out),
+            Failure::Interrupted => write_place(0, out),
             Failure::Call(number) => write_variant(1, number, out),
             Failure::Gone(number) => write_variant(2, number, out),
         }

@@ -7,7 +7,6 @@ ghost use Rattle.bosh_entry.specs.Pair.{pair_at};
 use crate::coded::Coded;
 use crate::fault::EntryFault;
 use crate::format::Format;
-use crate::list::Listed;
 use crate::source::Source;
 use bosh_base::Seq;
 use std::alloc::Global;
@@ -60,7 +59,7 @@ pub fn before_both_later<A: Coded, S: Coded, T: Coded>(
 }
 
 /// Fields, and after them a list that the older format has not: there it is empty.
-pub fn before_later_list<A: Coded, T: Listed>(
+pub fn before_later_list<A: Coded, T: Coded>(
     alloc: Global,
     format: Format,
     from: &mut Source,

@@ -20,7 +20,6 @@ mod later;
 mod laws;
 mod link;
 mod list;
-mod listed;
 mod make;
 mod method;
 mod number;
@@ -36,6 +35,7 @@ mod spec;
 mod state;
 mod stemcell;
 mod task;
+mod text;
 mod variant;
 
 pub use codec::{read, read_old, write};

@@ -41,42 +41,8 @@ fn read_one_by_one<T: Coded>(
     Ok(Seq::from(items))
 }
 
-/// A type whose values stand in lists. Most are written and read one by one.
-pub trait Listed: Coded {
-    /// Adds the spellings of items, one after the other.
-    fn write_each(items: &[Self], out: &mut Vec<u8>) -> Result<(), EntryFault>
-        ensures ok { OnOk result (out.new.items ≡ out.old.items ++ flat_map (Self.spelling Present) items.now) }
-        ensures fits { OnOk result (list_all (Self.fits Present) items.now ≡ true) }
-        ensures err { IfErr result (λ fault. fault ≡ Memory) }
-    {
-        write_one_by_one(items, out)
-    }
-
-    /// So many values, which the next bytes spell.
-    fn read_each(
-        alloc: Global,
-        format: Format,
-        count: u64,
-        from: &mut Source,
-    ) -> Result<Seq<Self>, EntryFault>
-        ensures { Gives result from.new.rest.now (items_at (Self.reading format) count from.old.rest.now) }
-    {
-        read_one_by_one(alloc, format, count, from)
-    }
-}
-
-/// Adds the spelling of a list at the end.
-pub fn write_items<T: Listed>(items: &[T], out: &mut Vec<u8>) -> Result<(), EntryFault>
-    ensures ok { OnOk result (out.new.items ≡ out.old.items ++ list (T.spelling Present) items.now) }
-    ensures fits { OnOk result (is_list (T.fits Present) items.now ≡ true) }
-    ensures err { IfErr result (λ fault. fault ≡ Memory) }
-{
-    (items.len() as u64).write(out)?;
-    T::write_each(items, out)
-}
-
-impl<T: Listed> Coded for Seq<T> {
-    ghost use Rattle.bosh_entry.specs.List.{list_at, is_list};
+impl<T: Coded> Coded for Seq<T> {
+    ghost use Rattle.bosh_entry.specs.List.{list_at};
 
     ghost spelling = { λ format. list (T.spelling format) };
 
@@ -85,12 +51,13 @@ impl<T: Listed> Coded for Seq<T> {
     ghost reading = { λ format. list_at (T.reading format) };
 
     fn write(&self, out: &mut Vec<u8>) -> Result<(), EntryFault> {
-        write_items(self.as_slice(), out)
+        (self.len() as u64).write(out)?;
+        write_one_by_one(self.as_slice(), out)
     }
 
     #[tactic(auto, unfolding(crate::specs::List::list_at))]
     fn read(alloc: Global, format: Format, from: &mut Source) -> Result<Self, EntryFault> {
         let count = from.number()?;
-        T::read_each(alloc, format, count, from)
+        read_one_by_one(alloc, format, count, from)
     }
 }

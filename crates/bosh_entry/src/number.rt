@@ -5,52 +5,8 @@ ghost use Rattle.bosh_entry.specs.Number.{worker_at};
 use crate::coded::Coded;
 use crate::fault::EntryFault;
 use crate::format::Format;
-use crate::list::Listed;
 use crate::source::Source;
-use bosh_base::Text;
 use std::alloc::Global;
-
-impl Coded for u8 {
-    ghost use Rattle.bosh_entry.specs.Reading.{byte_at};
-    ghost use Rattle.bosh_entry.specs.Number.{byte, is_byte};
-
-    ghost spelling = { λ _. byte };
-
-    ghost fits = { λ _. is_byte };
-
-    ghost reading = { λ _. byte_at };
-
-    fn write(&self, out: &mut Vec<u8>) -> Result<(), EntryFault> {
-        out.push(*self)?;
-        Ok(())
-    }
-
-    fn read(_alloc: Global, _format: Format, from: &mut Source) -> Result<Self, EntryFault> {
-        from.byte()
-    }
-}
-
-/// The bytes of a text are written and read at once.
-impl Listed for u8 {
-    fn write_each(items: &[Self], out: &mut Vec<u8>) -> Result<(), EntryFault> {
-        out.extend_from_slice(items)?;
-        Ok(())
-    }
-
-    fn read_each(
-        alloc: Global,
-        _format: Format,
-        count: u64,
-        from: &mut Source,
-    ) -> Result<Text, EntryFault> {
-        if count > from.rest.len() as u64 {
-            return Err(EntryFault::NotAnEntry);
-        }
-        let (bytes, rest) = from.rest.split_at(count as usize);
-        from.rest = rest;
-        Ok(Text::from(Vec::from_slice(alloc, bytes)?))
-    }
-}
 
 impl Coded for u64 {
     ghost use Rattle.bosh_entry.specs.Number.{number, is_number, number_at};

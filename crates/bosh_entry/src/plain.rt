@@ -3,8 +3,8 @@ ghost use Rattle.std.specs.Prelude.{◌≡◌};
 use crate::coded::Coded;
 use crate::fault::EntryFault;
 use crate::format::Format;
-use crate::list::write_items;
 use crate::source::Source;
+use crate::text::write_text;
 use bosh_base::{Digest, Name, OfFault, Text};
 use std::alloc::Global;
 
@@ -20,7 +20,7 @@ impl Coded for Name {
     ghost reading = { λ _. name_at };
 
     fn write(&self, out: &mut Vec<u8>) -> Result<(), EntryFault> {
-        write_items(self.as_bytes(), out)
+        write_text(self.as_bytes(), out)
     }
 
     #[tactic(auto, unfolding(crate::specs::Plain::name_at))]

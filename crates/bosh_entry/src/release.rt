@@ -5,7 +5,7 @@ use crate::fault::EntryFault;
 use crate::format::Format;
 use crate::pair::{write_four, write_three};
 use crate::source::Source;
-use crate::variant::write_variant;
+use crate::variant::{write_place, write_variant};
 use bosh_base::{
     JobSpec, LinkSpec, PackageSpec, Prop, PropSpec, Release, Setting, TemplateSpec, Text,
 };
@@ -24,7 +24,7 @@ impl Coded for Setting {
     fn write(&self, out: &mut Vec<u8>) -> Result<(), EntryFault> {
         match self {
             Setting::Scalar(text) => write_variant(0, text, out),
-            Setting::Compound => 1u8.write(out),
+            Setting::Compound => write_place(1, out),
         }
     }
 

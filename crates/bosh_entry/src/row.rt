@@ -6,6 +6,7 @@ use crate::format::Format;
 use crate::later::before_later;
 use crate::pair::{write_both, write_four};
 use crate::source::Source;
+use crate::variant::write_place;
 use bosh_base::{Call, DiskRow, Doubt, Role, Row, Vm};
 use std::alloc::Global;
 
@@ -21,9 +22,9 @@ impl Coded for Role {
     #[tactic(auto, unfolding(crate::specs::Row::role, crate::specs::Row::is_role))]
     fn write(&self, out: &mut Vec<u8>) -> Result<(), EntryFault> {
         match self {
-            Role::Active => 0u8.write(out),
-            Role::New => 1u8.write(out),
-            Role::Old => 2u8.write(out),
+            Role::Active => write_place(0, out),
+            Role::New => write_place(1, out),
+            Role::Old => write_place(2, out),
         }
     }
 

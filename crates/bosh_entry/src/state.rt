@@ -4,6 +4,7 @@ use crate::coded::Coded;
 use crate::fault::EntryFault;
 use crate::format::Format;
 use crate::source::Source;
+use crate::variant::write_place;
 use bosh_base::State;
 use std::alloc::Global;
 
@@ -19,9 +20,9 @@ impl Coded for State {
     #[tactic(auto, unfolding(crate::specs::State::state, crate::specs::State::is_state))]
     fn write(&self, out: &mut Vec<u8>) -> Result<(), EntryFault> {
         match self {
-            State::Running => 0u8.write(out),
-            State::Stopped => 1u8.write(out),
-            State::Detached => 2u8.write(out),
+            State::Running => write_place(0, out),
+            State::Stopped => write_place(1, out),
+            State::Detached => write_place(2, out),
         }
     }
 

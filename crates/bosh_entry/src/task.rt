@@ -8,7 +8,7 @@ use crate::format::Format;
 use crate::later::before_both_later;
 use crate::pair::{write_both, write_four, write_three};
 use crate::source::Source;
-use crate::variant::write_variant;
+use crate::variant::{write_place, write_variant};
 use bosh_base::{Inst, Method, Owner, TaskEnd, TaskKind, TaskRow};
 use std::alloc::Global;
 
@@ -24,14 +24,14 @@ impl Coded for TaskKind {
     #[tactic(auto, unfolding(crate::specs::Task::task_kind, crate::specs::Task::is_task_kind))]
     fn write(&self, out: &mut Vec<u8>) -> Result<(), EntryFault> {
         match self {
-            TaskKind::Deploy => 0u8.write(out),
+            TaskKind::Deploy => write_place(0, out),
             TaskKind::Recreate(inst) => write_variant(1, inst, out),
             TaskKind::Start(inst) => write_variant(2, inst, out),
             TaskKind::Stop(inst) => write_variant(3, inst, out),
-            TaskKind::DeleteDeployment => 4u8.write(out),
+            TaskKind::DeleteDeployment => write_place(4, out),
             TaskKind::DeleteDisk(number) => write_variant(5, number, out),
-            TaskKind::CleanUp => 6u8.write(out),
-            TaskKind::Fix => 7u8.write(out),
+            TaskKind::CleanUp => write_place(6, out),
+            TaskKind::Fix => write_place(7, out),
             TaskKind::Resolve(inst) => write_variant(8, inst, out),
         }
     }
@@ -89,12 +89,12 @@ impl Coded for TaskEnd {
     #[tactic(auto, unfolding(crate::specs::Task::task_end, crate::specs::Task::is_task_end))]
     fn write(&self, out: &mut Vec<u8>) -> Result<(), EntryFault> {
         match self {
-            TaskEnd::Finished => 0u8.write(out),
+            TaskEnd::Finished => write_place(0, out),
             TaskEnd::Fault { n, method, owner } => {
                 out.push(1)?;
                 write_three(n, method, owner, out)
             }
-            TaskEnd::Interrupted => 2u8.write(out),
+            TaskEnd::Interrupted => write_place(2, out),
             TaskEnd::Gone { n, method, owner } => {
                 out.push(3)?;
                 write_three(n, method, owner, out)

@@ -1,4 +1,4 @@
-ghost use Rattle.std.specs.Prelude.{◌≡◌, ◌++◌, ◌∷◌, true, OnOk, IfErr};
+ghost use Rattle.std.specs.Prelude.{◌≡◌, ◌++◌, ◌∷◌, [], true, OnOk, IfErr};
 ghost use Rattle.bosh_entry.specs.declared.fault.EntryFault.TheVariants.{Memory};
 ghost use Rattle.bosh_entry.specs.declared.format.Format.TheVariants.{Present};
 
@@ -13,4 +13,13 @@ pub fn write_variant<T: Coded>(place: u8, field: &T, out: &mut Vec<u8>) -> Resul
 {
     out.push(place)?;
     field.write(out)
+}
+
+/// Adds the place of a variant that has no field.
+pub fn write_place(place: u8, out: &mut Vec<u8>) -> Result<(), EntryFault>
+    ensures ok { OnOk result (out.new.items ≡ out.old.items ++ place ∷ []) }
+    ensures err { IfErr result (λ fault. fault ≡ Memory) }
+{
+    out.push(place)?;
+    Ok(())
 }

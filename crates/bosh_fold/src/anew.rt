@@ -6,7 +6,7 @@ ghost use Rattle.bosh_fold.specs.ArrivalsWith.{arrivals_with, opened_with};
 use crate::opening::note_wants;
 use crate::updating::add_orphan;
 use bosh_base::{BuiltKey, CompileRow, Copyable, DepRow, Goal, Orphan, Row, Snapshot, TaskRow};
-use bosh_owned::put;
+use bosh_drops::put;
 use bosh_records::{Instances, Machine, Records, RecordsFault, Since, Table, copies};
 use bosh_work::MachineName;
 use std::alloc::Global;

@@ -12,7 +12,7 @@ use crate::ending::learn_end;
 use crate::opening::learn_opening;
 use crate::updating::{learn_update_begin, learn_updated};
 use bosh_base::{Copyable, Entry, Offer, Release, Seq, Stemcell, TaskEnd, Text};
-use bosh_owned::put;
+use bosh_drops::put;
 use bosh_plan::{
     Begun, Ended, Opened, Updated, plan_begin, plan_done, plan_end, plan_error, plan_gone,
     plan_opening, plan_update_done,

@@ -4,7 +4,7 @@ ghost use Rattle.bosh_records.specs.Arrivals.{arrivals};
 use crate::beginning::{set_compiling, set_open_call};
 use crate::place::thing_mut;
 use bosh_base::{Begin, Call, Digest, Key, Owner, TaskEnd};
-use bosh_owned::{let_go, put};
+use bosh_drops::{let_go, put};
 use bosh_plan::{After, Ended, Told};
 use bosh_records::{Records, Table};
 use bosh_work::{MachineName, Work};
@@ -14,12 +14,12 @@ pub(crate) fn learn_end(records: &mut Records, ended: Ended)
     ensures { arrivals records.new ≡ arrivals records.old }
 {
     match records.calls.remove(&ended.n) {
-        Some(begin) => answered(records, &begin, ended),
+        Some(begin) => answered(records, begin, ended),
         None => let_go(ended),
     }
 }
 
-fn answered(records: &mut Records, begin: &Begin, ended: Ended)
+fn answered(records: &mut Records, begin: Begin, ended: Ended)
     ensures { arrivals records.new ≡ arrivals records.old }
 {
     let Ended {
@@ -29,10 +29,10 @@ fn answered(records: &mut Records, begin: &Begin, ended: Ended)
         built,
         is_asked,
     } = ended;
-    close_call(records, begin, is_asked);
+    close_call(records, &begin, is_asked);
     fail(records, begin.task, failed);
-    note_built(records, &begin.call, built);
     tell(records, &begin.owner, after);
+    note_built(records, begin.call, built);
 }
 
 fn close_call(records: &mut Records, begin: &Begin, is_asked: bool)
@@ -77,12 +77,15 @@ fn give(records: &mut Records, task: u64, begin: &Begin)
 }
 
 // A compilation that is answered records its key, whatever becomes of the task.
-fn note_built(records: &mut Records, call: &Call, built: Option<Digest>)
+fn note_built(records: &mut Records, call: Call, built: Option<Digest>)
     ensures { arrivals records.new ≡ arrivals records.old }
 {
-    if let (Call::CompilePackage { work, .. }, Some(digest)) = (call, built) {
-        records.keys.set_digest(&work.key, digest);
-        compiled(&mut records.works, &work.key);
+    match (call, built) {
+        (Call::CompilePackage { work, .. }, Some(digest)) => {
+            compiled(&mut records.works, &work.key);
+            records.keys.set_built(work, digest);
+        }
+        (call, _) => let_go(call),
     }
 }
 

@@ -1,4 +1,4 @@
--- The manifest of a generated deployment (this project's profile).
+-- The manifest of a generated deployment, and the cloud config that it stands on (this project's profile).
 use Rattle.std.specs.Prelude.{ℕ, zero, suc, ◌+◌, ◌-◌, ◌*◌, ◌/◌, List, [], ◌++◌, codes, decimal, min}
 
 -- all that stands before the groups
@@ -25,3 +25,12 @@ group_text group members =
 abbrev pub groups_text : ℕ → ℕ → List ℕ
 groups_text instances zero = []
 groups_text instances (suc group) = groups_text instances group ++ group_text group (members instances group)
+
+abbrev pub manifest_text : ℕ → List ℕ
+manifest_text instances = header ++ groups_text instances (groups instances)
+
+-- ---- the cloud config
+
+-- one zone, one network of 65,536 addresses, one vm type, and four compile workers
+abbrev pub cloud_config_text : List ℕ
+cloud_config_text = codes "azs:\n- name: z1\nnetworks:\n- name: net\n  subnets:\n  - {range: 10.64.0.0/16, gateway: 10.64.0.1, az: z1}\nvm_types:\n- name: small\ncompilation: {workers: 4, az: z1, vm_type: small, network: net}\n"

@@ -43,3 +43,7 @@ package_files pack = script_file pack ∷ spec_file pack ∷ []
 abbrev pub packages_files : ℕ → List File
 packages_files zero = []
 packages_files (suc pack) = packages_files pack ++ package_files pack
+
+-- all files: the job, and eight packages
+abbrev pub release_files : List File
+release_files = job_files ++ packages_files 8

@@ -1,6 +1,6 @@
 ghost use Rattle.std.specs.Prelude.{◌≡◌, ◌++◌, ◌∷◌, [], IfOk, Ok, OnOk, codes, decimal};
 ghost use Rattle.bosh_generator.specs.Release.{file, job_file, job_files, monit_file, named_file, template_file};
-ghost use Rattle.bosh_generator.specs.Release.{package_files, package_spec, packages_files, script_file, spec_file};
+ghost use Rattle.bosh_generator.specs.Release.{package_files, package_spec, packages_files, release_files, script_file, spec_file};
 ghost use Rattle.bosh_release_files.specs.declared.folder.File.{File};
 
 use crate::piece::{add, add_number};
@@ -143,7 +143,7 @@ fn push_job(alloc: Global, files: &mut Vec<File>) -> Result<(), AllocError>
 /// The files of the release: one job with one template, and eight packages, each of which but the first needs the one
 /// before.
 pub fn release(alloc: Global) -> Result<Vec<File>, AllocError>
-    ensures { IfOk result (λ files. files.items ≡ job_files ++ packages_files 8) }
+    ensures { IfOk result (λ files. files.items ≡ release_files) }
 {
     let mut files = Vec::new(alloc);
     push_job(alloc, &mut files)?;

@@ -1,5 +1,5 @@
-ghost use Rattle.std.specs.Prelude.{◌≡◌, ◌++◌, ◌≤◌, IfOk, OnOk, codes};
-ghost use Rattle.bosh_generator.specs.Manifest.{group_text, groups, groups_text, header, members, tail};
+ghost use Rattle.std.specs.Prelude.{◌≡◌, ◌++◌, ◌≤◌, IfOk, OnOk};
+ghost use Rattle.bosh_generator.specs.Manifest.{cloud_config_text, group_text, groups, header, manifest_text, members, tail};
 
 use crate::piece::{add, add_number};
 use std::alloc::{AllocError, Global};
@@ -9,7 +9,7 @@ const MEMBERS: u64 = 64;
 
 /// The cloud config: one zone, one network of 65,536 addresses, one vm type, and four compile workers.
 pub fn cloud_config() -> &'static [u8]
-    ensures { result.now ≡ codes "azs:\n- name: z1\nnetworks:\n- name: net\n  subnets:\n  - {range: 10.64.0.0/16, gateway: 10.64.0.1, az: z1}\nvm_types:\n- name: small\ncompilation: {workers: 4, az: z1, vm_type: small, network: net}\n" }
+    ensures { result.now ≡ cloud_config_text }
 {
     b"azs:\n- name: z1\nnetworks:\n- name: net\n  subnets:\n  - {range: 10.64.0.0/16, gateway: 10.64.0.1, az: z1}\nvm_types:\n- name: small\ncompilation: {workers: 4, az: z1, vm_type: small, network: net}\n"
 }
@@ -54,7 +54,7 @@ fn add_group(out: &mut Vec<u8>, group: u64, members: u64) -> Result<(), AllocErr
 /// The manifest of so many instances.
 pub fn manifest(alloc: Global, instances: u64) -> Result<Vec<u8>, AllocError>
     requires { instances ≤ 512 }
-    ensures { IfOk result (λ text. text.items ≡ header ++ groups_text instances (groups instances)) }
+    ensures { IfOk result (λ text. text.items ≡ manifest_text instances) }
 {
     let mut text = Vec::new(alloc);
     add_header(&mut text)?;

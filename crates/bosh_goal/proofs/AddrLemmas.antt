@@ -7,7 +7,7 @@ use Rattle.bosh_base.specs.declared.addr.NetAddr.{NetAddr}
 use Rattle.bosh_base.specs.declared.goal.GoalRow.{GoalRow}
 use Rattle.bosh_base.specs.declared.row.Row.{Row}
 use Rattle.bosh_slots.specs.Slots.{net_addr}
-use Rattle.bosh_uses.specs.Answer.{◌>>=◌}
+use Rattle.bosh_manifest_names.specs.Answer.{◌>>=◌}
 use Rattle.bosh_goal.specs.Anew.{all_free, keeps, refusal_at}
 
 pub any-addr : (test : Addr → Bool) (nets : List NetAddr) → list_any (λ net. test (net_addr net)) nets ≡ list_any test (map net_addr nets)

@@ -1,7 +1,7 @@
 -- Steps that end with a fault.
 use Rattle.std.proofs.Common.{◌≡◌, Result, Ok, Err, ap}
-use Rattle.bosh_uses.specs.Answer.{◌>>=◌}
-use Rattle.bosh_uses.specs.declared.fault.GoalFault.{GoalFault}
+use Rattle.bosh_manifest_names.specs.Answer.{◌>>=◌}
+use Rattle.bosh_manifest_names.specs.declared.fault.GoalFault.{GoalFault}
 
 -- the next step, where the first answers
 pub then-ok : {A B : Type 0} (step : Result A GoalFault) (a : A) (next : A → Result B GoalFault) → step ≡ Ok a → (step >>= next) ≡ next a

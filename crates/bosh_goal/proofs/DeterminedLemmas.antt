@@ -11,11 +11,11 @@ use Rattle.bosh_keys.proofs.DeterminedLemmas.{one_answer}
 use Rattle.bosh_keys.proofs.UsesLemmas.{used_alike, used_all}
 use Rattle.bosh_manifest.specs.declared.manifest.Contents.{Contents}
 use Rattle.bosh_release.specs.Sound.{IsSound}
-use Rattle.bosh_uses.specs.Answer.{◌>>=◌}
-use Rattle.bosh_uses.specs.Used.{UsedGroup}
-use Rattle.bosh_uses.specs.Uses.{uses}
-use Rattle.bosh_uses.specs.declared.fault.GoalFault.{GoalFault}
-use Rattle.bosh_uses.specs.declared.fault.GoalFault.TheVariants.{Memory}
+use Rattle.bosh_manifest_names.specs.Answer.{◌>>=◌}
+use Rattle.bosh_manifest_names.specs.Used.{UsedGroup}
+use Rattle.bosh_manifest_names.specs.Uses.{uses}
+use Rattle.bosh_manifest_names.specs.declared.fault.GoalFault.{GoalFault}
+use Rattle.bosh_manifest_names.specs.declared.fault.GoalFault.TheVariants.{Memory}
 use Rattle.bosh_goal.specs.Goal.{AreNeeded, IsGoal, goal_with, of_used}
 
 -- of two lists that are what is to be compiled, both give one answer

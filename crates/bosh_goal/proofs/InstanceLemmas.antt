@@ -17,17 +17,17 @@ use Rattle.bosh_instances.specs.Rows.{Scene, bounded_rows, filed_jobs, group_row
 use Rattle.bosh_manifest.specs.declared.group.Group.{Group}
 use Rattle.bosh_manifest.specs.declared.manifest.Contents.{Contents}
 use Rattle.bosh_offers.specs.Sited.{Sited, after_group, sites}
-use Rattle.bosh_places.specs.Wants.{below}
-use Rattle.bosh_places.specs.Zones.{inst_of}
-use Rattle.bosh_uses.specs.Answer.{◌>>=◌, or_fault}
-use Rattle.bosh_uses.specs.Used.{UsedGroup}
-use Rattle.bosh_uses.specs.Uses.{uses}
+use Rattle.bosh_wants.specs.Wants.{below}
+use Rattle.bosh_wants.specs.Zones.{inst_of}
+use Rattle.bosh_manifest_names.specs.Answer.{◌>>=◌, or_fault}
+use Rattle.bosh_manifest_names.specs.Used.{UsedGroup}
+use Rattle.bosh_manifest_names.specs.Uses.{uses}
 use Rattle.bosh_slots.specs.Slots.{slots}
 use Rattle.bosh_ties.specs.Links.{ties}
 use Rattle.bosh_instances.specs.Moving.{disks_stay}
 use Rattle.bosh_base.specs.declared.make.Make.{Make}
-use Rattle.bosh_uses.specs.declared.fault.GoalFault.{GoalFault}
-use Rattle.bosh_uses.specs.declared.fault.GoalFault.TheVariants.{Limit, NoConfig}
+use Rattle.bosh_manifest_names.specs.declared.fault.GoalFault.{GoalFault}
+use Rattle.bosh_manifest_names.specs.declared.fault.GoalFault.TheVariants.{Limit, NoConfig}
 use Rattle.bosh_goal.specs.Goal.{IsGoal, addresses, scene_of, slots_and_rows, stay_and_rows}
 use Rattle.bosh_goal.specs.Instances.{HasInstances, group_instances, row_inst}
 use Rattle.bosh_goal.proofs.UsedLemmas.{uses-groups}

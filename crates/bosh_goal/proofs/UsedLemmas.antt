@@ -10,11 +10,11 @@ use Rattle.bosh_manifest.specs.Sound.{IsSoundGroup}
 use Rattle.bosh_manifest.specs.declared.group.Group.{Group}
 use Rattle.bosh_manifest.specs.declared.manifest.Contents.{Contents}
 use Rattle.bosh_offers.specs.Sited.{after_group, sites}
-use Rattle.bosh_uses.specs.Answer.{◌>>=◌, each}
-use Rattle.bosh_uses.specs.Used.{UsedGroup}
-use Rattle.bosh_uses.specs.Uses.{all_known, net_name, or_unknown, sources, stemcell_of_alias, used_disk, used_group, used_job, used_machine, uses}
-use Rattle.bosh_uses.specs.declared.fault.GoalFault.{GoalFault}
-use Rattle.bosh_uses.specs.declared.fault.Kind.TheVariants as kinds
+use Rattle.bosh_manifest_names.specs.Answer.{◌>>=◌, each}
+use Rattle.bosh_manifest_names.specs.Used.{UsedGroup}
+use Rattle.bosh_manifest_names.specs.Uses.{all_known, net_name, or_unknown, sources, stemcell_of_alias, used_disk, used_group, used_job, used_machine, uses}
+use Rattle.bosh_manifest_names.specs.declared.fault.GoalFault.{GoalFault}
+use Rattle.bosh_manifest_names.specs.declared.fault.Kind.TheVariants as kinds
 
 abbrev answers : {A : Type 0} → Result A GoalFault → Bool
 answers (Ok a) = true

@@ -16,9 +16,9 @@ use Rattle.bosh_compile.specs.Readiness.{is_among}
 use Rattle.bosh_pool.specs.Fixed.{same_addr, same_inst}
 use Rattle.bosh_pool.specs.declared.fault.PoolFault.TheVariants.{Taken}
 use Rattle.bosh_slots.specs.Slots.{goal_row_addrs, row_addrs, slots}
-use Rattle.bosh_uses.specs.Answer.{◌>>=◌, or_fault}
-use Rattle.bosh_uses.specs.declared.fault.GoalFault.{GoalFault}
-use Rattle.bosh_uses.specs.declared.fault.GoalFault.TheVariants.{NoConfig, Pool}
+use Rattle.bosh_manifest_names.specs.Answer.{◌>>=◌, or_fault}
+use Rattle.bosh_manifest_names.specs.declared.fault.GoalFault.{GoalFault}
+use Rattle.bosh_manifest_names.specs.declared.fault.GoalFault.TheVariants.{NoConfig, Pool}
 use Rattle.bosh_goal.specs.declared.change.Change.{Change}
 use Rattle.bosh_goal.specs.declared.change.Change.TheVariants.{Fresh, To, Same}
 

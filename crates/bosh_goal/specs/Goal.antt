@@ -17,18 +17,18 @@ use Rattle.bosh_manifest.specs.declared.manifest.Contents.{Contents}
 use Rattle.bosh_offers.specs.Offers.{offers}
 use Rattle.bosh_offers.specs.Sited.{Sited, sites}
 use Rattle.bosh_offers.specs.declared.offering.Choice.TheVariants.{All, Shared}
-use Rattle.bosh_places.specs.Plans.{plans}
-use Rattle.bosh_places.specs.Statics.{static_fault}
-use Rattle.bosh_places.specs.Wants.{kept, wants}
+use Rattle.bosh_wants.specs.Plans.{plans}
+use Rattle.bosh_wants.specs.Statics.{static_fault}
+use Rattle.bosh_wants.specs.Wants.{kept, wants}
 use Rattle.bosh_pool.specs.Assignment.{assignment}
 use Rattle.bosh_pool.specs.declared.fault.PoolFault.{PoolFault}
 use Rattle.bosh_slots.specs.Slots.{slots}
 use Rattle.bosh_ties.specs.Links.{ties}
-use Rattle.bosh_uses.specs.Answer.{◌>>=◌, or_fault, with_fault}
-use Rattle.bosh_uses.specs.Used.{UsedGroup}
-use Rattle.bosh_uses.specs.Uses.{uses}
-use Rattle.bosh_uses.specs.declared.fault.GoalFault.{GoalFault}
-use Rattle.bosh_uses.specs.declared.fault.GoalFault.TheVariants.{Memory, NoConfig, Pool}
+use Rattle.bosh_manifest_names.specs.Answer.{◌>>=◌, or_fault, with_fault}
+use Rattle.bosh_manifest_names.specs.Used.{UsedGroup}
+use Rattle.bosh_manifest_names.specs.Uses.{uses}
+use Rattle.bosh_manifest_names.specs.declared.fault.GoalFault.{GoalFault}
+use Rattle.bosh_manifest_names.specs.declared.fault.GoalFault.TheVariants.{Memory, NoConfig, Pool}
 use Rattle.bosh_keys.specs.Works.{AreKeys}
 
 -- ---- addresses

@@ -6,8 +6,8 @@ use Rattle.bosh_base.specs.declared.goal.GoalRow.{GoalRow}
 use Rattle.bosh_base.specs.declared.inst.Inst.{Inst}
 use Rattle.bosh_manifest.specs.declared.group.Group.{Group}
 use Rattle.bosh_manifest.specs.declared.manifest.Contents.{Contents}
-use Rattle.bosh_places.specs.Wants.{below}
-use Rattle.bosh_places.specs.Zones.{inst_of}
+use Rattle.bosh_wants.specs.Wants.{below}
+use Rattle.bosh_wants.specs.Zones.{inst_of}
 
 abbrev pub group_instances : List ℕ → Group → List Inst
 group_instances dep group = map (inst_of dep group) (below group.instances)

@@ -2,18 +2,18 @@
 ghost use Rattle.std.specs.Prelude.{◌≡◌, List, Option, Result, true};
 ghost use Rattle.bosh_base.specs.declared.addr.Addr.{Addr};
 ghost use Rattle.bosh_goal.specs.Goal.{addresses, assigned, none_wrong};
-ghost use Rattle.bosh_places.specs.Statics.{static_fault};
+ghost use Rattle.bosh_wants.specs.Statics.{static_fault};
 ghost use Rattle.bosh_pool.specs.Answer as pool;
 ghost use Rattle.bosh_pool.specs.declared.fault.PoolFault.{PoolFault};
-ghost use Rattle.bosh_uses.specs.Answer.{IsAnswer, IsAnswerSeen, with_fault};
-ghost use Rattle.bosh_uses.specs.declared.fault.GoalFault.TheVariants.{Pool};
+ghost use Rattle.bosh_manifest_names.specs.Answer.{IsAnswer, IsAnswerSeen, with_fault};
+ghost use Rattle.bosh_manifest_names.specs.declared.fault.GoalFault.TheVariants.{Pool};
 
 use bosh_base::{Addr, Seq, View};
 use bosh_cloudcfg::Config;
 use bosh_manifest::{Group, Manifest};
-use bosh_places::{check_counts, kept, wants};
+use bosh_manifest_names::GoalFault;
 use bosh_pool::{PoolFault, assign};
-use bosh_uses::GoalFault;
+use bosh_wants::{check_counts, kept, wants};
 use std::alloc::Global;
 
 fn counted(answer: Result<(), PoolFault>) -> Result<(), GoalFault>

@@ -5,8 +5,8 @@ ghost use Rattle.bosh_instances.specs.Rows.{rows};
 ghost use Rattle.bosh_manifest.specs.Sound.{IsSoundGroup};
 ghost use Rattle.bosh_offers.specs.Offers.{offers};
 ghost use Rattle.bosh_offers.specs.declared.offering.Choice.TheVariants as choice;
-ghost use Rattle.bosh_places.specs.Plans.{plans};
-ghost use Rattle.bosh_uses.specs.Answer.{IsAnswer};
+ghost use Rattle.bosh_wants.specs.Plans.{plans};
+ghost use Rattle.bosh_manifest_names.specs.Answer.{IsAnswer};
 
 use bosh_base::{
     Addr, CopyFault, Copyable, Goal, GoalRow, GroupPlan, KeyWork, Make, Name, Offer, Seq, Tie, View,
@@ -14,10 +14,10 @@ use bosh_base::{
 use bosh_cloudcfg::Config;
 use bosh_instances::{Scene, check_disks, rows};
 use bosh_manifest::Manifest;
+use bosh_manifest_names::GoalFault;
 use bosh_offers::{Choice, Offered, Sited, offers};
-use bosh_places::plans;
 use bosh_slots::slots;
-use bosh_uses::GoalFault;
+use bosh_wants::plans;
 use std::alloc::Global;
 
 /// What a goal depends on beside the manifest and what that uses.

@@ -5,12 +5,12 @@ ghost use Rattle.std.specs.Option.{option_copied};
 ghost use Rattle.bosh_goal.specs.Anew.{addresses_free, all_free, is_in, is_row_of, keeps, needs_addrs, refusal_at};
 ghost use Rattle.bosh_pool.specs.Fixed.{same_addr};
 ghost use Rattle.bosh_slots.specs.Slots.{net_addr, row_addrs};
-ghost use Rattle.bosh_uses.specs.Answer.{IsAnswerSeen};
+ghost use Rattle.bosh_manifest_names.specs.Answer.{IsAnswerSeen};
 
 use crate::Change;
 use bosh_base::{Addr, Copyable, GoalRow, Inst, NetAddr, Owner, Row, State};
+use bosh_manifest_names::GoalFault;
 use bosh_pool::PoolFault;
-use bosh_uses::GoalFault;
 use std::alloc::Global;
 
 fn needs_addrs(change: Change) -> bool

@@ -10,8 +10,8 @@ ghost use Rattle.bosh_goal.specs.Goal.{IsGoal};
 ghost use Rattle.bosh_goal.specs.Instances.{HasInstances};
 ghost use Rattle.bosh_manifest.specs.declared.manifest.Contents.{Contents};
 ghost use Rattle.bosh_release.specs.Sound.{IsSound};
-ghost use Rattle.bosh_uses.specs.declared.fault.GoalFault.{GoalFault};
-ghost use Rattle.bosh_uses.specs.declared.fault.GoalFault.TheVariants.{Memory};
+ghost use Rattle.bosh_manifest_names.specs.declared.fault.GoalFault.{GoalFault};
+ghost use Rattle.bosh_manifest_names.specs.declared.fault.GoalFault.TheVariants.{Memory};
 
 /// An equal manifest, config, releases, stemcells and view give an equal goal; what has a goal is refused for want of memory
 /// alone; and of two refusals one is want of memory, or they are equal.

@@ -2,7 +2,7 @@
 ghost use Rattle.std.specs.Prelude.{◌≡◌, IfOk, filter, map};
 ghost use Rattle.std.specs.Option.{option_copied};
 ghost use Rattle.bosh_goal.specs.Anew.{anew, anew_of, is_left, row_anew, with_slots};
-ghost use Rattle.bosh_uses.specs.Answer.{IsAnswer};
+ghost use Rattle.bosh_manifest_names.specs.Answer.{IsAnswer};
 
 use crate::Change;
 use crate::altering::rows_anew;
@@ -10,8 +10,8 @@ use crate::freeing::check_addresses;
 use bosh_base::{CopyFault, Copyable, Goal, Inst, Key, KeyWork, Make, Seq, View, copy_four};
 use bosh_cloudcfg::Config;
 use bosh_compile::KeySet;
+use bosh_manifest_names::GoalFault;
 use bosh_slots::slots;
-use bosh_uses::GoalFault;
 use std::alloc::Global;
 
 fn left<'a>(

@@ -5,8 +5,8 @@ ghost use Rattle.bosh_alike.specs.Alike.{AreAlike};
 ghost use Rattle.bosh_goal.specs.Goal.{IsGoal, of_used, with_addrs};
 ghost use Rattle.bosh_keys.specs.Works.{AreKeys, releases_of};
 ghost use Rattle.bosh_release.specs.Sound.{IsSound};
-ghost use Rattle.bosh_uses.specs.Answer.{IsAnswer};
-ghost use Rattle.bosh_uses.specs.declared.fault.GoalFault.TheVariants.{Memory};
+ghost use Rattle.bosh_manifest_names.specs.Answer.{IsAnswer};
+ghost use Rattle.bosh_manifest_names.specs.declared.fault.GoalFault.TheVariants.{Memory};
 
 use crate::addressing::addresses;
 use crate::desired::{Setting, with_keys};
@@ -14,9 +14,9 @@ use bosh_base::{Addr, Goal, KeyWork, Release, Seq, Stemcell, Tie, View};
 use bosh_cloudcfg::Config;
 use bosh_keys::keys;
 use bosh_manifest::Manifest;
+use bosh_manifest_names::{GoalFault, UsedGroup, uses};
 use bosh_offers::sites;
 use bosh_ties::ties;
-use bosh_uses::{GoalFault, UsedGroup, uses};
 use std::alloc::Global;
 
 fn with_addrs<'a>(

@@ -7,7 +7,7 @@ use bosh_cases::{CaseFault, Given, both};
 use bosh_cloudcfg::Config;
 use bosh_goal::goal;
 use bosh_manifest::Manifest;
-use bosh_uses::GoalFault;
+use bosh_manifest_names::GoalFault;
 use bosh_yaml::{Node, read};
 use std::alloc::Global;
 

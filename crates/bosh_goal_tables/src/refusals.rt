@@ -2,7 +2,7 @@
 use bosh_base::{Inst, Name};
 use bosh_case_texts::{link_words, pool_words, push_inst, share_words, template_words};
 use bosh_cases::{CaseFault, Outcome, joined};
-use bosh_uses::{GoalFault, Kind};
+use bosh_manifest_names::{GoalFault, Kind};
 use std::alloc::Global;
 
 fn kind_word(kind: Kind) -> &'static [u8] {

@@ -3,7 +3,7 @@ use crate::refusals::of_goal;
 use bosh_base::Goal;
 use bosh_case_texts::goal_text;
 use bosh_cases::{CaseFault, Outcome};
-use bosh_uses::GoalFault;
+use bosh_manifest_names::GoalFault;
 use std::alloc::Global;
 
 /// What a call may come to.

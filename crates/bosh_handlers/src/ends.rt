@@ -1,8 +1,7 @@
 //! Replies to what the site was asked.
 ghost use Rattle.std.specs.Prelude.{◌≡◌, IfOk, Some, option_map};
 ghost use Rattle.bosh_base.specs.declared.reply.Reply.TheVariants.{Refused};
-ghost use Rattle.bosh_answers.specs.Ends.{stopped_reply};
-ghost use Rattle.bosh_director.specs.Left.{told_halt};
+ghost use Rattle.bosh_answers.specs.Ends.{stopped_reply, told_halt};
 ghost use Rattle.bosh_handlers.specs.SiteFaults.{site_told};
 
 use crate::site_fault::refusal_of;

@@ -1,3 +1,4 @@
+pub mod BoundLemmas
 pub mod FrameLemmas
 pub mod KnownLemmas
 pub mod LearnLemmas

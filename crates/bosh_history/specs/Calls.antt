@@ -18,7 +18,9 @@ use Rattle.bosh_history.specs.Slots.{next_key, slot_begun, slot_after}
 use Rattle.bosh_history.specs.Words.{at, inserted, without}
 use Rattle.bosh_rows.specs.After.{begun_row, after}
 use Rattle.bosh_rows.specs.Same.{same_inst}
-use Rattle.bosh_history.specs.Orders.{slot_cmp, same_slot, built_cmp}
+use Rattle.bosh_history.specs.Orders.{slot_cmp, same_slot}
+use Rattle.bosh_rows.specs.SoundSnapshot.{built_cmp}
+use Rattle.bosh_compile.specs.Readiness.{same_key}
 
 -- ---- a call begins
 
@@ -90,7 +92,10 @@ ends_of b answer (Disk d) k = orphan_after d b.call answer k
 -- a compilation that is answered records its key, whatever becomes of the task
 abbrev pub compiles : Call → Answer → Known → Known
 compiles (CompilePackage vm work deps) (answers.Built digest) k =
-    record k { built = inserted built_cmp (record { name = work.name; key = work.key; digest = digest }) k.built }
+    record k {
+      built = inserted built_cmp (record { name = work.name; key = work.key; digest = digest }) k.built;
+      digest = at same_key work.key (Some digest) k.digest;
+    }
 compiles call answer k = k
 
 -- A call fails where it is answered so, and where what it names is gone: but for a ping, and for the deletion of a

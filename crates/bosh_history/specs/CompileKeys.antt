@@ -1,6 +1,5 @@
 -- No package is compiled twice (bosh.io, "Packages").
-use Rattle.std.specs.Prelude.{ℕ, Bool, true, not, ◌&&◌, Option, Some}
-use Rattle.std.specs.List.{list_all}
+use Rattle.std.specs.Prelude.{Bool, true, not, ◌&&◌, Option, Some}
 use Rattle.bosh_base.specs.declared.answer.Answer.{Answer}
 use Rattle.bosh_base.specs.declared.answer.Answer.TheVariants as answers
 use Rattle.bosh_base.specs.declared.call.Call.{Call}
@@ -10,7 +9,7 @@ use Rattle.bosh_base.specs.declared.entry.Entry.{Entry}
 use Rattle.bosh_base.specs.declared.entry.Entry.TheVariants as entries
 use Rattle.bosh_history.specs.Known.{Known}
 use Rattle.bosh_history.specs.Moments.{Moment}
-use Rattle.bosh_history.specs.Slots.{is_compiled, keys_of}
+use Rattle.bosh_history.specs.Slots.{are_all_compiled, is_compiled}
 use Rattle.bosh_history.specs.Steps.{is_compiling}
 
 abbrev pub compiles_new : Moment → Call → Bool
@@ -25,13 +24,10 @@ records_new k (Some b) (answers.Built digest) = new b.call
     new call = true
 records_new k begin answer = true
 
--- an update of a task begins, and is done, only where all keys of its goal are compiled
-abbrev pub has_keys : Known → ℕ → Bool
-has_keys k t = list_all (λ work. is_compiled k work.key) (keys_of (k.task t).goal)
-
+-- An update of a task begins, and is done, only where all keys of its goal are compiled.
 abbrev pub compiles_once : Moment → Entry → Bool
 compiles_once m (entries.Begin b) = compiles_new m b.call
 compiles_once m (entries.End e) = records_new m.known (m.known.begun e.n) e.answer
-compiles_once m (entries.UpdBegin u) = has_keys m.known u.task
-compiles_once m (entries.UpdDone u) = has_keys m.known u.task
+compiles_once m (entries.UpdBegin u) = are_all_compiled m.known (m.known.task u.task).goal
+compiles_once m (entries.UpdDone u) = are_all_compiled m.known (m.known.task u.task).goal
 compiles_once m entry = true

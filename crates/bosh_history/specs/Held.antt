@@ -5,6 +5,7 @@ use Rattle.std.specs.List.{list_any, flat_map}
 use Rattle.std.specs.Str.{bytes_eq}
 use Rattle.bosh_base.specs.Cloud.{numbers_to}
 use Rattle.bosh_base.specs.declared.goal.Goal.{Goal}
+use Rattle.bosh_base.specs.declared.key.Key.{Key}
 use Rattle.bosh_base.specs.declared.link.Joint.{Joint}
 use Rattle.bosh_base.specs.declared.make.Make.{Make}
 use Rattle.bosh_base.specs.declared.offer.DepOffers.{DepOffers}
@@ -13,10 +14,11 @@ use Rattle.bosh_base.specs.declared.owner.Owner.{Owner}
 use Rattle.bosh_base.specs.declared.owner.Owner.TheVariants.{Instance, Compile}
 use Rattle.bosh_base.specs.declared.view.Held.{Held}
 use Rattle.bosh_base.specs.declared.view.View.{View}
+use Rattle.bosh_compile.specs.CompileOrder.{key_cmp}
 use Rattle.bosh_history.specs.Items.{slots_of}
-use Rattle.bosh_history.specs.Known.{Known, Slot, SlotName}
-use Rattle.bosh_history.specs.Known.{dep_of_task}
+use Rattle.bosh_history.specs.Known.{Known, Slot, SlotName, dep_of_task, offers_in}
 use Rattle.bosh_history.specs.Moments.{dep_of}
+use Rattle.bosh_history.specs.Words.{all_inserted}
 
 abbrev pub addresses_of : Owner → Make → List Held
 addresses_of owner make = map (λ it. record { owner = owner; net = it.net; addr = it.addr }) make.nets
@@ -78,10 +80,6 @@ abbrev pub is_offered : Joint → List ℕ → List Offer → Bool
 is_offered joint kind offers =
     list_any (λ offer. same_bytes_joint offer.joint joint && bytes_eq offer.kind kind) offers
 
-abbrev pub offers_in : Option Goal → List Offer
-offers_in (Some goal) = goal.offers
-offers_in None = []
-
 -- what others may take of a deployment: what its last done deploy offers, as far as its current goal still does
 abbrev pub known_offers : Known → List ℕ → DepOffers
 known_offers k dep = record {
@@ -89,13 +87,17 @@ known_offers k dep = record {
   offers = filter (λ offer. is_offered offer.joint offer.kind (offers_in (k.goal dep))) (k.shared dep);
 }
 
+-- the compiled keys in their order, whatever the names of their packages are
+abbrev pub compiled_keys : Known → List Key
+compiled_keys k = all_inserted key_cmp (map (λ built. built.key) k.built) []
+
 abbrev pub view : Known → List ℕ → View
 view k dep = record {
   goal = k.goal dep;
   rows = map k.row (filter (λ i. bytes_eq i.dep dep) k.instances);
   taken = held_elsewhere k dep;
   leftover = filter (λ it. bytes_eq (dep_of k it.owner) dep) (held_by_machines k);
-  compiled = map (λ built. built.key) k.built;
+  compiled = compiled_keys k;
   last_call = k.last_call;
   known = map (known_offers k) k.deployments;
 }

@@ -53,10 +53,13 @@ abbrev pub is_slot_left : Known → ℕ → ℕ → Bool
 is_slot_left k t s =
     nat_lt s (length (slots_of (k.task t).goal)) && (is_some (k.slot t s) || is_some (next_key k t s))
 
+-- the compile machine is recorded, and is of the deployment
+abbrev pub is_in_deployment : Known → Option (List ℕ) → SlotName → Bool
+is_in_deployment k dep name = holds (λ it. option_eq bytes_eq (Some it.dep) dep) (k.slot name.task name.slot)
+
 -- a compile machine of an earlier task of the deployment
 abbrev pub is_leftover : Known → ℕ → SlotName → Bool
-is_leftover k t name =
-    not (name.task == t) && holds (λ it. option_eq bytes_eq (Some it.dep) (k.task t).dep) (k.slot name.task name.slot)
+is_leftover k t name = not (name.task == t) && is_in_deployment k (k.task t).dep name
 
 abbrev pub slot_phase : Known → ℕ → SlotName → Option ℕ
 slot_phase k t name =
@@ -72,13 +75,14 @@ phase_of k t (Disk d) = if is_among eqb d (k.task t).disks && is_some (k.orphan 
 
 -- ---- all owners
 
--- whom a task may have something to do for, in the order in which it is tried
+-- Whom a task may have something to do for, in the order in which it is tried. One that was asked, or that went, and is
+-- to change stands at the place of its change alone; one that is still to be asked, or to go, stands at both.
 abbrev pub candidates : Known → ℕ → List Owner
 candidates k t =
-    map Instance (k.task t).to_ping
+    map Instance (filter (is_to_ping (k.task t)) (k.task t).to_ping)
     ++ map (λ name. Compile name.task name.slot) (filter (is_leftover k t) k.machines)
     ++ map (Compile t) (numbers_below (length (slots_of (k.task t).goal)))
-    ++ map Instance (k.task t).obsolete
+    ++ map Instance (filter (is_to_go (k.task t)) (k.task t).obsolete)
     ++ map Instance (k.task t).changed
     ++ map Disk (k.task t).disks
 
@@ -87,12 +91,12 @@ is_before phase (Some other) = nat_lt other phase
 is_before phase None = false
 
 -- nothing is left in an earlier phase
-abbrev pub is_present : Known → ℕ → ℕ → Bool
-is_present k t phase = list_all (λ owner. not (is_before phase (phase_of k t owner))) (candidates k t)
+abbrev pub none_left_before : Known → ℕ → ℕ → Bool
+none_left_before k t phase = list_all (λ owner. not (is_before phase (phase_of k t owner))) (candidates k t)
 
 -- something is left to do for the owner, and nothing in an earlier phase: it is an item of the present phase
 abbrev pub is_item : Known → ℕ → Owner → Bool
-is_item k t owner = holds (is_present k t) (phase_of k t owner)
+is_item k t owner = holds (none_left_before k t) (phase_of k t owner)
 
 -- the items of the present phase, in order
 abbrev pub items : Known → ℕ → List Owner

@@ -1,15 +1,15 @@
 -- The keys of a goal in the order in which they are compiled: by level, then name, then key (this project's profile).
-use Rattle.std.specs.Prelude.{ℕ, suc, Bool, true, false, not, ◌&&◌, ◌||◌, if◌then◌else◌, List, [], ◌∷◌}
+use Rattle.std.specs.Prelude.{ℕ, suc, Bool, true, not, ◌&&◌, ◌||◌, if◌then◌else◌, List, [], ◌∷◌}
 use Rattle.std.specs.List.{list_any, list_all}
 use Rattle.std.specs.Cmp.Lexicographic.{slice_cmp}
 use Rattle.std.specs.Ordering.{nat_cmp, ordering_then}
 use Rattle.std.specs.declared.cmp.Ordering.{Ordering}
-use Rattle.std.specs.declared.cmp.Ordering.TheVariants.{Less}
 use Rattle.bosh_base.specs.declared.key.Key.{Key}
 use Rattle.bosh_base.specs.declared.key.KeyWork.{KeyWork}
 use Rattle.bosh_compile.specs.CompileOrder.{key_cmp}
 use Rattle.bosh_compile.specs.Level.{greatest, needs}
 use Rattle.bosh_compile.specs.Readiness.{is_among, same_key}
+use Rattle.bosh_rows.specs.SoundSnapshot.{is_less}
 
 -- a key with its level: one more than the greatest of those of the goal that it needs
 pub record Leveled : Type 0 where
@@ -26,10 +26,6 @@ abbrev pub leveled_cmp : Leveled → Leveled → Ordering
 leveled_cmp a b =
     ordering_then (nat_cmp a.level b.level)
     (ordering_then (slice_cmp nat_cmp a.work.name b.work.name) (key_cmp a.work.key b.work.key))
-
-abbrev pub is_less : Ordering → Bool
-is_less Less = true
-is_less ordering = false
 
 -- it comes after the last of those before it, of which the latest is the first
 abbrev pub comes_after : List Leveled → Leveled → Bool

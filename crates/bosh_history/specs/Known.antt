@@ -86,6 +86,8 @@ pub record Known : Type 0 where
   pub orphan : ℕ → Option Orphan
   -- the compiled packages, by name and key
   pub built : List BuiltKey
+  -- what a compiled key gave
+  pub digest : Key → Option Digest
   -- how many tasks were opened
   pub tasks : ℕ
   pub task : ℕ → Task
@@ -126,6 +128,7 @@ nothing_known = record {
   orphans = [];
   orphan = λ d. None;
   built = [];
+  digest = λ key. None;
   tasks = 0;
   task = λ t. no_task;
   begun = λ n. None;
@@ -134,13 +137,13 @@ nothing_known = record {
 
 -- ---- a task of several
 
+abbrev pub dep_named : Option (List ℕ) → List ℕ
+dep_named (Some dep) = dep
+dep_named None = []
+
 -- the deployment of a task
 abbrev pub dep_of_task : Known → ℕ → List ℕ
-dep_of_task k t = name (k.task t).dep
-  where
-    name : Option (List ℕ) → List ℕ
-    name (Some dep) = dep
-    name None = []
+dep_of_task k t = dep_named (k.task t).dep
 
 abbrev pub with_task : ℕ → (Task → Task) → Known → Known
 with_task t change k = record k { task = at eqb t (change (k.task t)) k.task }
@@ -150,6 +153,11 @@ with_task t change k = record k { task = at eqb t (change (k.task t)) k.task }
 -- how a goal wants an instance
 abbrev pub want_in : Option Goal → Inst → Option GoalRow
 want_in goal i = option_and_then (λ g. find (λ want. same_inst i want.inst) g.rows) goal
+
+-- the links that it offers
+abbrev pub offers_in : Option Goal → List Offer
+offers_in (Some goal) = goal.offers
+offers_in None = []
 
 -- the plan of the group of an instance
 abbrev pub plan_in : Option Goal → Inst → Option GroupPlan

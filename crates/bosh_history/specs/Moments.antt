@@ -1,5 +1,5 @@
 -- A moment of a site: what is known, what was done to the cloud, and which calls are open.
-use Rattle.std.specs.Prelude.{ℕ, Bool, true, false, eqb, Option, Some, None, List, [], ◌∷◌, ◌++◌, fold}
+use Rattle.std.specs.Prelude.{ℕ, Bool, true, false, eqb, not, ◌&&◌, ◌||◌, ◌==◌, Option, Some, None, List, [], ◌∷◌, ◌++◌, fold}
 use Rattle.std.specs.List.{filter_map}
 use Rattle.bosh_base.specs.declared.answer.Answer.{Answer}
 use Rattle.bosh_base.specs.declared.answer.Answer.TheVariants as answers
@@ -21,8 +21,9 @@ use Rattle.bosh_base.specs.declared.snapshot.Orphan.{Orphan}
 use Rattle.bosh_history.specs.Known.{Known}
 use Rattle.bosh_history.specs.Learn.{learn, known_of}
 use Rattle.bosh_history.specs.Known.{dep_of_task}
-use Rattle.bosh_history.specs.Words.{at}
+use Rattle.bosh_history.specs.Words.{at, holds}
 use Rattle.bosh_rows.specs.Disks.{active}
+use Rattle.bosh_rows.specs.Tied.{is_named_lost}
 
 -- what a site begins on: the entries of the director's store, and the effects in the cloud's
 pub record Opening : Type 0 where
@@ -34,11 +35,6 @@ pub record OpenCall : Type 0 where
   pub begin : Begin
   pub did : Option Did
 
--- a machine that was lost, and the tasks that had heard of it by then
-pub record Missed : Type 0 where
-  pub vm : ℕ
-  pub heard : List ℕ
-
 pub record Moment : Type 0 where
   pub known : Known
   pub effects : List Entry
@@ -46,15 +42,12 @@ pub record Moment : Type 0 where
   -- the tasks up to this number were opened before the last stop
   pub stopped : ℕ
   pub halted : Bool
-  -- the tasks that heard of a machine: that it answered or not, that it was found, or made
-  pub heard : ℕ → List ℕ
-  pub missed : List Missed
+  -- a task heard of a machine: that it answered or not, that it was found, or made
+  pub heard : (t v : ℕ) → Bool
+  -- a machine was lost before the task heard of it
+  pub early : (t v : ℕ) → Bool
 
 -- ---- the beginning
-
-abbrev pub lost_before : Entry → Option Missed
-lost_before (entries.Lost loss) = Some (record { vm = loss.vm; heard = [] })
-lost_before entry = None
 
 -- nothing is open, and each task that has no end was interrupted
 abbrev pub beginning : Opening → Moment
@@ -64,8 +57,8 @@ beginning o = record {
   calls = λ n. None;
   stopped = (known_of o.entries).tasks;
   halted = false;
-  heard = λ v. [];
-  missed = filter_map lost_before o.effects;
+  heard = λ t v. false;
+  early = λ t v. is_named_lost o.effects v;
 }
 
 -- nothing was there
@@ -74,25 +67,27 @@ nothing = record { entries = []; effects = [] }
 
 -- ---- entries
 
-abbrev pub opens : Entry → (ℕ → Option OpenCall) → ℕ → Option OpenCall
-opens (entries.Begin b) calls = at eqb b.n (Some (record { begin = b; did = None })) calls
-opens (entries.End e) calls = at eqb e.n None calls
-opens entry calls = calls
+-- the open calls, once the entry is noted
+abbrev pub calls_after : Entry → (ℕ → Option OpenCall) → ℕ → Option OpenCall
+calls_after (entries.Begin b) calls = at eqb b.n (Some (record { begin = b; did = None })) calls
+calls_after (entries.End e) calls = at eqb e.n None calls
+calls_after entry calls = calls
 
 abbrev pub noting : Moment → Entry → Moment
-noting m e = record m { known = learn m.known e; calls = opens e m.calls }
+noting m e = record m { known = learn m.known e; calls = calls_after e m.calls }
 
 -- ---- what is done to the cloud
+
+-- the deployment that the instance of an orphaned disk was of
+abbrev pub dep_of_orphan : Option Orphan → List ℕ
+dep_of_orphan (Some it) = it.inst.dep
+dep_of_orphan None = []
 
 -- the deployment that an owner belongs to
 abbrev pub dep_of : Known → Owner → List ℕ
 dep_of k (Instance i) = i.dep
 dep_of k (Compile t s) = dep_of_task k t
-dep_of k (Disk d) = dep (k.orphan d)
-  where
-    dep : Option Orphan → List ℕ
-    dep (Some it) = it.inst.dep
-    dep None = []
+dep_of k (Disk d) = dep_of_orphan (k.orphan d)
 
 abbrev pub effect_of : Known → Begin → Entry
 effect_of k b = entries.Effect (record { n = b.n; owner = b.owner; dep = dep_of k b.owner; call = b.call })
@@ -101,17 +96,20 @@ abbrev pub call_effects : Moment → Bool → Option OpenCall → List Entry
 call_effects m true (Some call) = effect_of m.known call.begin ∷ []
 call_effects m has_effect call = []
 
--- a task hears of a machine by the answer to a ping, by finding it, and by making it
-abbrev pub hears : ℕ → Call → Answer → (ℕ → List ℕ) → ℕ → List ℕ
-hears t (Ping vm) answers.Done heard = at eqb vm (t ∷ heard vm) heard
-hears t (Ping vm) answers.Gone heard = at eqb vm (t ∷ heard vm) heard
-hears t (FindVm agent) (answers.Found (Some v)) heard = at eqb v (t ∷ heard v) heard
-hears t (CreateVm make disks) (answers.Cid v) heard = at eqb v (t ∷ heard v) heard
-hears t call answer heard = heard
+-- the machine that a task hears of: by the answer to a ping, by finding it, and by making it
+abbrev pub tells_of : Call → Answer → Option ℕ
+tells_of (Ping vm) answers.Done = Some vm
+tells_of (Ping vm) answers.Gone = Some vm
+tells_of (FindVm agent) (answers.Found found) = found
+tells_of (CreateVm make disks) (answers.Cid v) = Some v
+tells_of call answer = None
 
-abbrev pub heard_by : Did → Option OpenCall → (ℕ → List ℕ) → ℕ → List ℕ
-heard_by d (Some call) heard = hears call.begin.task call.begin.call d.answer heard
-heard_by d None heard = heard
+abbrev pub hears : Did → OpenCall → (t v : ℕ) → Bool
+hears d call t v = call.begin.task == t && holds (λ it. it == v) (tells_of call.begin.call d.answer)
+
+abbrev pub heard_by : Did → Option OpenCall → ((t v : ℕ) → Bool) → (t v : ℕ) → Bool
+heard_by d (Some call) heard t v = hears d call t v || heard t v
+heard_by d None heard t v = heard t v
 
 abbrev pub performed_call : Did → Option OpenCall → Option OpenCall
 performed_call d (Some call) = Some (record call { did = Some d })
@@ -132,10 +130,11 @@ write_to text None = []
 abbrev pub writing : Moment → Inst → List ℕ → Moment
 writing m i text = record m { effects = m.effects ++ write_to text (active (m.known.row i).disks) }
 
+-- the machine is lost, early for each task that has not heard of it
 abbrev pub losing : Moment → Loss → Moment
 losing m loss = record m {
   effects = m.effects ++ entries.Lost loss ∷ [];
-  missed = m.missed ++ record { vm = loss.vm; heard = m.heard loss.vm } ∷ [];
+  early = λ t v. m.early t v || (loss.vm == v && not (m.heard t v));
 }
 
 -- ---- a stop

@@ -32,12 +32,13 @@ abbrev pub ties_of : Option Goal → List Tie
 ties_of (Some goal) = goal.ties
 ties_of None = []
 
--- no other current goal has a tie to a link that the goal withdraws
+-- another deployment has no tie to a link that the goal withdraws
+abbrev pub keeps_ties : Known → Goal → List ℕ → Bool
+keeps_ties k goal dep = bytes_eq dep goal.dep || list_all (is_offered_still goal) (ties_of (k.goal dep))
+
+-- no other current goal has one
 abbrev pub withdraws_nothing : Known → Goal → Bool
-withdraws_nothing k goal = list_all keeps k.deployments
-  where
-    keeps : List ℕ → Bool
-    keeps dep = bytes_eq dep goal.dep || list_all (is_offered_still goal) (ties_of (k.goal dep))
+withdraws_nothing k goal = list_all (keeps_ties k goal) k.deployments
 
 abbrev pub is_recorded : Known → List ℕ → Bool
 is_recorded k dep = is_among bytes_eq dep k.deployments
@@ -63,7 +64,7 @@ pub record OpensWith (k : Known) (o : TaskOpen) (goal : Goal) : Type 0 where
   pub no_disks : o.disks ≡ []
   pub keeps_links : withdraws_nothing k goal ≡ true
 
--- disks are to be deleted: each is recorded orphaned
+-- a task opens that deletes disks alone
 pub record OpensOn (k : Known) (o : TaskOpen) : Type 0 where
   pub number : o.task ≡ k.tasks + 1
   pub of_none : o.dep ≡ None
@@ -71,7 +72,6 @@ pub record OpensOn (k : Known) (o : TaskOpen) : Type 0 where
   pub no_source : o.source ≡ None
   pub changes_none : o.changed ≡ []
   pub deletes_none : o.obsolete ≡ []
-  pub are_orphaned : list_all (λ d. is_among eqb d k.orphans) o.disks ≡ true
 
 abbrev pub OpensFor : Known → TaskOpen → Option Goal → Type 0
 OpensFor k o (Some goal) = OpensWith k o goal
@@ -81,14 +81,19 @@ abbrev pub OpensDisks : Known → TaskOpen → Option Goal → Type 0
 OpensDisks k o None = OpensOn k o
 OpensDisks k o (Some goal) = ⊥
 
+-- all disks that are recorded orphaned are to be deleted, by number
+abbrev pub OpensAll : Known → TaskOpen → Option Goal → Type 0
+OpensAll k o goal = OpensDisks k o goal × (o.disks ≡ k.orphans)
+
+-- one disk is, which is recorded orphaned
 abbrev pub OpensOne : Known → TaskOpen → Option Goal → ℕ → Type 0
-OpensOne k o goal d = OpensDisks k o goal × (o.disks ≡ d ∷ [])
+OpensOne k o goal d = OpensDisks k o goal × (o.disks ≡ d ∷ []) × (is_among eqb d k.orphans ≡ true)
 
 abbrev pub OpensBy : Known → TaskOpen → TaskKind → Type 0
-OpensBy k o CleanUp = OpensDisks k o o.goal
+OpensBy k o CleanUp = OpensAll k o o.goal
 OpensBy k o (DeleteDisk d) = OpensOne k o o.goal d
 OpensBy k o kind = OpensFor k o o.goal
 
--- a task opens
-abbrev pub Opens : Known → TaskOpen → Type 0
-Opens k o = OpensBy k o o.kind
+-- the task may open
+abbrev pub MayOpen : Known → TaskOpen → Type 0
+MayOpen k o = OpensBy k o o.kind

@@ -1,10 +1,7 @@
 -- The orders in which what is recorded is listed (this project's profile).
 use Rattle.std.specs.Prelude.{Bool, ◌==◌, ◌&&◌}
 use Rattle.std.specs.Ordering.{nat_cmp, ordering_then}
-use Rattle.std.specs.Cmp.Lexicographic.{slice_cmp}
 use Rattle.std.specs.declared.cmp.Ordering.{Ordering}
-use Rattle.bosh_base.specs.declared.snapshot.BuiltKey.{BuiltKey}
-use Rattle.bosh_compile.specs.CompileOrder.{key_cmp}
 use Rattle.bosh_history.specs.Known.{SlotName}
 
 -- by task, then slot
@@ -13,7 +10,3 @@ slot_cmp a b = ordering_then (nat_cmp a.task b.task) (nat_cmp a.slot b.slot)
 
 abbrev pub same_slot : SlotName → SlotName → Bool
 same_slot a b = a.task == b.task && a.slot == b.slot
-
--- by name, then key
-abbrev pub built_cmp : BuiltKey → BuiltKey → Ordering
-built_cmp a b = ordering_then (slice_cmp nat_cmp a.name b.name) (key_cmp a.key b.key)

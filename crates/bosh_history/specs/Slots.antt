@@ -1,32 +1,24 @@
 -- Compile machines: which key a slot takes, and what a call changes in what is recorded of it
 -- (bosh.io, "Compilation": packages are compiled on machines that are made for it and deleted then).
-use Rattle.std.specs.Prelude.{ℕ, Bool, not, ◌&&◌, ◌==◌, Option, Some, None, List, [], find}
+use Rattle.std.specs.Prelude.{ℕ, Bool, not, ◌&&◌, ◌==◌, Option, Some, None, is_some, List, [], find}
 use Rattle.std.specs.List.{list_any, list_all}
 use Rattle.std.specs.Option.{option_and_then, option_map}
 use Rattle.bosh_base.specs.declared.answer.Answer.{Answer}
 use Rattle.bosh_base.specs.declared.answer.Answer.TheVariants as answers
 use Rattle.bosh_base.specs.declared.call.Call.{Call}
 use Rattle.bosh_base.specs.declared.call.Call.TheVariants.{CreateVm, DeleteVm, HasVm, FindVm}
-use Rattle.bosh_base.specs.declared.digest.Digest.{Digest}
 use Rattle.bosh_base.specs.declared.goal.Goal.{Goal}
 use Rattle.bosh_base.specs.declared.key.Key.{Key}
 use Rattle.bosh_base.specs.declared.key.KeyWork.{KeyWork}
-use Rattle.bosh_base.specs.declared.snapshot.BuiltKey.{BuiltKey}
 use Rattle.bosh_compile.specs.Readiness.{same_key}
 use Rattle.bosh_history.specs.Known.{Known, Slot, SlotName}
 use Rattle.bosh_history.specs.Words.{holds}
 
 -- ---- keys
 
--- the digest of a compiled key
-abbrev pub digest_of : Known → Key → Option Digest
-digest_of k key = option_map digest (find (λ built. same_key built.key key) k.built)
-  where
-    digest : BuiltKey → Digest
-    digest built = built.digest
-
+-- the key is compiled
 abbrev pub is_compiled : Known → Key → Bool
-is_compiled k key = list_any (λ built. same_key built.key key) k.built
+is_compiled k key = is_some (k.digest key)
 
 -- all that the work needs is compiled
 abbrev pub is_ready : Known → KeyWork → Bool
@@ -36,23 +28,30 @@ abbrev pub keys_of : Option Goal → List KeyWork
 keys_of (Some goal) = goal.keys
 keys_of None = []
 
+-- a compile machine is for the key
+abbrev pub works_for : Key → Option Slot → Bool
+works_for key slot = holds (same_key key) (option_and_then (λ it. it.key) slot)
+
+-- it is of another slot of the task than this one, and is for the key
+abbrev pub takes : Known → ℕ → ℕ → Key → SlotName → Bool
+takes k t s key name = name.task == t && (not (name.slot == s) && works_for key (k.slot t name.slot))
+
 -- another slot of the task works for the key
 abbrev pub is_taken : Known → ℕ → ℕ → Key → Bool
-is_taken k t s key = list_any takes k.machines
-  where
-    works_for : Option Slot → Bool
-    works_for slot = holds (same_key key) (option_and_then (λ it. it.key) slot)
+is_taken k t s key = list_any (takes k t s key) k.machines
 
-    takes : SlotName → Bool
-    takes name = name.task == t && (not (name.slot == s) && works_for (k.slot t name.slot))
+-- a slot of the task may take the key: all that it needs is compiled, it is not, and no other slot of the task works for
+-- it
+abbrev pub may_take : Known → ℕ → ℕ → KeyWork → Bool
+may_take k t s work = is_ready k work && (not (is_compiled k work.key) && not (is_taken k t s work.key))
 
--- the first key of the goal that a slot of the task may take: all that it needs is compiled, it is not, and no other
--- slot of the task works for it
+-- the first key of the goal that a slot of the task may take
 abbrev pub next_key : Known → ℕ → ℕ → Option KeyWork
-next_key k t s = find is_free (keys_of (k.task t).goal)
-  where
-    is_free : KeyWork → Bool
-    is_free work = is_ready k work && (not (is_compiled k work.key) && not (is_taken k t s work.key))
+next_key k t s = find (may_take k t s) (keys_of (k.task t).goal)
+
+-- all keys of a goal are compiled
+abbrev pub are_all_compiled : Known → Option Goal → Bool
+are_all_compiled k goal = list_all (λ work. is_compiled k work.key) (keys_of goal)
 
 -- ---- what a call changes
 

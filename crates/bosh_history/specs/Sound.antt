@@ -18,23 +18,24 @@ use Rattle.bosh_base.specs.declared.task.TaskKind.{TaskKind}
 use Rattle.bosh_base.specs.declared.task.TaskKind.TheVariants.{DeleteDeployment}
 use Rattle.bosh_base.specs.declared.view.Held.{Held}
 use Rattle.bosh_history.specs.Goals.{named_instance, inst_of, is_in}
-use Rattle.bosh_history.specs.Held.{held_by_machines, held_elsewhere, is_offered, offers_in, same_bytes_joint}
+use Rattle.bosh_history.specs.Held.{held_by_machines, held_elsewhere, is_offered, same_bytes_joint}
 use Rattle.bosh_history.specs.Keys.{are_in_order, are_left}
-use Rattle.bosh_history.specs.Known.{Known}
+use Rattle.bosh_history.specs.Known.{Known, offers_in}
 use Rattle.bosh_history.specs.Slots.{is_compiled}
-use Rattle.bosh_history.specs.Words.{is_among, are_distinct, holds}
+use Rattle.bosh_history.specs.Words.{is_among, holds}
+use Rattle.bosh_rows.specs.SoundSnapshot.{are_distinct}
 use Rattle.bosh_rows.specs.Disks.{is_detached}
 use Rattle.bosh_rows.specs.Same.{same_inst, same_make, same_spec, same_state, same_tie, same_want}
 
 -- ---- instances
 
 -- the group of an instance has one plan, and room for one update at least
+abbrev pub is_one_plan : List GroupPlan → Bool
+is_one_plan (plan ∷ []) = nat_le 1 plan.limit
+is_one_plan plans = false
+
 abbrev pub has_plan : Goal → GoalRow → Bool
-has_plan goal want = is_one (filter (λ plan. bytes_eq plan.name want.inst.group) goal.groups)
-  where
-    is_one : List GroupPlan → Bool
-    is_one (plan ∷ []) = nat_le 1 plan.limit
-    is_one plans = false
+has_plan goal want = is_one_plan (filter (λ plan. bytes_eq plan.name want.inst.group) goal.groups)
 
 abbrev pub is_row_of : Known → Goal → GoalRow → Bool
 is_row_of k goal want = bytes_eq want.inst.dep goal.dep && (has_plan goal want && nat_le want.fresh_after k.last_call)
@@ -61,12 +62,12 @@ is_held held a = list_any (λ it. it.addr.0 == a) held
 abbrev pub has_addr : ℕ → Option Make → Bool
 has_addr a make = holds (λ it. list_any (λ b. b == a) (addrs it)) make
 
--- another recorded row has the address, whose instance stays in the goal
+-- the recorded row of another instance has the address, and stays in the goal
+abbrev pub keeps_address : Known → Goal → Inst → ℕ → Inst → Bool
+keeps_address k goal i a j = not (same_inst i j) && (is_in (Some goal) j && has_addr a (k.row j).make)
+
 abbrev pub another_keeps : Known → Goal → Inst → ℕ → Bool
-another_keeps k goal i a = list_any keeps k.instances
-  where
-    keeps : Inst → Bool
-    keeps j = not (same_inst i j) && (is_in (Some goal) j && has_addr a (k.row j).make)
+another_keeps k goal i a = list_any (keeps_address k goal i a) k.instances
 
 abbrev pub are_rows_free : Known → Goal → Bool
 are_rows_free k goal =
@@ -146,14 +147,16 @@ abbrev pub same_plan : GroupPlan → GroupPlan → Bool
 same_plan a b =
     bytes_eq a.name b.name && (a.canaries == b.canaries && (a.limit == b.limit && a.stage == b.stage))
 
+-- the recorded row of the instance and the wanted one have an address in common
+abbrev pub shares_address : Known → GoalRow → Inst → Bool
+shares_address k want i = list_any (λ a. has_addr a (k.row i).make) (addrs want.make)
+
+-- no recorded row that is not in the goal has an address of the wanted one
+abbrev pub has_no_address : Known → Goal → GoalRow → Bool
+has_no_address k goal want = list_all (λ i. is_in (Some goal) i || not (shares_address k want i)) k.instances
+
 -- The goal of a task of one instance has the rows, plans, ties and offers of the current one; unless the named one is
 -- to be detached, no address of it is that of a recorded row which is not in the goal, since such a task deletes none.
-abbrev pub has_no_address : Known → Goal → GoalRow → Bool
-has_no_address k goal want = list_all (λ i. is_in (Some goal) i || not (takes i)) k.instances
-  where
-    takes : Inst → Bool
-    takes i = list_any (λ a. has_addr a (k.row i).make) (addrs want.make)
-
 abbrev pub is_renewed : Known → Goal → Inst → Option Goal → Bool
 is_renewed k goal i (Some current) =
     is_in (Some current) i

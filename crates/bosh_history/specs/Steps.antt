@@ -20,7 +20,7 @@ use Rattle.bosh_compile.specs.Readiness.{same_key}
 use Rattle.bosh_history.specs.Items.{is_to_ping, is_to_go, slots_of}
 use Rattle.bosh_history.specs.Known.{Known, Task, Slot, want_in}
 use Rattle.bosh_history.specs.Moments.{Moment, OpenCall}
-use Rattle.bosh_history.specs.Slots.{digest_of, is_compiled, keys_of, next_key}
+use Rattle.bosh_history.specs.Slots.{is_compiled, keys_of, next_key}
 use Rattle.bosh_history.specs.Words.{holds}
 use Rattle.bosh_rows.specs.CallOf.{next_call}
 use Rattle.bosh_rows.specs.Same.{same_owner}
@@ -73,7 +73,7 @@ sweep_call slot = option_and_then (λ it. sweep_by it.vm it.doubt) slot
 
 -- the digests of what the work needs
 abbrev pub compiling : Known → ℕ → KeyWork → Call
-compiling k v work = calls.CompilePackage v work (filter_map (digest_of k) work.deps)
+compiling k v work = calls.CompilePackage v work (filter_map k.digest work.deps)
 
 abbrev pub work_for : Option Goal → Key → Option KeyWork
 work_for goal key = find (λ work. same_key work.key key) (keys_of goal)

@@ -9,12 +9,11 @@ use Rattle.bosh_base.specs.declared.failure.Failure.{Failure}
 use Rattle.bosh_base.specs.declared.failure.Failure.TheVariants as failures
 use Rattle.bosh_base.specs.declared.goal.Goal.{Goal}
 use Rattle.bosh_base.specs.declared.inst.Inst.{Inst}
-use Rattle.bosh_base.specs.declared.offer.Offer.{Offer}
 use Rattle.bosh_base.specs.declared.task.TaskEnd.{TaskEnd}
 use Rattle.bosh_base.specs.declared.task.TaskEnd.TheVariants as ends
 use Rattle.bosh_base.specs.declared.task.TaskKind.{TaskKind}
 use Rattle.bosh_base.specs.declared.task.TaskKind.TheVariants.{Deploy, DeleteDeployment, Fix, Resolve}
-use Rattle.bosh_history.specs.Known.{Known, Task, no_task, dep_of_task, with_task}
+use Rattle.bosh_history.specs.Known.{Known, Task, no_task, dep_of_task, with_task, offers_in}
 use Rattle.bosh_history.specs.Words.{at, without, holds}
 use Rattle.bosh_rows.specs.Same.{same_inst}
 
@@ -29,13 +28,13 @@ is_of_dep dep i = holds (bytes_eq i.dep) dep
 
 -- A deploy that looks whether each machine answers asks those of all rows of its deployment, and the task that
 -- resolves one instance asks that of its row.
+abbrev pub asks_of : TaskKind → Option (List ℕ) → Inst → Bool
+asks_of Fix dep i = is_of_dep dep i
+asks_of (Resolve named) dep i = same_inst named i
+asks_of kind dep i = false
+
 abbrev pub to_ping : Known → TaskOpen → List Inst
-to_ping k o = filter (λ i. asks o.kind i && has_machine k i) k.instances
-  where
-    asks : TaskKind → Inst → Bool
-    asks Fix i = is_of_dep o.dep i
-    asks (Resolve named) i = same_inst named i
-    asks kind i = false
+to_ping k o = filter (λ i. asks_of o.kind o.dep i && has_machine k i) k.instances
 
 abbrev pub task_opened : Known → TaskOpen → Task
 task_opened k o = record no_task {
@@ -80,14 +79,10 @@ end_by (failures.Call n) (Some b) = ends.Fault n (method_of b.call) b.owner
 end_by (failures.Gone n) (Some b) = ends.Gone n (method_of b.call) b.owner
 end_by failure None = ends.Interrupted
 
-abbrev pub offers_of : Option Goal → List Offer
-offers_of (Some goal) = goal.offers
-offers_of None = []
-
 -- A deploy that is done offers what its goal does, and a deployment that is deleted is recorded no more.
 abbrev pub settles : TaskKind → Option Goal → List ℕ → Known → Known
-settles Deploy goal dep k = record k { shared = at bytes_eq dep (offers_of goal) k.shared }
-settles Fix goal dep k = record k { shared = at bytes_eq dep (offers_of goal) k.shared }
+settles Deploy goal dep k = record k { shared = at bytes_eq dep (offers_in goal) k.shared }
+settles Fix goal dep k = record k { shared = at bytes_eq dep (offers_in goal) k.shared }
 settles DeleteDeployment goal dep k = record k {
   deployments = without bytes_eq dep k.deployments;
   goal = at bytes_eq dep None k.goal;

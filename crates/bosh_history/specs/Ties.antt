@@ -1,12 +1,12 @@
 -- What is recorded is what the cloud has, at any moment (this project's profile).
-use Rattle.std.specs.Prelude.{◌≡◌, ℕ, ◌+◌, Bool, true, false, nat_eq, nat_le, not, ◌&&◌, ◌||◌, ◌==◌, Option, Some, None, is_some, List, [], ◌∷◌, count_by}
+use Rattle.std.specs.Prelude.{◌≡◌, ℕ, ◌+◌, Bool, true, false, nat_eq, not, ◌&&◌, ◌||◌, ◌==◌, Option, Some, None, is_some, List, [], ◌∷◌, count_by}
 use Rattle.std.specs.Cmp.Lexicographic.{pointwise}
 use Rattle.std.specs.List.{list_all}
 use Rattle.std.specs.Option.{option_eq}
 use Rattle.bosh_base.specs.CallStep.{found_vm}
 use Rattle.bosh_base.specs.Cloud.{numbers_to, vms_created, vm_creation, is_vm_there, disks_created, disk_creation, is_disk_there, want_of}
 use Rattle.bosh_base.specs.declared.call.Call.{Call}
-use Rattle.bosh_base.specs.declared.call.Call.TheVariants.{CreateVm, CreateDisk, AttachDisk, DeleteVm}
+use Rattle.bosh_base.specs.declared.call.Call.TheVariants.{CreateVm, CreateDisk, DeleteVm}
 use Rattle.bosh_base.specs.declared.entry.Effect.{Effect}
 use Rattle.bosh_base.specs.declared.entry.Entry.{Entry}
 use Rattle.bosh_base.specs.declared.moves.Move.{Move}
@@ -21,7 +21,7 @@ use Rattle.bosh_history.specs.Moments.{Opening, Moment, beginning, later}
 use Rattle.bosh_history.specs.Slots.{slot_found}
 use Rattle.bosh_history.specs.Words.{holds}
 use Rattle.bosh_rows.specs.Same.{same_owner, same_want}
-use Rattle.bosh_rows.specs.Tied.{vms_of, was_made, as_done, is_tied_row, number_of}
+use Rattle.bosh_rows.specs.Tied.{vms_of, was_made, as_done, has_room_for_disks, is_made, is_tied_row, number_of, one_if}
 
 -- ---- compile machines
 
@@ -87,16 +87,12 @@ is_owned m v (Some e) = belongs_to m v e.owner
 is_owned m v None = false
 
 -- how often the disk is counted: in the row of its instance, as what a call in doubt made, and as an orphan
-abbrev pub is_making : ℕ → Option Doubt → Bool
-is_making tag doubt = holds (λ d. d.n == tag && creates d.call) doubt
-  where
-    creates : Call → Bool
-    creates (CreateDisk wanted vm) = true
-    creates call = false
+abbrev pub creates_disk : Call → Bool
+creates_disk (CreateDisk wanted vm) = true
+creates_disk call = false
 
-abbrev pub one_if : Bool → ℕ
-one_if true = 1
-one_if false = 0
+abbrev pub is_making : ℕ → Option Doubt → Bool
+is_making tag doubt = holds (λ d. d.n == tag && creates_disk d.call) doubt
 
 abbrev pub times : Moment → ℕ → ℕ → Owner → ℕ
 times m d tag (Instance i) =
@@ -109,22 +105,16 @@ abbrev pub is_counted_once : Moment → ℕ → Option Effect → Bool
 is_counted_once m d (Some e) = times m d e.n e.owner == 1
 is_counted_once m d None = false
 
--- a row has at most two attached disks, counting one that is being attached
-abbrev pub is_attaching : Option Doubt → Bool
-is_attaching doubt = holds (λ d. attaches d.call) doubt
-  where
-    attaches : Call → Bool
-    attaches (AttachDisk vm disk) = true
-    attaches call = false
-
-abbrev pub has_room_for_disks : Row → Bool
-has_room_for_disks row = nat_le (count_by (λ d. d.attached) row.disks + one_if (is_attaching row.doubt)) 2
-
 -- ---- all
 
+-- The row is what the cloud has; its recorded machine was made for it, also where it is lost or spoiled; and it has room
+-- for its disks.
+abbrev pub is_row_tied : List Entry → Row → Bool
+is_row_tied effects row =
+    is_tied_row effects row && (is_made effects row row.vm && has_room_for_disks row)
+
 abbrev pub are_rows_tied : Moment → Bool
-are_rows_tied m =
-    list_all (λ i. is_tied_row m.effects (m.known.row i) && has_room_for_disks (m.known.row i)) m.known.instances
+are_rows_tied m = list_all (λ i. is_row_tied m.effects (m.known.row i)) m.known.instances
 
 abbrev pub are_slots_tied : Moment → Bool
 are_slots_tied m = list_all (λ name. is_tied_slot m.effects name (m.known.slot name.task name.slot)) m.known.machines

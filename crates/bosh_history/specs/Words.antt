@@ -1,6 +1,6 @@
 -- Lists and functions in which one thing changes, and tests of lists.
 use Prim.Native.Nat.{zero, suc}
-use Rattle.std.specs.Prelude.{ℕ, Bool, true, false, not, ◌&&◌, Option, Some, None, List, [], ◌∷◌, ◌++◌, if◌then◌else◌}
+use Rattle.std.specs.Prelude.{ℕ, Bool, false, Option, Some, None, List, [], ◌∷◌, ◌++◌, if◌then◌else◌}
 use Rattle.std.specs.List.{list_any}
 use Rattle.std.specs.declared.cmp.Ordering.{Ordering}
 use Rattle.std.specs.declared.cmp.Ordering.TheVariants.{Less, Equal, Greater}
@@ -12,11 +12,6 @@ at same k x f other = if same k other then x else f other
 -- the item is one of the list
 abbrev pub is_among : {A : Type 0} → (A → A → Bool) → A → List A → Bool
 is_among same a items = list_any (same a) items
-
--- no item stands twice
-abbrev pub are_distinct : {A : Type 0} → (A → A → Bool) → List A → Bool
-are_distinct same [] = true
-are_distinct same (a ∷ items) = not (is_among same a items) && are_distinct same items
 
 -- the items but one
 abbrev pub without : {A : Type 0} → (A → A → Bool) → A → List A → List A

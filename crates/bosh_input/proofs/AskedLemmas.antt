@@ -2,10 +2,10 @@
 use Rattle.std.specs.Prelude.{IfOk}
 use Rattle.bosh_input.specs.declared.fault.InputFault.{InputFault}
 use Rattle.std.proofs.Common.{◌≡◌, ◌≢◌, ◌∙◌, ℕ, List, Option, Some, None, Result, Ok, Err, refl, sym, ap}
-use Rattle.bosh_words.specs.Grammar.{IsRefused, fault_of}
-use Rattle.bosh_words.specs.Words.{Word}
-use Rattle.bosh_words.specs.declared.fault.LineFault.{LineFault}
-use Rattle.bosh_words.specs.declared.fault.LineFault.TheVariants.{UnknownCommand, BadArgument, Missing, Extra, TooLarge, BadTogether, Memory}
+use Rattle.bosh_line_words.specs.Grammar.{IsRefused, fault_of}
+use Rattle.bosh_line_words.specs.Words.{Word}
+use Rattle.bosh_line_words.specs.declared.fault.LineFault.{LineFault}
+use Rattle.bosh_line_words.specs.declared.fault.LineFault.TheVariants.{UnknownCommand, BadArgument, Missing, Extra, TooLarge, BadTogether, Memory}
 use Rattle.bosh_lines.specs.Forms.{Form, IsRead}
 use Rattle.bosh_lines.specs.Lines.{Found, Formed, Refused, IsParsed}
 use Rattle.bosh_lines.specs.Meaning.{by_fault, meaning}

@@ -4,7 +4,7 @@ use Rattle.std.specs.Bool.{MatchBool}
 use Rattle.std.proofs.Math.Bool.{and-false, or-true}
 use Rattle.std.proofs.lemmas.Bool.{or_left}
 use Rattle.bosh_lines.specs.declared.command.Command.{Command}
-use Rattle.bosh_words.specs.declared.fault.LineFault.{LineFault}
+use Rattle.bosh_line_words.specs.declared.fault.LineFault.{LineFault}
 use Rattle.bosh_input.specs.Commands.{asked_in, block_ends, block_of, commands, commands_of, has_block, is_settled, keeps_file, request_of}
 use Rattle.bosh_input.specs.Lines.{has_end, is_no_command, lines}
 use Rattle.bosh_input.specs.Reading.{BeginsCommand, Front, HasBegun, InputView, IsAtCommand, IsBlock, IsBlockOf, IsCommandAt, IsCommandLine, IsEvent, IsFrontOf, IsLine, IsNext, IsNoneBetween, IsOpenBlock, IsOpenLine, NoneSettled, Reads, StopsWhere, part}

@@ -1,6 +1,6 @@
 -- What an input gives, and that its end stays (this project's profile).
 use Rattle.std.specs.Prelude.{◌≡◌, ℕ, Option, Some, None, Result, Ok, Err, List, [], ◌&&◌, length, nat_lt, if◌then◌else◌}
-use Rattle.bosh_words.specs.declared.fault.LineFault.TheVariants.{TooLarge}
+use Rattle.bosh_line_words.specs.declared.fault.LineFault.TheVariants.{TooLarge}
 use Rattle.bosh_input.specs.Commands.{keeps_file}
 use Rattle.bosh_input.specs.Reading.{InputView, IsNext}
 use Rattle.bosh_input.specs.declared.fault.InputFault.{InputFault}

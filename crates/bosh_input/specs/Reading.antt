@@ -1,7 +1,7 @@
 -- What is read of an input for its next command.
 use Rattle.std.specs.Prelude.{◌≡◌, ◌≢◌, ◌⊎◌, ℕ, ◌+◌, ◌-◌, ◌<◌, ◌≤◌, Bool, true, false, ◌||◌, List, [], ◌∷◌, ◌++◌, drop, length, slice_index, take, Option, Some, None, Result, Err}
 use Rattle.std.specs.Bool.{MatchBool}
-use Rattle.bosh_words.specs.declared.fault.LineFault.{LineFault}
+use Rattle.bosh_line_words.specs.declared.fault.LineFault.{LineFault}
 use Rattle.bosh_lines.specs.declared.command.Command.{Command}
 use Rattle.bosh_ports.specs.Faults.{Rose}
 use Rattle.bosh_input.specs.Commands.{asked_in, block_ends, block_of, commands, commands_of, keeps_file}

@@ -1,6 +1,6 @@
 ghost use Rattle.std.specs.Prelude.{◌≡◌, [], Err, length, nat_lt};
 ghost use Rattle.std.specs.Bool.{MatchBool};
-ghost use Rattle.bosh_words.specs.declared.fault.LineFault.TheVariants.{TooLarge};
+ghost use Rattle.bosh_line_words.specs.declared.fault.LineFault.TheVariants.{TooLarge};
 ghost use Rattle.bosh_input.specs.Ended.{bounded_request};
 
 use bosh_base::Text;

@@ -5,7 +5,7 @@ use Rattle.std.proofs.Math.ListN.{get_or-append}
 use Rattle.std.proofs.Math.Seq.{get_or-append_seam}
 use Rattle.std.proofs.lemmas.Bool.{cases_lt}
 use Rattle.std.proofs.lemmas.List.Folds.{find-append}
-use Rattle.bosh_places.specs.Wants.{below}
+use Rattle.bosh_wants.specs.Wants.{below}
 
 pub below-length : (n : ℕ) → length (below n) ≡ n
 below-length zero = refl

@@ -8,8 +8,8 @@ use Rattle.bosh_files.specs.declared.budget.Budget.{Budget}
 use Rattle.bosh_files.specs.declared.budget.Budget.TheVariants.{Left, Spent}
 use Rattle.bosh_instances.specs.Rows.{Scene, goal_row, row_bytes, row_with}
 use Rattle.bosh_offers.specs.Sited.{Sited}
-use Rattle.bosh_uses.specs.declared.fault.GoalFault.{GoalFault}
-use Rattle.bosh_uses.specs.declared.fault.GoalFault.TheVariants.{Memory}
+use Rattle.bosh_manifest_names.specs.declared.fault.GoalFault.{GoalFault}
+use Rattle.bosh_manifest_names.specs.declared.fault.GoalFault.TheVariants.{Memory}
 
 -- the row of an instance is taken where its files are
 pub row-taken : (scene : Scene) (group : Sited) (index : ℕ) (answer : Result (List Placed) GoalFault) (before later : Budget) (placed : List Placed) (old new : List GoalRow)

@@ -5,7 +5,7 @@ use Rattle.std.specs.Str.{bytes_eq}
 use Rattle.bosh_base.specs.declared.release.PackageSpec.{PackageSpec}
 use Rattle.bosh_base.specs.declared.spec.Mark.{Mark}
 use Rattle.bosh_lookup.specs.Table.{first_named}
-use Rattle.bosh_uses.specs.Used.{UsedJob}
+use Rattle.bosh_manifest_names.specs.Used.{UsedJob}
 
 abbrev pub job_mark : UsedJob → Mark
 job_mark used = record { name = used.job.name; fingerprint = used.spec.fingerprint }

@@ -11,7 +11,7 @@ use Rattle.bosh_base.specs.declared.state.State.TheVariants.{Running}
 use Rattle.bosh_manifest_parts.specs.declared.network.NetUse.{NetUse}
 use Rattle.bosh_offers.specs.Sited.{Sited}
 use Rattle.bosh_pool.specs.Fixed.{same_inst}
-use Rattle.bosh_uses.specs.Used.{UsedGroup}
+use Rattle.bosh_manifest_names.specs.Used.{UsedGroup}
 
 -- an address a network, in the order of the group
 abbrev pub net_addrs : List NetUse → List Addr → List NetAddr

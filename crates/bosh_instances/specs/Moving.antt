@@ -8,10 +8,10 @@ use Rattle.bosh_base.specs.declared.row.Role.{Role}
 use Rattle.bosh_base.specs.declared.row.Role.TheVariants.{Active, New, Old}
 use Rattle.bosh_base.specs.declared.row.Row.{Row}
 use Rattle.bosh_manifest.specs.declared.group.Group.{Group}
-use Rattle.bosh_places.specs.Wants.{below}
-use Rattle.bosh_places.specs.Zones.{inst_of, row_of, zone_made, zone_of}
-use Rattle.bosh_uses.specs.declared.fault.GoalFault.{GoalFault}
-use Rattle.bosh_uses.specs.declared.fault.GoalFault.TheVariants.{DiskInAz}
+use Rattle.bosh_wants.specs.Wants.{below}
+use Rattle.bosh_wants.specs.Zones.{inst_of, row_of, zone_made, zone_of}
+use Rattle.bosh_manifest_names.specs.declared.fault.GoalFault.{GoalFault}
+use Rattle.bosh_manifest_names.specs.declared.fault.GoalFault.TheVariants.{DiskInAz}
 
 -- it holds the contents
 abbrev pub is_active : Role → Bool

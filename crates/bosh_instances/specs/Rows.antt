@@ -8,12 +8,12 @@ use Rattle.bosh_files.specs.Files.{FiledJob, bytes_of, files}
 use Rattle.bosh_files.specs.Gathered.{gather}
 use Rattle.bosh_offers.specs.Sited.{Sited, gateway_addr}
 use Rattle.bosh_offers.specs.Tied.{Offered, job_links}
-use Rattle.bosh_places.specs.Wants.{below}
-use Rattle.bosh_places.specs.Zones.{inst_of, zone_of}
-use Rattle.bosh_uses.specs.Answer.{◌>>=◌, with_fault}
-use Rattle.bosh_uses.specs.Used.{UsedGroup, UsedJob}
-use Rattle.bosh_uses.specs.declared.fault.GoalFault.{GoalFault}
-use Rattle.bosh_uses.specs.declared.fault.GoalFault.TheVariants.{Limit, Template}
+use Rattle.bosh_wants.specs.Wants.{below}
+use Rattle.bosh_wants.specs.Zones.{inst_of, zone_of}
+use Rattle.bosh_manifest_names.specs.Answer.{◌>>=◌, with_fault}
+use Rattle.bosh_manifest_names.specs.Used.{UsedGroup, UsedJob}
+use Rattle.bosh_manifest_names.specs.declared.fault.GoalFault.{GoalFault}
+use Rattle.bosh_manifest_names.specs.declared.fault.GoalFault.TheVariants.{Limit, Template}
 use Rattle.bosh_instances.specs.Applied.{job_marks, package_marks}
 use Rattle.bosh_instances.specs.Machines.{make_of, own_addrs, state_of}
 

@@ -6,7 +6,7 @@ ghost use Rattle.bosh_instances.specs.Applied.{all_packages, distinct, job_mark,
 use crate::known::distinct;
 use bosh_base::{CopyFault, Copyable, Mark, PackageSpec, Placed, Seq, Spec, copy_both};
 use bosh_lookup::{find, table_of};
-use bosh_uses::UsedJob;
+use bosh_manifest_names::UsedJob;
 use std::alloc::{AllocError, Global};
 
 /// The marks of a group: those of its jobs, and those of the packages that these list.

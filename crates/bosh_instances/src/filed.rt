@@ -5,9 +5,9 @@ ghost use Rattle.bosh_offers.specs.Tied.{job_links};
 
 use crate::Scene;
 use bosh_files::FiledJob;
+use bosh_manifest_names::{UsedGroup, UsedJob};
 use bosh_offers::links;
 use bosh_template::{JobEnv, LinkEnv};
-use bosh_uses::{UsedGroup, UsedJob};
 use std::alloc::{AllocError, Global};
 
 /// What the links of each job of a group give.

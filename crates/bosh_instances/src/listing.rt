@@ -4,9 +4,9 @@ ghost use Rattle.bosh_files.specs.Budget.{Takes};
 ghost use Rattle.bosh_files.specs.Gathered.{gather};
 ghost use Rattle.bosh_instances.specs.Applied.{job_marks, package_marks};
 ghost use Rattle.bosh_instances.specs.Rows.{bounded_rows, group_rows, instance_row, row_bytes, rows};
-ghost use Rattle.bosh_places.specs.Wants.{below};
-ghost use Rattle.bosh_uses.specs.Answer.{IsAnswer};
-ghost use Rattle.bosh_uses.specs.declared.fault.GoalFault.TheVariants.{Memory};
+ghost use Rattle.bosh_wants.specs.Wants.{below};
+ghost use Rattle.bosh_manifest_names.specs.Answer.{IsAnswer};
+ghost use Rattle.bosh_manifest_names.specs.declared.fault.GoalFault.TheVariants.{Memory};
 
 use crate::Scene;
 use crate::applied::Applied;
@@ -14,8 +14,8 @@ use crate::filed::{all_links, filed_jobs};
 use crate::row::{Company, add_row};
 use bosh_base::{GoalRow, Seq};
 use bosh_files::Budget;
+use bosh_manifest_names::GoalFault;
 use bosh_offers::Sited;
-use bosh_uses::GoalFault;
 use std::alloc::Global;
 
 // Adds the rows of the instances of a group.

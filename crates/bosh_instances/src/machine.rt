@@ -3,8 +3,8 @@ ghost use Rattle.std.specs.Prelude.{◌≡◌, IfOk};
 ghost use Rattle.bosh_instances.specs.Machines.{make_of, net_addrs};
 
 use bosh_base::{Addr, CopyFault, Copyable, Make, Name, NetAddr, Seq, Text, copy_three};
+use bosh_manifest_names::UsedGroup;
 use bosh_manifest_parts::NetUse;
-use bosh_uses::UsedGroup;
 use std::alloc::Global;
 
 fn net_addr(alloc: Global, network: &NetUse, addr: Addr) -> Result<NetAddr, CopyFault>

@@ -4,14 +4,14 @@ ghost use Rattle.std.specs.List.{list_any};
 ghost use Rattle.std.specs.Option.{option_copied};
 ghost use Rattle.bosh_instances.specs.Moving.{differs, disks_stay, has_contents, is_active, moved, moved_in, moves, refusal_of, would_move};
 ghost use Rattle.bosh_manifest.specs.Sound.{IsSoundGroup};
-ghost use Rattle.bosh_places.specs.Wants.{below};
-ghost use Rattle.bosh_places.specs.Zones.{inst_of, row_of, zone_made};
-ghost use Rattle.bosh_uses.specs.Answer.{IsAnswerSeen};
+ghost use Rattle.bosh_wants.specs.Wants.{below};
+ghost use Rattle.bosh_wants.specs.Zones.{inst_of, row_of, zone_made};
+ghost use Rattle.bosh_manifest_names.specs.Answer.{IsAnswerSeen};
 
 use bosh_base::{CopyFault, Inst, Make, Name, Role, Row, copy_both};
 use bosh_manifest::Group;
-use bosh_places::{row_of, zone_of};
-use bosh_uses::GoalFault;
+use bosh_manifest_names::GoalFault;
+use bosh_wants::{row_of, zone_of};
 use std::alloc::Global;
 
 fn has_contents(row: &Row) -> bool

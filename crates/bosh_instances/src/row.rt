@@ -7,11 +7,11 @@ ghost use Rattle.bosh_files.specs.declared.budget.Budget.{Budget};
 ghost use Rattle.bosh_instances.specs.Applied.{job_marks, package_marks};
 ghost use Rattle.bosh_instances.specs.Machines.{make_of, own_addrs};
 ghost use Rattle.bosh_instances.specs.Rows.{goal_row, instance_row, placed, row_bytes, zone};
-ghost use Rattle.bosh_places.specs.Zones.{inst_of};
+ghost use Rattle.bosh_wants.specs.Zones.{inst_of};
 ghost use Rattle.bosh_template.specs.declared.fault.TemplateFault.{TemplateFault};
 ghost use Rattle.bosh_template.specs.declared.fault.TemplateFault.TheVariants as template;
-ghost use Rattle.bosh_uses.specs.Answer.{with_fault};
-ghost use Rattle.bosh_uses.specs.declared.fault.GoalFault.TheVariants.{Memory, Template};
+ghost use Rattle.bosh_manifest_names.specs.Answer.{with_fault};
+ghost use Rattle.bosh_manifest_names.specs.declared.fault.GoalFault.TheVariants.{Memory, Template};
 
 use crate::Scene;
 use crate::applied::Applied;
@@ -19,10 +19,10 @@ use crate::machine::make_of;
 use crate::state::state_of;
 use bosh_base::{Addr, CopyFault, DiskWant, GoalRow, Inst, Make, Name, Placed, Spec, copy_both};
 use bosh_files::{Budget, FiledJob, files};
+use bosh_manifest_names::GoalFault;
 use bosh_offers::{Sited, gateway_addr};
-use bosh_places::zone_of;
 use bosh_template::TemplateFault;
-use bosh_uses::GoalFault;
+use bosh_wants::zone_of;
 use std::alloc::Global;
 
 /// A group, with what its instances share.

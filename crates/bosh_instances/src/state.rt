@@ -2,7 +2,7 @@
 ghost use Rattle.std.specs.Prelude.{◌≡◌, find};
 ghost use Rattle.std.specs.Option.{option_copied};
 ghost use Rattle.bosh_instances.specs.Machines.{state_in, state_of};
-ghost use Rattle.bosh_places.specs.Zones.{inst_of};
+ghost use Rattle.bosh_wants.specs.Zones.{inst_of};
 ghost use Rattle.bosh_pool.specs.Fixed.{same_inst};
 
 use bosh_base::{Goal, GoalRow, Inst, Name, State};

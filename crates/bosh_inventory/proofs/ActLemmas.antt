@@ -17,7 +17,7 @@ use Rattle.bosh_base.specs.declared.make.Make.{Make}
 use Rattle.bosh_base.proofs.HistoryLemmas.{latest_last}
 use Rattle.bosh_inventory.proofs.NumberLemmas.{filter-with_number, filter-without_number}
 use Rattle.bosh_inventory.proofs.PresenceLemmas.{grown, mounted_on-kept, is_disk_mounted-grown}
-use Rattle.bosh_inventory.specs.Orderly.{AreOrderly}
+use Rattle.bosh_inventory.specs.Orderly.{IsOrderlyCloud}
 use Rattle.bosh_base.specs.Method.{is_agents}
 use Rattle.bosh_base.specs.declared.owner.Owner.{Owner}
 use Rattle.bosh_base.specs.declared.spec.Spec.{Spec}
@@ -84,7 +84,7 @@ mounts_then xs e is none v =
     (λ d. is_disk_mounted-grown xs (Effect e) d ∙ ap (λ a. chosen a (is_disk_mounted xs d)) (none d))
 
 -- whose disk a call mounts or unmounts
-pub has_its_disk : (xs : List Entry) → AreOrderly xs → (vm : ℕ) (m : Machine) → IsMachine xs vm m → (d : ℕ) →
+pub has_its_disk : (xs : List Entry) → IsOrderlyCloud xs → (vm : ℕ) (m : Machine) → IsMachine xs vm m → (d : ℕ) →
     has d m.attached ≡ true → IsHeld xs vm d
 has_its_disk xs orderly vm m machine d is = IsHeld-has xs orderly vm d (ap (λ it. has d it.attached) machine.made ∙ is)
 
@@ -117,7 +117,7 @@ abbrev pub of_call : ℕ → Owner → List ℕ → Call → effect.Effect
 of_call n owner dep call = record { n = n; owner = owner; dep = dep; call = call }
 
 -- machine vm after a call to its agent, where its disks are known
-pub machine_made-acted : (xs : List Entry) → AreOrderly xs →
+pub machine_made-acted : (xs : List Entry) → IsOrderlyCloud xs →
     (n : ℕ) (owner : Owner) (dep : List ℕ) (vm : ℕ) (m : Machine) → IsMachine xs vm m →
     (call : Call) → is_agents (method_of call) ≡ true → vm_of call ≡ Some vm → has_disks m call ≡ true →
     (e : effect.Effect) (make : Make) → machine_made (grown xs (Effect (of_call n owner dep call))) vm e make ≡ machine_by_call

@@ -21,7 +21,7 @@ use Rattle.bosh_inventory.proofs.NumberLemmas.{has-filter}
 use Rattle.bosh_inventory.proofs.OrderlyLemmas.{Untouches-other}
 use Rattle.bosh_inventory.proofs.PresenceLemmas.{grown, machine_of-changed, contents_of-grown, is_disk_mounted-grown}
 use Rattle.bosh_inventory.proofs.SlotLemmas.{at-slots}
-use Rattle.bosh_inventory.specs.Orderly.{AreOrderly}
+use Rattle.bosh_inventory.specs.Orderly.{IsOrderlyCloud}
 use Rattle.bosh_inventory.specs.Rows.{slots, AreTables}
 use Rattle.bosh_base.specs.Method.{is_agents}
 use Rattle.bosh_base.specs.declared.owner.Owner.{Owner}
@@ -45,7 +45,7 @@ not_shown xs x v vm d k apart held b is = elim (cases_eq d k) [
       (is ∙ ap (λ it. when it b) (ne_eqb d k other)))
 ]
 
-mounts-others : (xs : List Entry) → AreOrderly xs → (n : ℕ) (owner : Owner) (dep : List ℕ) (vm : ℕ) (m : Machine) →
+mounts-others : (xs : List Entry) → IsOrderlyCloud xs → (n : ℕ) (owner : Owner) (dep : List ℕ) (vm : ℕ) (m : Machine) →
     IsMachine xs vm m →
     (call : Call) → is_agents (method_of call) ≡ true → vm_of call ≡ Some vm → has_disks m call ≡ true → (v : ℕ) → v ≢
     vm → (x : ℕ) →
@@ -64,7 +64,7 @@ mounts-others xs orderly n owner dep vm m machine call is names has_them v apart
 -- ---- the disks
 
 -- a mounted disk is attached
-is_mounted_held : (xs : List Entry) → AreOrderly xs → (vm : ℕ) (m : Machine) → IsMachine xs vm m → (d : ℕ) →
+is_mounted_held : (xs : List Entry) → IsOrderlyCloud xs → (vm : ℕ) (m : Machine) → IsMachine xs vm m → (d : ℕ) →
     has d m.mounted ≡ true → IsHeld xs vm d
 is_mounted_held xs orderly vm m machine d is =
     let mounted : has d (mounted_on xs vm) ≡ true = ap (λ it. has d it.mounted) machine.made ∙ is in
@@ -92,7 +92,7 @@ migrated xs x from to is = record {
 }
 
 -- a disk that is not made yet stays empty
-empty-acted : (xs : List Entry) → AreOrderly xs → (n : ℕ) (owner : Owner) (dep : List ℕ) (vm : ℕ) (m : Machine) →
+empty-acted : (xs : List Entry) → IsOrderlyCloud xs → (n : ℕ) (owner : Owner) (dep : List ℕ) (vm : ℕ) (m : Machine) →
     IsMachine xs vm m →
     (call : Call) → is_agents (method_of call) ≡ true → has_disks m call ≡ true → (d : ℕ) → disks_created xs <
     d → contents_of (grown xs (Effect (of_call n owner dep call))) d ≡ contents_of xs d
@@ -105,7 +105,7 @@ empty-acted xs orderly n owner dep vm m machine (MigrateDisk w from to) is has_t
 empty-acted xs orderly n owner dep vm m machine call is has_them d past =
     ap (λ f. f d) (contents_of-grown xs (Effect (of_call n owner dep call)))
 
-rows-acted : (xs : List Entry) → AreOrderly xs → (n : ℕ) (owner : Owner) (dep : List ℕ) (vm : ℕ) (m : Machine) →
+rows-acted : (xs : List Entry) → IsOrderlyCloud xs → (n : ℕ) (owner : Owner) (dep : List ℕ) (vm : ℕ) (m : Machine) →
     IsMachine xs vm m →
     (call : Call) → is_agents (method_of call) ≡ true → has_disks m call ≡ true →
     disks_by_call (slots (disk_of xs) (disks_created xs)) call ≡ slots
@@ -131,7 +131,7 @@ pub AreTables-agent : (xs : List Entry) (e : effect.Effect) (vm : ℕ) (m : Mach
     volumes holders →
     AreTables (xs ++ Effect e ∷ []) (with_slot vms vm (Some (machine_by_call m e.call))) (disks_by_call volumes e.call) holders
 AreTables-agent xs e vm m vms volumes holders there is names has_them tables =
-    let orderly : AreOrderly xs = tables.are_orderly in
+    let orderly : IsOrderlyCloud xs = tables.are_orderly in
     let machine : IsMachine xs vm m = IsMachine-found xs vm m there in
     let acts : ActsOn xs (Effect e) vm (machine_by_call m e.call) (disks_by_call volumes e.call) = record {
       vms = KeepsVms-agents xs e is;

@@ -16,7 +16,7 @@ use Rattle.bosh_inventory.proofs.NumberLemmas.{PartsAt, PartsAt-filter, PartsAt-
 use Rattle.bosh_inventory.proofs.OrderlyLemmas.{Untouches, IsOrderlyVm-kept, IsOrderlyDisk-kept, machine_made-kept}
 use Rattle.bosh_inventory.proofs.PresenceLemmas.{KeepsVms, KeepsDisks, grown, is_held_by, vms_created-kept, is_vm_there-kept, machine_of-kept, disks_created-kept, last_holder-kept, holder_of-kept, is_holder-kept, attached_to-kept}
 use Rattle.bosh_inventory.proofs.SlotLemmas.{slots-with_slot, slots_same}
-use Rattle.bosh_inventory.specs.Orderly.{IsOrderlyDisk, AreOrderly, last_holder}
+use Rattle.bosh_inventory.specs.Orderly.{IsOrderlyDisk, IsOrderlyCloud, last_holder}
 use Rattle.bosh_inventory.specs.Rows.{slots, AreTables}
 
 -- ---- a machine that is there
@@ -69,7 +69,7 @@ pub some_is : {A : Type 0} (o : Option A) → is_some o ≡ true → (a : A) × 
 some_is None is = absurd cc
 some_is (Some a) is = (a, refl)
 
-pub IsHeld-holder : (xs : List Entry) → AreOrderly xs → (v d : ℕ) → is_holder xs v d ≡ true → IsHeld xs v d
+pub IsHeld-holder : (xs : List Entry) → IsOrderlyCloud xs → (v d : ℕ) → is_holder xs v d ≡ true → IsHeld xs v d
 IsHeld-holder xs orderly v d is =
     let order : IsOrderlyDisk xs d = orderly.disks d in
     let there : is_disk_there xs d ≡ true = order.held (held_some v (holder_of xs d) is) in
@@ -83,7 +83,7 @@ IsHeld-holder xs orderly v d is =
       is = disk.1;
     }
 
-pub IsHeld-has : (xs : List Entry) → AreOrderly xs → (v d : ℕ) → has d (attached_to xs v) ≡ true → IsHeld xs v d
+pub IsHeld-has : (xs : List Entry) → IsOrderlyCloud xs → (v d : ℕ) → has d (attached_to xs v) ≡ true → IsHeld xs v d
 IsHeld-has xs orderly v d is =
     IsHeld-holder xs orderly v d (and_left (is_holder xs v d) (has d (numbers_to (disks_created xs)))
     (sym (has-filter (is_holder xs v) d (numbers_to (disks_created xs))) ∙ is))
@@ -146,7 +146,7 @@ pub AreTables-acted : (xs : List Entry) (x : Entry) (vm : ℕ) (m : Machine) (vm
     is_vm_there xs vm ≡ true → ActsOn xs x vm m volumes → AreTables xs vms before holders → AreTables (grown xs x)
     (with_slot vms vm (Some m)) volumes holders
 AreTables-acted xs x vm m vms before volumes holders there acts tables =
-    let orderly : AreOrderly xs = tables.are_orderly in
+    let orderly : IsOrderlyCloud xs = tables.are_orderly in
     let numbered : (1 ≤ vm) × (vm ≤ vms_created xs) = (orderly.vms vm).numbered there in
     let count : vms_created (grown xs x) ≡ vms_created xs = vms_created-kept xs x acts.vms.makes_none in
     let others : (v : ℕ) → v ≢ vm → machine_of (grown xs x) v ≡ machine_of xs v =

@@ -19,7 +19,7 @@ use Rattle.std.proofs.lemmas.Bool.{cases_Bool}
 use Rattle.bosh_inventory.proofs.ActLemmas.{some_same}
 use Rattle.bosh_inventory.proofs.AgentLemmas.{IsMachine, IsMachine-found, IsHeld, IsHeld-holder, has-attached_to}
 use Rattle.bosh_inventory.proofs.NumberLemmas.{has-filter, and_comm}
-use Rattle.bosh_inventory.specs.Orderly.{AreOrderly}
+use Rattle.bosh_inventory.specs.Orderly.{IsOrderlyCloud}
 
 -- ---- an agent's calls
 
@@ -27,7 +27,7 @@ and_no : (a b : Bool) → b ≡ false → (a && b) ≡ false
 and_no true b is = is
 and_no false b is = refl
 
-attached-is : (xs : List Entry) → AreOrderly xs → (v d : ℕ) → has d (attached_to xs v) ≡ is_attached xs v d
+attached-is : (xs : List Entry) → IsOrderlyCloud xs → (v d : ℕ) → has d (attached_to xs v) ≡ is_attached xs v d
 attached-is xs orderly v d = elim (cases_Bool (is_holder xs v d)) [
   | inl has_it ↦
       let held : IsHeld xs v d = IsHeld-holder xs orderly v d has_it in
@@ -38,7 +38,7 @@ attached-is xs orderly v d = elim (cases_Bool (is_holder xs v d)) [
       ∙ sym (and_no (is_disk_there xs d) (is_holder xs v d) none)
 ]
 
-mounted-on_is : (xs : List Entry) → AreOrderly xs → (v d : ℕ) → has d (mounted_on xs v) ≡ is_mounted_on xs v d
+mounted-on_is : (xs : List Entry) → IsOrderlyCloud xs → (v d : ℕ) → has d (mounted_on xs v) ≡ is_mounted_on xs v d
 mounted-on_is xs orderly v d =
     has-filter (is_disk_mounted xs) d (attached_to xs v)
     ∙ ap (λ it. is_disk_mounted xs d && it) (attached-is xs orderly v d)
@@ -52,7 +52,7 @@ and_yes true = refl
 and_yes false = refl
 
 -- over a machine that is there, the agent answers as the cloud does
-made_answer : (built : KeyWork → List Digest → Digest) (xs : List Entry) → AreOrderly xs → (vm : ℕ) →
+made_answer : (built : KeyWork → List Digest → Digest) (xs : List Entry) → IsOrderlyCloud xs → (vm : ℕ) →
     is_vm_there xs vm ≡ true → (e : effect.Effect) (make : Make) → (call : Call) → vm_of call ≡ Some vm →
     agent_answer built (machine_made xs vm e make) call ≡ answer_of built xs call
 made_answer built xs orderly vm there e make = each
@@ -90,7 +90,7 @@ made_answer built xs orderly vm there e make = each
     each (CompilePackage v work deps) names = at_vm (λ u. CompilePackage u work deps) (plain _) v names
     each call names = absurd cc
 
-pub agent_answer-is : (built : KeyWork → List Digest → Digest) (xs : List Entry) → AreOrderly xs →
+pub agent_answer-is : (built : KeyWork → List Digest → Digest) (xs : List Entry) → IsOrderlyCloud xs →
     (vm : ℕ) (m : Machine) → machine_of xs vm ≡ Some m → (call : Call) → vm_of call ≡ Some vm →
     agent_answer built m call ≡ answer_of built xs call
 agent_answer-is built xs orderly vm m found call names =

@@ -13,7 +13,7 @@ use Rattle.bosh_base.specs.declared.machine.Disk.{Disk}
 use Rattle.bosh_base.specs.declared.machine.Machine.{Machine}
 use Rattle.bosh_inventory.proofs.NumberLemmas.{PartsAt-numbers_to, filter-with_number, filter-without_number}
 use Rattle.bosh_inventory.proofs.PresenceLemmas.{grown, is_held_by, disks_created-kept, contents_of-grown, is_disk_mounted-grown}
-use Rattle.bosh_inventory.specs.Orderly.{AreOrderly}
+use Rattle.bosh_inventory.specs.Orderly.{IsOrderlyCloud}
 use Rattle.bosh_inventory.specs.Rows.{AreTables}
 use Rattle.bosh_base.specs.declared.call.Call.TheVariants.{AttachDisk, DetachDisk}
 use Rattle.bosh_base.specs.declared.owner.Owner.{Owner}
@@ -21,7 +21,7 @@ use Rattle.bosh_inventory.proofs.AgentLemmas.{IsMachine, IsMachine-found, held_a
 use Rattle.bosh_base.specs.CallStep.{is_movable}
 use Rattle.bosh_inventory.proofs.ActLemmas.{some_same, sure}
 use Rattle.bosh_inventory.proofs.MoveLemmas.{Moves, is_holder-moved, is_holder-apart, AreTables-moved}
-use Rattle.bosh_changes.specs.Changes.{holding}
+use Rattle.bosh_registers.specs.Changes.{holding}
 
 -- ---- a disk that may be moved
 
@@ -123,7 +123,7 @@ pub AreTables-attach : (xs : List Entry) (e : effect.Effect) (vm d : ℕ) (m : M
 AreTables-attach xs e vm d m vms volumes holders is found may tables =
     let machine : IsMachine xs vm m = IsMachine-found xs vm m found in
     let free : IsMovable xs vm d = IsMovable-shown xs vm d may in
-    let orderly : AreOrderly xs = tables.are_orderly in
+    let orderly : IsOrderlyCloud xs = tables.are_orderly in
     let disk : (1 ≤ d) × (d ≤ disks_created xs) = (orderly.disks d).numbered free.there in
     let x : effect.Effect = record e { call = AttachDisk vm d } in
     let moves : Moves xs (Effect x) vm d (Some vm) =

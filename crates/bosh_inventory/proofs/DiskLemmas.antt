@@ -16,7 +16,7 @@ use Rattle.bosh_base.specs.declared.machine.Machine.{Machine}
 use Rattle.bosh_inventory.proofs.OrderlyLemmas.{Untouches, IsOrderlyVm-kept, machine_made-kept}
 use Rattle.bosh_inventory.proofs.PresenceLemmas.{KeepsVms, grown, is_held_by, vms_created-kept, is_vm_there-kept, machine_of-kept, contents_of-grown, last_holder-kept, holder_of-kept, is_holder-kept, mounted_on-kept, is_disk_mounted-grown}
 use Rattle.bosh_inventory.proofs.SlotLemmas.{slots_same, slots_more}
-use Rattle.bosh_inventory.specs.Orderly.{IsOrderlyVm, IsOrderlyDisk, AreOrderly, last_holder}
+use Rattle.bosh_inventory.specs.Orderly.{IsOrderlyVm, IsOrderlyDisk, IsOrderlyCloud, last_holder}
 use Rattle.bosh_inventory.specs.Rows.{slots, AreTables}
 use Rattle.bosh_base.specs.declared.call.Call.TheVariants.{CreateDisk}
 use Rattle.bosh_base.specs.declared.disk_want.DiskWant.{DiskWant}
@@ -52,7 +52,7 @@ vms-left xs x leaves =
     sym (slots_same (machine_of xs) (machine_of (grown xs x)) (vms_created xs) (λ v below. machine-left xs x leaves v))
     ∙ ap (slots (machine_of (grown xs x))) (sym (vms_created-kept xs x leaves.vms.makes_none))
 
-pub orderly_vms-left : (xs : List Entry) (x : Entry) → LeavesVms xs x → AreOrderly xs → (v : ℕ) →
+pub orderly_vms-left : (xs : List Entry) (x : Entry) → LeavesVms xs x → IsOrderlyCloud xs → (v : ℕ) →
     IsOrderlyVm (grown xs x) v
 orderly_vms-left xs x leaves orderly v = IsOrderlyVm-kept xs x leaves.vms v (λ past. leaves.untouched v) (orderly.vms v)
 
@@ -64,7 +64,7 @@ made by want vm = record by { call = CreateDisk want vm }
 abbrev next_disk : List Entry → ℕ
 next_disk xs = disks_created xs + 1
 
-module _ (xs : List Entry) (orderly : AreOrderly xs) (by : effect.Effect) (want : DiskWant) (vm : ℕ) where
+module _ (xs : List Entry) (orderly : IsOrderlyCloud xs) (by : effect.Effect) (want : DiskWant) (vm : ℕ) where
   abbrev x : Entry
   x = Effect (made by want vm)
 

@@ -13,14 +13,14 @@ use Rattle.bosh_base.specs.declared.machine.Disk.{Disk}
 use Rattle.bosh_base.specs.declared.machine.Machine.{Machine}
 use Rattle.bosh_inventory.proofs.PresenceLemmas.{KeepsVms, grown, vms_created-kept, disks_created-kept, contents_of-grown, last_holder-kept, is_holder-kept, attached_to-kept}
 use Rattle.bosh_inventory.proofs.SlotLemmas.{slots-with_slot, slots_same}
-use Rattle.bosh_inventory.specs.Orderly.{IsOrderlyDisk, AreOrderly, last_holder}
+use Rattle.bosh_inventory.specs.Orderly.{IsOrderlyDisk, IsOrderlyCloud, last_holder}
 use Rattle.bosh_inventory.specs.Rows.{slots, AreTables}
 use Rattle.bosh_base.specs.declared.call.Call.TheVariants.{DeleteDisk}
 use Rattle.bosh_base.proofs.HistoryLemmas.{latest_seen_last}
 use Rattle.bosh_inventory.proofs.ActLemmas.{sure}
 use Rattle.bosh_inventory.proofs.DiskLemmas.{LeavesVms, holder-left, vms-left, orderly_vms-left}
 
-module _ (xs : List Entry) (orderly : AreOrderly xs) (by : effect.Effect) (d : ℕ) (free : holder_of xs d ≡ None) where
+module _ (xs : List Entry) (orderly : IsOrderlyCloud xs) (by : effect.Effect) (d : ℕ) (free : holder_of xs d ≡ None) where
   abbrev gone : Entry
   gone = Effect (record by { call = DeleteDisk d })
 

@@ -8,9 +8,9 @@ use Rattle.bosh_base.specs.declared.entry.Effect as effect
 use Rattle.bosh_base.specs.declared.entry.Entry.{Entry}
 use Rattle.bosh_base.specs.declared.machine.Disk.{Disk}
 use Rattle.bosh_base.specs.declared.machine.Machine.{Machine}
-use Rattle.bosh_changes.specs.Created.{is_created_by, least_created}
+use Rattle.bosh_registers.specs.Created.{is_created_by, least_created}
 use Rattle.bosh_inventory.proofs.LookupLemmas.{at-disks, at-vms, disks_made, vms_made}
-use Rattle.bosh_inventory.specs.Orderly.{AreOrderly}
+use Rattle.bosh_inventory.specs.Orderly.{IsOrderlyCloud}
 use Rattle.bosh_inventory.specs.Rows.{AreTables}
 
 -- a thing is one that a call created where it is there and its creation has the number of the call
@@ -28,13 +28,13 @@ created-is {T} {W} call n wanted made numbered true (Some e) is = each (wanted e
     each None is = absurd cc
     each (Some want) is = ap (λ k. k == n) (numbered e want)
 
-created-vm : (xs : List Entry) → AreOrderly xs → (n v : ℕ) →
+created-vm : (xs : List Entry) → IsOrderlyCloud xs → (n v : ℕ) →
     is_created_by (λ (it : Machine). it.agent) n (machine_of xs v) ≡ (is_vm_there xs v && has_number n (vm_creation xs v))
 created-vm xs orderly n v =
     created-is (λ (it : Machine). it.agent) n (λ e. make_of e.call) (machine_made xs v) (λ e make. refl)
     (is_vm_there xs v) (vm_creation xs v) (orderly.vms v).made
 
-created-disk : (xs : List Entry) → AreOrderly xs → (n d : ℕ) →
+created-disk : (xs : List Entry) → IsOrderlyCloud xs → (n d : ℕ) →
     is_created_by (λ (it : Disk). it.tag) n (disk_of xs d) ≡ (is_disk_there xs d && has_number n (disk_creation xs d))
 created-disk xs orderly n d =
     created-is (λ (it : Disk). it.tag) n (λ e. want_of e.call) (disk_made xs d) (λ e want. refl)

@@ -25,10 +25,10 @@ use Rattle.bosh_inventory.proofs.AnswerLemmas.{agent_answer-is, gone-is}
 use Rattle.bosh_inventory.proofs.LookupLemmas.{at-vms, at-disks}
 use Rattle.bosh_inventory.proofs.NumberLemmas.{has-filter}
 use Rattle.bosh_inventory.specs.Changes.{IsActing, LeadsBy}
-use Rattle.bosh_inventory.specs.Orderly.{AreOrderly}
+use Rattle.bosh_inventory.specs.Orderly.{IsOrderlyCloud}
 use Rattle.bosh_inventory.specs.Rows.{AreTables}
-use Rattle.bosh_changes.specs.declared.change.Change.TheVariants.{Acted}
-use Rattle.bosh_changes.specs.declared.tables.Tables.{Tables}
+use Rattle.bosh_registers.specs.declared.change.Change.TheVariants.{Acted}
+use Rattle.bosh_registers.specs.declared.tables.Tables.{Tables}
 use Rattle.bosh_inventory.proofs.LeadLemmas.{PairBy, there_vm}
 
 pair-acted : (xs : List Entry) (before : Tables) → AreTables xs before.vms before.disks before.holders →
@@ -113,7 +113,7 @@ not_gone true true is = absurd cc
 not_gone true false is = refl
 not_gone false b is = absurd cc
 
-pub can-acted : (xs : List Entry) → AreOrderly xs → (call : Call) (vm : ℕ) (m : Machine) → machine_of xs vm ≡ Some m →
+pub can-acted : (xs : List Entry) → IsOrderlyCloud xs → (call : Call) (vm : ℕ) (m : Machine) → machine_of xs vm ≡ Some m →
     vm_of call ≡ Some vm → takes_effect compiled_digest xs call ≡ true → can_act m call ≡ true
 can-acted xs orderly call vm m found names effect =
     each (can_act m call) refl (ap is_gone (agent_answer-is compiled_digest xs orderly vm m found call names) ∙ not_gone

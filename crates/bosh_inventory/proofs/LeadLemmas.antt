@@ -20,13 +20,13 @@ use Rattle.bosh_inventory.proofs.LookupLemmas.{at-vms, vms_made, disks_made}
 use Rattle.bosh_inventory.proofs.AttachLemmas.{AreTables-attach, AreTables-detach, IsMovable-shown}
 use Rattle.bosh_inventory.proofs.DeletionLemmas.{AreTables-deleted}
 use Rattle.bosh_inventory.proofs.SlotLemmas.{length-slots}
-use Rattle.bosh_changes.specs.Changes.{IsFitting, IsThere, holding, tables_after}
+use Rattle.bosh_registers.specs.Changes.{IsFitting, IsThere, holding, tables_after}
 use Rattle.bosh_inventory.specs.Changes.{LeadsBy}
 use Rattle.bosh_inventory.specs.Orderly.{last_holder}
 use Rattle.bosh_inventory.specs.Rows.{AreTables}
-use Rattle.bosh_changes.specs.declared.change.Change.{Change}
-use Rattle.bosh_changes.specs.declared.change.Change.TheVariants.{NoVm, NoDisk, Moved}
-use Rattle.bosh_changes.specs.declared.tables.Tables.{Tables}
+use Rattle.bosh_registers.specs.declared.change.Change.{Change}
+use Rattle.bosh_registers.specs.declared.change.Change.TheVariants.{NoVm, NoDisk, Moved}
+use Rattle.bosh_registers.specs.declared.tables.Tables.{Tables}
 
 -- what a change has to show
 abbrev pub Pair : List Entry → Entry → Change → Type 0

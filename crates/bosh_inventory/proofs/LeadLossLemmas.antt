@@ -11,10 +11,10 @@ use Rattle.bosh_base.specs.declared.machine.Machine.{Machine}
 use Rattle.bosh_inventory.proofs.LookupLemmas.{at-vms}
 use Rattle.bosh_inventory.proofs.LossLemmas.{AreTables-silenced, AreTables-written}
 use Rattle.bosh_inventory.proofs.DeletionLemmas.{AreTables-lost}
-use Rattle.bosh_changes.specs.Changes.{silenced}
+use Rattle.bosh_registers.specs.Changes.{silenced}
 use Rattle.bosh_inventory.specs.Changes.{Leads}
 use Rattle.bosh_inventory.specs.Rows.{AreTables}
-use Rattle.bosh_changes.specs.declared.change.Change.TheVariants.{NoVm, Silent, Written}
+use Rattle.bosh_registers.specs.declared.change.Change.TheVariants.{NoVm, Silent, Written}
 use Rattle.bosh_inventory.proofs.LeadLemmas.{Pair, made_vm, made_disk, there_vm}
 
 pair-written : (xs : List Entry) (w : write.Write) → is_disk_there xs w.disk ≡ true →

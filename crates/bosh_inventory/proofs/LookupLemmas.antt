@@ -15,7 +15,7 @@ use Rattle.bosh_inventory.proofs.AgentLemmas.{IsHeld, IsHeld-holder, IsMachine, 
 use Rattle.bosh_inventory.proofs.PresenceLemmas.{is_held_by}
 use Rattle.bosh_inventory.proofs.NumberLemmas.{has-filter, and_true}
 use Rattle.bosh_inventory.proofs.SlotLemmas.{at-slots, at-slots_past, length-slots}
-use Rattle.bosh_inventory.specs.Orderly.{AreOrderly, last_holder}
+use Rattle.bosh_inventory.specs.Orderly.{IsOrderlyCloud, last_holder}
 use Rattle.bosh_inventory.specs.Rows.{slots, AreTables}
 
 none_is : {A : Type 0} (o : Option A) → is_some o ≡ false → o ≡ None
@@ -63,7 +63,7 @@ at-holders xs vms volumes holders tables d there =
     ap (λ t. at t d) tables.all_holders ∙ at-slots (last_holder xs) (disks_created xs) d numbered.0 numbered.1
 
 -- a disk is mounted where the machine that has it says so
-pub mounted-is : (xs : List Entry) → AreOrderly xs → (v d : ℕ) (m : Machine) → machine_of xs v ≡ Some m →
+pub mounted-is : (xs : List Entry) → IsOrderlyCloud xs → (v d : ℕ) (m : Machine) → machine_of xs v ≡ Some m →
     holder_of xs d ≡ Some v → has d m.mounted ≡ is_disk_mounted xs d
 mounted-is xs orderly v d m found holder =
     let machine : IsMachine xs v m = IsMachine-found xs v m found in
@@ -85,11 +85,11 @@ seen_disks now vms volumes told holders is tables =
     subst (λ (it : List (Option Disk)). AreTables now vms it holders) (sym is) tables
 
 -- what a table says is there
-pub vm_there : (xs : List Entry) → AreOrderly xs → (v : ℕ) (o : Option Machine) → o ≡ machine_of xs v →
+pub vm_there : (xs : List Entry) → IsOrderlyCloud xs → (v : ℕ) (o : Option Machine) → o ≡ machine_of xs v →
     is_some o ≡ is_vm_there xs v
 vm_there xs orderly v o is = ap is_some is ∙ sym (orderly.vms v).made
 
-pub disk_there : (xs : List Entry) → AreOrderly xs → (d : ℕ) (o : Option Disk) → o ≡ disk_of xs d →
+pub disk_there : (xs : List Entry) → IsOrderlyCloud xs → (d : ℕ) (o : Option Disk) → o ≡ disk_of xs d →
     is_some o ≡ is_disk_there xs d
 disk_there xs orderly d o is = ap is_some is ∙ sym (orderly.disks d).made
 

@@ -15,13 +15,13 @@ use Rattle.bosh_inventory.proofs.ContentsLemmas.{Fills, slots-filled, slots-kept
 use Rattle.bosh_inventory.proofs.OrderlyLemmas.{Untouches, IsOrderlyVm-kept, IsOrderlyDisk-kept, machine_made-kept}
 use Rattle.bosh_inventory.proofs.PresenceLemmas.{KeepsVms, KeepsDisks, grown, vms_created-kept, machine_of-changed, machine_of-kept, disks_created-kept, contents_of-grown, last_holder-kept, mounted_on-kept, is_disk_mounted-grown}
 use Rattle.bosh_inventory.proofs.SlotLemmas.{slots_same}
-use Rattle.bosh_inventory.specs.Orderly.{AreOrderly, last_holder}
+use Rattle.bosh_inventory.specs.Orderly.{IsOrderlyCloud, last_holder}
 use Rattle.bosh_inventory.specs.Rows.{slots, AreTables}
 use Rattle.bosh_inventory.proofs.AgentLemmas.{IsMachine, IsMachine-found, ActsOn, AreTables-acted, attached_to-acted}
 use Rattle.bosh_base.specs.declared.entry.Entry.TheVariants.{Lost, Write}
 use Rattle.bosh_base.specs.declared.entry.Write as write
 use Rattle.bosh_inventory.proofs.ActLemmas.{with_parts, sure, spec_then, running_then, drained_then, silent_then}
-use Rattle.bosh_changes.specs.Changes.{silenced}
+use Rattle.bosh_registers.specs.Changes.{silenced}
 
 pub AreTables-silenced : (xs : List Entry) (vm : ℕ) (m : Machine) (vms : List (Option Machine))
     (volumes : List (Option Disk)) (holders : List (Option ℕ)) →
@@ -67,7 +67,7 @@ pub AreTables-written : (xs : List Entry) (w : write.Write) (vms : List (Option 
     (with_contents volumes w.disk w.text) holders
 AreTables-written xs w vms volumes holders there tables =
     let x : Entry = Write w in
-    let orderly : AreOrderly xs = tables.are_orderly in
+    let orderly : IsOrderlyCloud xs = tables.are_orderly in
     let disk : (1 ≤ w.disk) × (w.disk ≤ disks_created xs) = (orderly.disks w.disk).numbered there in
     let keeps : KeepsVms xs x = record { makes_none = refl; created = λ v. refl; stays = λ v. refl } in
     let disks : KeepsDisks xs x = record { makes_none = refl; created = λ k. refl; stays = λ k. refl } in

@@ -18,11 +18,11 @@ use Rattle.bosh_inventory.proofs.NumberLemmas.{filter_both}
 use Rattle.bosh_inventory.proofs.OrderlyLemmas.{Untouches, IsOrderlyVm-kept, machine_made-kept, disk_some-kept}
 use Rattle.bosh_inventory.proofs.PresenceLemmas.{KeepsVms, KeepsDisks, grown, is_held_by, vms_created-kept, is_vm_there-kept, machine_of-changed, machine_of-kept, disks_created-kept, last_holder-kept, holder_of-kept, is_holder-kept, attached_to-kept, is_disk_mounted-grown, is_disk_there-kept}
 use Rattle.bosh_inventory.proofs.SlotLemmas.{slots-with_slot}
-use Rattle.bosh_inventory.specs.Orderly.{IsOrderlyDisk, AreOrderly, last_holder}
+use Rattle.bosh_inventory.specs.Orderly.{IsOrderlyDisk, IsOrderlyCloud, last_holder}
 use Rattle.bosh_inventory.specs.Rows.{slots, AreTables}
 use Rattle.bosh_inventory.proofs.AgentLemmas.{IsMachine, IsMachine-found}
 use Rattle.bosh_inventory.proofs.ActLemmas.{with_parts, sure, spec_then, running_then, drained_then, silent_then}
-use Rattle.bosh_changes.specs.Changes.{holding}
+use Rattle.bosh_registers.specs.Changes.{holding}
 
 -- an entry makes `holder` the last holder of disk d, which shows mounted on no machine before or after
 pub record Moves (xs : List Entry) (x : Entry) (vm d : ℕ) (holder : Option ℕ) : Type 0 where
@@ -97,7 +97,7 @@ attached_to-others xs x vm d o moves v apart =
       | inr other ↦ is_holder-apart xs x vm d o moves v k other
     ]
 
-orderly-moved : (xs : List Entry) (x : Entry) (vm d : ℕ) (o : Option ℕ) → Moves xs x vm d o → AreOrderly xs → (k : ℕ) →
+orderly-moved : (xs : List Entry) (x : Entry) (vm d : ℕ) (o : Option ℕ) → Moves xs x vm d o → IsOrderlyCloud xs → (k : ℕ) →
     IsOrderlyDisk (grown xs x) k
 orderly-moved xs x vm d o moves orderly k =
     let before : IsOrderlyDisk xs k = orderly.disks k in
@@ -132,7 +132,7 @@ pub AreTables-moved : (xs : List Entry) (x : Entry) (vm d : ℕ) (o : Option ℕ
     holders →
     AreTables (grown xs x) (with_slot vms vm (Some (holding list m))) volumes (with_slot holders d o)
 AreTables-moved xs x vm d o m list vms volumes holders found moves lists tables =
-    let orderly : AreOrderly xs = tables.are_orderly in
+    let orderly : IsOrderlyCloud xs = tables.are_orderly in
     let machine : IsMachine xs vm m = IsMachine-found xs vm m found in
     let numbered : (1 ≤ vm) × (vm ≤ vms_created xs) = (orderly.vms vm).numbered machine.there in
     let disk : (1 ≤ d) × (d ≤ disks_created xs) = (orderly.disks d).numbered moves.there in

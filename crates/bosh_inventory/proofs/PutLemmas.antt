@@ -11,12 +11,12 @@ use Rattle.bosh_base.specs.declared.machine.Machine.{Machine}
 use Rattle.bosh_inventory.proofs.DiskLemmas.{AreTables-disk}
 use Rattle.bosh_inventory.proofs.VmTableLemmas.{AreTables-created}
 use Rattle.bosh_inventory.specs.Made.{MakesDisk, MakesVm, new_disk, new_machine}
-use Rattle.bosh_changes.specs.Changes.{tables_after}
+use Rattle.bosh_registers.specs.Changes.{tables_after}
 use Rattle.bosh_inventory.specs.Changes.{Leads}
 use Rattle.bosh_inventory.specs.Happens.{AllFollow, MayFollow}
 use Rattle.bosh_inventory.specs.Rows.{AreTables}
-use Rattle.bosh_changes.specs.declared.change.Change.{Change}
-use Rattle.bosh_changes.specs.declared.tables.Tables.{Tables}
+use Rattle.bosh_registers.specs.declared.change.Change.{Change}
+use Rattle.bosh_registers.specs.declared.tables.Tables.{Tables}
 
 pub on_ok : {T E : Type 0} {P : Type 0} (r : Result T E) → is_ok r ≡ true → OnOk r P → P
 on_ok (Ok value) is p = p

@@ -13,7 +13,7 @@ use Rattle.bosh_inventory.proofs.ContentsLemmas.{slots-kept}
 use Rattle.bosh_inventory.proofs.OrderlyLemmas.{Untouches, machine_made-kept, IsUntouched-kept, disk_some-kept}
 use Rattle.bosh_inventory.proofs.PresenceLemmas.{KeepsDisks, grown, is_held_by, vms_created-kept, disks_created-kept, last_holder-kept, attached_to-kept, mounted_on-kept, is_disk_mounted-grown, is_disk_there-kept}
 use Rattle.bosh_inventory.proofs.SlotLemmas.{slots-with_slot, slots_same}
-use Rattle.bosh_inventory.specs.Orderly.{IsOrderlyVm, IsOrderlyDisk, AreOrderly, last_holder}
+use Rattle.bosh_inventory.specs.Orderly.{IsOrderlyVm, IsOrderlyDisk, IsOrderlyCloud, last_holder}
 use Rattle.bosh_inventory.specs.Rows.{slots, AreTables}
 use Rattle.bosh_base.proofs.HistoryLemmas.{latest_seen_last}
 use Rattle.bosh_inventory.proofs.ActLemmas.{sure}
@@ -102,7 +102,7 @@ machine-gone xs x vm removes =
     ap (λ there. if there then option_and_then (λ e. option_map (machine_made (grown xs x) vm e) (make_of e.call))
     (vm_creation (grown xs x) vm) else None) (gone-removed xs x vm removes)
 
-orderly_vm-removed : (xs : List Entry) (x : Entry) (vm : ℕ) → Removes xs x vm → AreOrderly xs → (v : ℕ) →
+orderly_vm-removed : (xs : List Entry) (x : Entry) (vm : ℕ) → Removes xs x vm → IsOrderlyCloud xs → (v : ℕ) →
     IsOrderlyVm (grown xs x) v
 orderly_vm-removed xs x vm removes orderly v =
     let before : IsOrderlyVm xs v = orderly.vms v in
@@ -126,7 +126,7 @@ orderly_vm-removed xs x vm removes orderly v =
           λ later. IsUntouched-kept xs x v (removes.untouched v) (before.ahead (subst (λ (n : ℕ). n < v) count later));
     }
 
-orderly_disk-removed : (xs : List Entry) (x : Entry) (vm : ℕ) → Removes xs x vm → AreOrderly xs → (d : ℕ) →
+orderly_disk-removed : (xs : List Entry) (x : Entry) (vm : ℕ) → Removes xs x vm → IsOrderlyCloud xs → (d : ℕ) →
     IsOrderlyDisk (grown xs x) d
 orderly_disk-removed xs x vm removes orderly d =
     let before : IsOrderlyDisk xs d = orderly.disks d in
@@ -153,7 +153,7 @@ pub AreTables-removed : (xs : List Entry) (x : Entry) (vm : ℕ) (vms : List (Op
     is_vm_there xs vm ≡ true → Removes xs x vm → AreTables xs vms volumes holders → AreTables (grown xs x)
     (with_slot vms vm None) volumes holders
 AreTables-removed xs x vm vms volumes holders there removes tables =
-    let orderly : AreOrderly xs = tables.are_orderly in
+    let orderly : IsOrderlyCloud xs = tables.are_orderly in
     let numbered : (1 ≤ vm) × (vm ≤ vms_created xs) = (orderly.vms vm).numbered there in
     record {
       are_orderly =

@@ -11,7 +11,7 @@ use Rattle.bosh_base.specs.declared.entry.Entry.TheVariants.{Effect}
 use Rattle.bosh_base.specs.declared.make.Make.{Make}
 use Rattle.bosh_inventory.proofs.OrderlyLemmas.{Untouches, machine_made-kept}
 use Rattle.bosh_inventory.proofs.PresenceLemmas.{KeepsDisks, grown, is_held_by, disks_created-kept, contents_of-grown, last_holder-kept, is_holder-kept, attached_to-kept, mounted_on-kept, is_disk_mounted-grown}
-use Rattle.bosh_inventory.specs.Orderly.{AreOrderly, last_holder, IsUntouched}
+use Rattle.bosh_inventory.specs.Orderly.{IsOrderlyCloud, last_holder, IsUntouched}
 use Rattle.bosh_base.specs.declared.call.Call.TheVariants.{CreateVm}
 use Rattle.bosh_base.proofs.HistoryLemmas.{latest_seen_last}
 use Rattle.std.proofs.lemmas.List.Sums.{sum_by-append}
@@ -61,7 +61,7 @@ created-made xs c v apart =
     (ne_eqb (next_vm xs) v (λ is. apart (sym is)))
 
 -- no disk was attached to a machine that is not made yet, so each has the holder that it had
-not_ahead : (xs : List Entry) → AreOrderly xs → (d v : ℕ) → last_holder xs d ≡ Some v → v ≢ next_vm xs
+not_ahead : (xs : List Entry) → IsOrderlyCloud xs → (d v : ℕ) → last_holder xs d ≡ Some v → v ≢ next_vm xs
 not_ahead xs orderly d v is same = omega (arith, (orderly.disks d).holder_made v is, same)
 
 present-made : (xs : List Entry) (c : Creation) (o : Option ℕ) → ((v : ℕ) → o ≡ Some v → v ≢ next_vm xs) →
@@ -69,24 +69,24 @@ present-made : (xs : List Entry) (c : Creation) (o : Option ℕ) → ((v : ℕ) 
 present-made xs c None apart = refl
 present-made xs c (Some v) apart = ap (λ there. when there v) (there-made xs c v (apart v refl))
 
-pub holder-made : (xs : List Entry) → AreOrderly xs → (c : Creation) (d : ℕ) →
+pub holder-made : (xs : List Entry) → IsOrderlyCloud xs → (c : Creation) (d : ℕ) →
     holder_of (grown xs (made_by c)) d ≡ holder_of xs d
 holder-made xs orderly c d =
     ap (option_and_then (present (grown xs (made_by c)))) (last_holder-kept xs (made_by c) d refl)
     ∙ present-made xs c (last_holder xs d) (not_ahead xs orderly d)
 
-lists-made : (xs : List Entry) → AreOrderly xs → (c : Creation) (v : ℕ) →
+lists-made : (xs : List Entry) → IsOrderlyCloud xs → (c : Creation) (v : ℕ) →
     attached_to (grown xs (made_by c)) v ≡ attached_to xs v
 lists-made xs orderly c v =
     attached_to-kept xs (grown xs (made_by c)) v (disks_created-kept xs (made_by c) refl)
     (λ d. is_holder-kept xs (grown xs (made_by c)) v d (holder-made xs orderly c d))
 
-shows-made : (xs : List Entry) → AreOrderly xs → (c : Creation) (v : ℕ) →
+shows-made : (xs : List Entry) → IsOrderlyCloud xs → (c : Creation) (v : ℕ) →
     mounted_on (grown xs (made_by c)) v ≡ mounted_on xs v
 shows-made xs orderly c v =
     mounted_on-kept xs (grown xs (made_by c)) v (lists-made xs orderly c v) (is_disk_mounted-grown xs (made_by c))
 
-pub machine-apart : (xs : List Entry) → AreOrderly xs → (c : Creation) (v : ℕ) → v ≢ next_vm xs →
+pub machine-apart : (xs : List Entry) → IsOrderlyCloud xs → (c : Creation) (v : ℕ) → v ≢ next_vm xs →
     machine_of (grown xs (made_by c)) v ≡ machine_of xs v
 machine-apart xs orderly c v apart = λ i.
     if there-made xs c v apart i
@@ -97,7 +97,7 @@ machine-apart xs orderly c v apart = λ i.
 
 -- ---- the new machine
 
-nothing_ahead : (xs : List Entry) → AreOrderly xs → attached_to xs (next_vm xs) ≡ []
+nothing_ahead : (xs : List Entry) → IsOrderlyCloud xs → attached_to xs (next_vm xs) ≡ []
 nothing_ahead xs orderly =
     filter_none (is_holder xs (next_vm xs)) (numbers_to (disks_created xs))
     (λ d. none (last_holder xs d) (not_ahead xs orderly d))
@@ -114,7 +114,7 @@ new-there xs c =
     latest_seen_last (vm_presence (next_vm xs)) false [] xs (made_by c)
     ∙ sure (next_vm xs) (next_vm xs) refl true (is_vm_there xs (next_vm xs))
 
-machine_made-new : (xs : List Entry) → AreOrderly xs → (c : Creation) →
+machine_made-new : (xs : List Entry) → IsOrderlyCloud xs → (c : Creation) →
     machine_made (grown xs (made_by c)) (next_vm xs) (creation_of c) c.make ≡ new_machine (next_vm xs) c.by c.make
 machine_made-new xs orderly c =
     let before : IsUntouched xs (next_vm xs) = (orderly.vms (next_vm xs)).ahead (omega arith) in
@@ -123,7 +123,7 @@ machine_made-new xs orderly c =
     ∙ (λ i. with_parts (next_vm xs) c.by c.make (before.no_spec i) (before.not_running i) (before.not_drained i)
     (nothing_ahead xs orderly i) (filter (is_disk_mounted xs) (nothing_ahead xs orderly i)) (before.not_silent i))
 
-pub machine-new : (xs : List Entry) → AreOrderly xs → (c : Creation) →
+pub machine-new : (xs : List Entry) → IsOrderlyCloud xs → (c : Creation) →
     machine_of (grown xs (made_by c)) (next_vm xs) ≡ Some (new_machine (next_vm xs) c.by c.make)
 machine-new xs orderly c =
     let created : vm_creation (grown xs (made_by c)) (next_vm xs) ≡ Some (creation_of c) =

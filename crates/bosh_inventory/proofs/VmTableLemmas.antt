@@ -14,7 +14,7 @@ use Rattle.bosh_inventory.proofs.ContentsLemmas.{slots-kept}
 use Rattle.bosh_inventory.proofs.OrderlyLemmas.{IsUntouched-kept, disk_some-kept}
 use Rattle.bosh_inventory.proofs.PresenceLemmas.{grown, disks_created-kept, last_holder-kept, is_disk_there-kept}
 use Rattle.bosh_inventory.proofs.SlotLemmas.{slots_same, slots_more}
-use Rattle.bosh_inventory.specs.Orderly.{IsOrderlyVm, IsOrderlyDisk, AreOrderly, last_holder}
+use Rattle.bosh_inventory.specs.Orderly.{IsOrderlyVm, IsOrderlyDisk, IsOrderlyCloud, last_holder}
 use Rattle.bosh_inventory.specs.Rows.{slots, AreTables}
 use Rattle.bosh_base.specs.declared.call.Call.TheVariants.{CreateVm}
 use Rattle.bosh_inventory.specs.Made.{new_machine}
@@ -22,7 +22,7 @@ use Rattle.bosh_inventory.proofs.VmCreationLemmas.{Creation, made_by, next_vm, c
 
 -- ---- the order
 
-orderly_vm-made : (xs : List Entry) → AreOrderly xs → (c : Creation) (v : ℕ) → IsOrderlyVm (grown xs (made_by c)) v
+orderly_vm-made : (xs : List Entry) → IsOrderlyCloud xs → (c : Creation) (v : ℕ) → IsOrderlyVm (grown xs (made_by c)) v
 orderly_vm-made xs orderly c v =
     let before : IsOrderlyVm xs v = orderly.vms v in
     let more : vms_created (grown xs (made_by c)) ≡ vms_created xs + 1 = count-made xs c in
@@ -44,7 +44,7 @@ orderly_vm-made xs orderly c v =
           IsUntouched-kept xs (made_by c) v (untouched-made c v) (before.ahead (omega (arith, past)));
     }
 
-orderly_disk-made : (xs : List Entry) → AreOrderly xs → (c : Creation) (d : ℕ) → IsOrderlyDisk (grown xs (made_by c)) d
+orderly_disk-made : (xs : List Entry) → IsOrderlyCloud xs → (c : Creation) (d : ℕ) → IsOrderlyDisk (grown xs (made_by c)) d
 orderly_disk-made xs orderly c d =
     let before : IsOrderlyDisk xs d = orderly.disks d in
     let count : disks_created (grown xs (made_by c)) ≡ disks_created xs = disks_created-kept xs (made_by c) refl in
@@ -75,7 +75,7 @@ pub AreTables-created : (xs : List Entry) (e : effect.Effect) (make : Make) (vms
     make_of e.call ≡ Some make → AreTables xs vms volumes holders → AreTables (xs ++ Effect e ∷ [])
     (vms ++ Some (new_machine (vms_created xs + 1) e make) ∷ []) volumes holders
 AreTables-created xs e make vms volumes holders is tables =
-    let orderly : AreOrderly xs = tables.are_orderly in
+    let orderly : IsOrderlyCloud xs = tables.are_orderly in
     let c : Creation = record { by = e; make = make; hint = (made_is e.call make is).0 } in
     let P : Entry → Type 0 =
     λ entry. AreTables (xs ++ entry ∷ []) (vms ++ Some (new_machine (vms_created xs + 1) e make) ∷ []) volumes

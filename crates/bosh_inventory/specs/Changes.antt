@@ -9,9 +9,9 @@ use Rattle.bosh_base.specs.declared.entry.Effect as effect
 use Rattle.bosh_base.specs.declared.entry.Entry.{Entry}
 use Rattle.bosh_base.specs.declared.entry.Entry.TheVariants.{Effect}
 use Rattle.bosh_base.specs.declared.machine.Machine.{Machine}
-use Rattle.bosh_changes.specs.Changes.{tables_after, IsFitting}
-use Rattle.bosh_changes.specs.declared.change.Change.{Change}
-use Rattle.bosh_changes.specs.declared.tables.Tables.{Tables}
+use Rattle.bosh_registers.specs.Changes.{tables_after, IsFitting}
+use Rattle.bosh_registers.specs.declared.change.Change.{Change}
+use Rattle.bosh_registers.specs.declared.tables.Tables.{Tables}
 use Rattle.bosh_inventory.specs.Rows.{AreTables}
 
 -- the tables are those of what was done

@@ -32,6 +32,6 @@ pub record IsOrderlyDisk (entries : List Entry) (d : ℕ) : Type 0 where
   pub not_held : disks_created entries < d → last_holder entries d ≡ None
   pub empty : disks_created entries < d → contents_of entries d ≡ []
 
-pub record AreOrderly (entries : List Entry) : Type 0 where
+pub record IsOrderlyCloud (entries : List Entry) : Type 0 where
   pub vms : (v : ℕ) → IsOrderlyVm entries v
   pub disks : (d : ℕ) → IsOrderlyDisk entries d

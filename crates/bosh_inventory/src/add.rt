@@ -7,7 +7,7 @@ ghost use Rattle.bosh_inventory.specs.Steps.{IsStep};
 use crate::inventory::Inventory;
 use crate::step::Step;
 use bosh_base::{Disk, Entry, Machine};
-use bosh_changes::{Change, InventoryFault, push, push_held, push_made};
+use bosh_registers::{Change, InventoryFault, push, push_held, push_made};
 
 impl Inventory {
     /// Adds what a store tells that it was done. Where there is no memory for it nothing is added.

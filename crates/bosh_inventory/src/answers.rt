@@ -11,7 +11,7 @@ ghost use Rattle.bosh_inventory.specs.Happens.{happens};
 use crate::inventory::Inventory;
 use bosh_agent::{can_act, told, vm_of};
 use bosh_base::{Answer, Call, Copyable, Entry, Machine};
-use bosh_changes::InventoryFault;
+use bosh_registers::InventoryFault;
 use std::alloc::Global;
 
 impl Inventory {

@@ -7,7 +7,7 @@ ghost use Rattle.bosh_inventory.specs.Rows.{slots};
 
 use bosh_agent::has;
 use bosh_base::{Disk, Entry, Machine};
-use bosh_changes::Tables;
+use bosh_registers::Tables;
 use std::alloc::Global;
 use std::marker::Model;
 

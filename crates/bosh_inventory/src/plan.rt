@@ -10,7 +10,7 @@ ghost use Rattle.bosh_inventory.specs.Changes.{IsActing, Leads, LeadsBy};
 use crate::inventory::Inventory;
 use bosh_agent::{change_of, vm_of, with_number, without_number};
 use bosh_base::{Call, Copyable, Entry, Text};
-use bosh_changes::{Change, InventoryFault};
+use bosh_registers::{Change, InventoryFault};
 use std::alloc::Global;
 
 impl Inventory {

@@ -4,14 +4,14 @@ ghost use Rattle.bosh_inventory.specs.Changes.{Leads};
 ghost use Rattle.bosh_inventory.specs.Happens.{MayFollow};
 ghost use Rattle.bosh_inventory.specs.Made.{MakesDisk, MakesVm};
 ghost use Rattle.bosh_inventory.specs.Steps.{IsStep};
-ghost use Rattle.bosh_changes.specs.Store.{Appends};
+ghost use Rattle.bosh_registers.specs.Store.{Appends};
 ghost use Rattle.bosh_ports.specs.Faults.{NeverFalls};
 
 use crate::inventory::Inventory;
 use crate::step::Step;
 use bosh_base::{Disk, Entry, Machine};
-use bosh_changes::{Change, PutFault, keep, keep_held, keep_made};
 use bosh_ports::Keeper;
+use bosh_registers::{Change, PutFault, keep, keep_held, keep_made};
 
 impl Inventory {
     /// Adds what is done, once its body is in the store. Where that fails nothing is added.

@@ -10,7 +10,7 @@ use crate::inventory::Inventory;
 use bosh_base::{
     Call, Disk, DiskWant, Effect, Entry, Machine, Make, Seq, Write, copy_both, copy_three,
 };
-use bosh_changes::{Change, InventoryFault};
+use bosh_registers::{Change, InventoryFault};
 use std::alloc::Global;
 
 /// What is done to the tables. All that takes memory is in it.

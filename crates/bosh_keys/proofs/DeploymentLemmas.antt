@@ -7,7 +7,7 @@ use Rattle.bosh_base.specs.declared.key.KeyWork.{KeyWork}
 use Rattle.bosh_compile.specs.Level.{IsAcyclic}
 use Rattle.bosh_needed.specs.Needed.{AreNeeded}
 use Rattle.bosh_release.specs.Sound.{IsSound}
-use Rattle.bosh_uses.specs.Used.{UsedGroup}
+use Rattle.bosh_manifest_names.specs.Used.{UsedGroup}
 use Rattle.bosh_keys.specs.Once.{each_once}
 use Rattle.bosh_keys.specs.Works.{AreKeys, all_works, asked_keys, releases_of}
 use Rattle.bosh_keys.proofs.GroundLemmas.{works_acyclic}

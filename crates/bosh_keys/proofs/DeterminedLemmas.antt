@@ -23,7 +23,7 @@ use Rattle.bosh_compile.proofs.KeyLemmas.{same_key_decides}
 use Rattle.bosh_compile.proofs.LevelLemmas.{le-one_above, levels_agree, one_above-le}
 use Rattle.bosh_needed.specs.Needed.{StandOnce, how_many}
 use Rattle.bosh_release.specs.Sound.{IsSound}
-use Rattle.bosh_uses.specs.Used.{UsedGroup}
+use Rattle.bosh_manifest_names.specs.Used.{UsedGroup}
 use Rattle.bosh_keys.specs.Works.{AreKeys, releases_of}
 use Rattle.bosh_keys.proofs.GroundLemmas.{works_acyclic}
 use Rattle.bosh_keys.proofs.KeyLemmas.{is_eq-key_cmp, key_cmp_total}

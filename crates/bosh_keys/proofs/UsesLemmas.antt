@@ -15,13 +15,13 @@ use Rattle.bosh_lookup.specs.Table.{first_named}
 use Rattle.bosh_manifest.specs.declared.group.Group.{Group}
 use Rattle.bosh_manifest.specs.declared.manifest.Contents.{Contents}
 use Rattle.bosh_manifest_parts.specs.declared.job.JobUse.{JobUse}
-use Rattle.bosh_uses.specs.Answer.{◌>>=◌, each}
-use Rattle.bosh_uses.specs.Edition.{edition, greater, is_equal, is_less}
-use Rattle.bosh_uses.specs.Used.{UsedGroup, UsedJob}
-use Rattle.bosh_uses.specs.Uses.{all_known, job_name, net_name, or_unknown, release_name, release_version, sources, stemcell_of_alias, used_disk, used_group, used_job, used_machine, used_release, used_stemcell, uses}
-use Rattle.bosh_uses.specs.declared.fault.GoalFault.{GoalFault}
-use Rattle.bosh_uses.specs.declared.fault.Kind.{Kind}
-use Rattle.bosh_uses.specs.declared.fault.Kind.TheVariants as kinds
+use Rattle.bosh_manifest_names.specs.Answer.{◌>>=◌, each}
+use Rattle.bosh_manifest_names.specs.Edition.{edition, greater, is_equal, is_less}
+use Rattle.bosh_manifest_names.specs.Used.{UsedGroup, UsedJob}
+use Rattle.bosh_manifest_names.specs.Uses.{all_known, job_name, net_name, or_unknown, release_name, release_version, sources, stemcell_of_alias, used_disk, used_group, used_job, used_machine, used_release, used_stemcell, uses}
+use Rattle.bosh_manifest_names.specs.declared.fault.GoalFault.{GoalFault}
+use Rattle.bosh_manifest_names.specs.declared.fault.Kind.{Kind}
+use Rattle.bosh_manifest_names.specs.declared.fault.Kind.TheVariants as kinds
 use Rattle.bosh_keys.specs.Works.{group_releases, releases_of}
 use Rattle.bosh_keys.proofs.ListLemmas.{flat_from, is_first, mapped_from}
 

@@ -15,7 +15,7 @@ use Rattle.bosh_base.specs.declared.stemcell.Stemcell.{Stemcell}
 use Rattle.bosh_lookup.specs.Table.{first_named}
 use Rattle.bosh_release.specs.Sound.{IsSound, names_of}
 use Rattle.bosh_release_files.specs.Files.{in_order}
-use Rattle.bosh_uses.specs.Used.{UsedGroup, UsedJob}
+use Rattle.bosh_manifest_names.specs.Used.{UsedGroup, UsedJob}
 use Rattle.bosh_keys.specs.Works.{all_works, group_releases, group_works, job_works, key_named, key_of, keys_named, package_name, releases_of, work_of}
 use Rattle.bosh_keys.proofs.ListLemmas.{flat_from, flat_into, given_same, mapped_from, mapped_into}
 use Rattle.bosh_keys.proofs.NameLemmas.{in_order_from, same_in_order}

@@ -10,7 +10,7 @@ use Rattle.bosh_base.specs.declared.stemcell.Stemcell.{Stemcell}
 use Rattle.bosh_lookup.specs.Table.{first_named}
 use Rattle.bosh_needed.specs.Needed.{AreNeeded}
 use Rattle.bosh_release_files.specs.Files.{in_order}
-use Rattle.bosh_uses.specs.Used.{UsedGroup, UsedJob}
+use Rattle.bosh_manifest_names.specs.Used.{UsedGroup, UsedJob}
 
 -- ---- keys
 

@@ -7,8 +7,8 @@ ghost use Rattle.bosh_release.specs.Sound.{IsSound};
 use crate::gathered::Gathered;
 use bosh_base::{Key, KeyWork, Seq};
 use bosh_compile::CompileFault;
+use bosh_manifest_names::UsedGroup;
 use bosh_needed::needed;
-use bosh_uses::UsedGroup;
 use std::alloc::Global;
 
 /// The packages that the jobs of groups need compiled for the stemcells of the groups, with all that they need compiled

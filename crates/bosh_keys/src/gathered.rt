@@ -7,7 +7,7 @@ ghost use Rattle.bosh_release_files.specs.Files.{in_order};
 use crate::key::key_of;
 use crate::packages::Packages;
 use bosh_base::{CopyFault, Copyable, Key, KeyWork, Name, PackageSpec, Seq, Stemcell};
-use bosh_uses::{UsedGroup, UsedJob};
+use bosh_manifest_names::{UsedGroup, UsedJob};
 use std::alloc::Global;
 use std::collections::BTreeSet;
 

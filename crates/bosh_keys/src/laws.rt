@@ -9,8 +9,8 @@ ghost use Rattle.bosh_cloudcfg.specs.declared.config.Config.{Config};
 ghost use Rattle.bosh_keys.specs.Works.{AreKeys, releases_of};
 ghost use Rattle.bosh_manifest.specs.declared.manifest.Contents.{Contents};
 ghost use Rattle.bosh_release.specs.Sound.{IsSound};
-ghost use Rattle.bosh_uses.specs.Used.{UsedGroup};
-ghost use Rattle.bosh_uses.specs.Uses.{uses};
+ghost use Rattle.bosh_manifest_names.specs.Used.{UsedGroup};
+ghost use Rattle.bosh_manifest_names.specs.Uses.{uses};
 
 /// There is one answer: where the releases are sound and alike, two lists of keys for one deployment are the same list.
 pub fn keys_are_determined()

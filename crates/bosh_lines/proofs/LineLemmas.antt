@@ -2,11 +2,11 @@
 use Rattle.std.proofs.Common.{◌≡◌, ◌∙◌, ℕ, Bool, true, false, cond, List, [], ◌∷◌, Option, Some, None, Result, Ok, Err, refl, sym, ap, subst}
 use Rattle.std.specs.Prelude.{IfErr, IfOk, IsErrAnd}
 use Rattle.bosh_base.specs.declared.inst.Inst.{Inst}
-use Rattle.bosh_words.specs.Grammar.{IsRefused, fault_of, place_fault}
-use Rattle.bosh_words.specs.Words.{Word}
-use Rattle.bosh_words.specs.declared.fault.LineFault.{LineFault}
-use Rattle.bosh_words.specs.declared.fault.LineFault.TheVariants.{BadArgument, Missing}
-use Rattle.bosh_words.proofs.GrammarLemmas.{fault_placed, fault_taken, none_left}
+use Rattle.bosh_line_words.specs.Grammar.{IsRefused, fault_of, place_fault}
+use Rattle.bosh_line_words.specs.Words.{Word}
+use Rattle.bosh_line_words.specs.declared.fault.LineFault.{LineFault}
+use Rattle.bosh_line_words.specs.declared.fault.LineFault.TheVariants.{BadArgument, Missing}
+use Rattle.bosh_line_words.proofs.GrammarLemmas.{fault_placed, fault_taken, none_left}
 use Rattle.bosh_lines.specs.Forms.{Form, IsRead, is_inst, is_written}
 use Rattle.bosh_lines.specs.Lines.{Formed, IsParsed}
 use Rattle.bosh_lines.specs.declared.command.Command.{Command}

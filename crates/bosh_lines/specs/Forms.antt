@@ -3,9 +3,9 @@ use Rattle.std.specs.Prelude.{◌≡◌, ℕ, ◌^◌, ◌-◌, ◌&&◌, nat_le
 use Rattle.std.specs.Option.{option_map}
 use Rattle.bosh_base.specs.Name.{is_name}
 use Rattle.bosh_base.specs.Version.{is_version}
-use Rattle.bosh_words.specs.Grammar.{Choice, fault_of, has}
-use Rattle.bosh_words.specs.Kinds.{disk_of, inst_from, inst_of, is_path, member_of, method_of, number_in, version_of, whose_of}
-use Rattle.bosh_words.specs.Words.{Word}
+use Rattle.bosh_line_words.specs.Grammar.{Choice, fault_of, has}
+use Rattle.bosh_line_words.specs.Kinds.{disk_of, inst_from, inst_of, is_path, member_of, method_of, number_in, version_of, whose_of}
+use Rattle.bosh_line_words.specs.Words.{Word}
 use Rattle.bosh_lines.specs.Variable.{variable_of, variables_in}
 use Rattle.bosh_lines.specs.Words.{fate_of, is_all, is_orphaned, is_store, lost_of, others_of, when_of}
 use Rattle.bosh_lines.specs.declared.command.Command.{Command}
@@ -137,7 +137,9 @@ delete_disk_form = record { places = (λ text. is_some (disk_of text)) ∷ []; o
 -- `!fail lose|late METHOD OWNER K`
 abbrev pub fail_call_command : List Word → Option Command
 fail_call_command (fate ∷ method ∷ owner ∷ calls ∷ []) =
-    option_and_then (λ f. option_and_then (λ m. option_and_then (λ o. option_map (λ k. command.FailCall (record { method = m; owner = o; calls = k; fate = f })) (count_of calls.text)) (whose_of owner.text)) (method_of method.text)) (fate_of fate.text)
+    option_and_then (λ f. option_and_then (λ m. option_and_then (λ o. option_map
+    (λ k. command.FailCall (record { method = m; owner = o; calls = k; fate = f }))
+    (count_of calls.text)) (whose_of owner.text)) (method_of method.text)) (fate_of fate.text)
 fail_call_command words = None
 
 abbrev pub fail_call_form : Form
@@ -155,7 +157,9 @@ fail_store_form = record { places = is_store ∷ is_fate ∷ is_count ∷ []; op
 -- `!stop before|after METHOD OWNER K none|all`
 abbrev pub stop_call_command : List Word → Option Command
 stop_call_command (when ∷ method ∷ owner ∷ calls ∷ others ∷ []) =
-    option_and_then (λ w. option_and_then (λ m. option_and_then (λ o. option_and_then (λ k. option_map (λ left. command.StopCall (record { when = w; method = m; owner = o; calls = k; others = left })) (others_of others.text)) (count_of calls.text)) (whose_of owner.text)) (method_of method.text)) (when_of when.text)
+    option_and_then (λ w. option_and_then (λ m. option_and_then (λ o. option_and_then (λ k. option_map
+    (λ left. command.StopCall (record { when = w; method = m; owner = o; calls = k; others = left }))
+    (others_of others.text)) (count_of calls.text)) (whose_of owner.text)) (method_of method.text)) (when_of when.text)
 stop_call_command words = None
 
 abbrev pub stop_call_form : Form

@@ -2,10 +2,10 @@
 use Rattle.std.specs.Prelude.{◌≡◌, ℕ, ◌+◌, nat_le, nat_lt, Bool, true, false, List, [], ◌∷◌, drop, length, codes, Option, Some, None, Result, Ok, Err, IfOk, IfErr, if◌then◌else◌}
 use Rattle.std.specs.Str.{bytes_eq}
 use Rattle.bosh_base.specs.Name.{is_name}
-use Rattle.bosh_words.specs.Grammar.{IsRefused}
-use Rattle.bosh_words.specs.Words.{Word, words}
-use Rattle.bosh_words.specs.declared.fault.LineFault.{LineFault}
-use Rattle.bosh_words.specs.declared.fault.LineFault.TheVariants.{UnknownCommand, BadArgument, Missing, TooLarge}
+use Rattle.bosh_line_words.specs.Grammar.{IsRefused}
+use Rattle.bosh_line_words.specs.Words.{Word, words}
+use Rattle.bosh_line_words.specs.declared.fault.LineFault.{LineFault}
+use Rattle.bosh_line_words.specs.declared.fault.LineFault.TheVariants.{UnknownCommand, BadArgument, Missing, TooLarge}
 use Rattle.bosh_lines.specs.Forms.{Form, IsRead, clean_up_form, cloud_check_form, cloud_form, compiled_form, delete_deployment_form, delete_disk_form, deploy_form, disks_form, fail_call_form, fail_store_form, file_form, generate_form, instances_form, lose_form, read_form, recreate_form, releases_form, restart_form, show_form, start_form, stop_call_form, stop_form, stop_store_form, task_form, tasks_form, together_form, update_cloud_config_form, upload_release_form, upload_stemcell_form, write_form}
 use Rattle.bosh_lines.specs.Verbs.{action_of, verb_of}
 use Rattle.bosh_lines.specs.Words.{is_store}

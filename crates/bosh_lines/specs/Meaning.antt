@@ -1,8 +1,8 @@
 -- What a line asks for, as a value (this project's profile).
 use Rattle.std.specs.Prelude.{ℕ, List, Option, Some, None, Result, Ok, Err}
-use Rattle.bosh_words.specs.Grammar.{fault_of}
-use Rattle.bosh_words.specs.declared.fault.LineFault.{LineFault}
-use Rattle.bosh_words.specs.declared.fault.LineFault.TheVariants.{UnknownCommand}
+use Rattle.bosh_line_words.specs.Grammar.{fault_of}
+use Rattle.bosh_line_words.specs.declared.fault.LineFault.{LineFault}
+use Rattle.bosh_line_words.specs.declared.fault.LineFault.TheVariants.{UnknownCommand}
 use Rattle.bosh_lines.specs.Lines.{Found, Formed, Refused, found_in}
 use Rattle.bosh_lines.specs.declared.command.Command.{Command}
 

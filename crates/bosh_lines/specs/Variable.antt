@@ -3,7 +3,7 @@ use Rattle.std.specs.Prelude.{ℕ, ◌+◌, ◌==◌, ◌&&◌, List, [], ◌∷
 use Rattle.std.specs.Option.{option_to_list}
 use Rattle.std.specs.Str.{is_utf8}
 use Rattle.bosh_vars.specs.Spelling.{is_name}
-use Rattle.bosh_words.specs.Words.{Word}
+use Rattle.bosh_line_words.specs.Words.{Word}
 use Rattle.bosh_lines.specs.declared.variable.Variable.{Variable}
 
 -- the variable of this name and this value

@@ -1,8 +1,8 @@
 //! Lines that let calls and appends fail, that stop the director, and that are about one instance of any deployment.
 ghost use Rattle.std.specs.Prelude.{◌≡◌, ◌≤◌, IfErr, IfOk, length};
 ghost use Rattle.std.specs.Option.{option_map, option_to_list};
-ghost use Rattle.bosh_words.specs.Grammar.{IsRefused};
-ghost use Rattle.bosh_words.specs.Words.{word_of, words_in};
+ghost use Rattle.bosh_line_words.specs.Grammar.{IsRefused};
+ghost use Rattle.bosh_line_words.specs.Words.{word_of, words_in};
 ghost use Rattle.bosh_lines.specs.Forms.{IsRead, fail_call_form, fail_store_form, lose_form, read_form, show_form, stop_call_form, stop_store_form, write_form};
 ghost use Rattle.bosh_lines.specs.Lines.{written, written_text};
 
@@ -11,7 +11,7 @@ use crate::word::{FateWord, Store};
 use crate::{Command, Lost, Others, StopCall, When};
 use bosh_base::Method;
 use bosh_fates::Doom;
-use bosh_words::{
+use bosh_line_words::{
     InstWord, LineFault, Number, Path, Place, Rest, Whose, Word, five, four, one, three, two,
 };
 use std::alloc::Global;
@@ -19,7 +19,7 @@ use std::alloc::Global;
 /// Which call or append from now on.
 type Count = Number<1, 1_000_000>;
 
-#[tactic(auto, using(bosh_words::proofs::GrammarLemmas::reading))]
+#[tactic(auto, using(bosh_line_words::proofs::GrammarLemmas::reading))]
 pub(crate) fn fail_store(rest: Rest<'_>) -> Result<Command, LineFault>
     ensures ok { IfOk result (IsRead fail_store_form (words_in rest.entry)) }
     ensures refused { IfErr result (IsRefused fail_store_form.places fail_store_form.options (words_in rest.entry)) }
@@ -28,7 +28,7 @@ pub(crate) fn fail_store(rest: Rest<'_>) -> Result<Command, LineFault>
     Ok(Command::FailStore { fate, appends })
 }
 
-#[tactic(auto, using(bosh_words::proofs::GrammarLemmas::reading))]
+#[tactic(auto, using(bosh_line_words::proofs::GrammarLemmas::reading))]
 pub(crate) fn fail_call(alloc: Global, rest: Rest<'_>) -> Result<Command, LineFault>
     ensures ok { IfOk result (IsRead fail_call_form (words_in rest.entry)) }
     ensures refused { IfErr result (IsRefused fail_call_form.places fail_call_form.options (words_in rest.entry)) }
@@ -45,7 +45,7 @@ pub(crate) fn fail_call(alloc: Global, rest: Rest<'_>) -> Result<Command, LineFa
     }))
 }
 
-#[tactic(auto, using(bosh_words::proofs::GrammarLemmas::reading))]
+#[tactic(auto, using(bosh_line_words::proofs::GrammarLemmas::reading))]
 pub(crate) fn stop_store(rest: Rest<'_>) -> Result<Command, LineFault>
     ensures ok { IfOk result (IsRead stop_store_form (words_in rest.entry)) }
     ensures refused { IfErr result (IsRefused stop_store_form.places stop_store_form.options (words_in rest.entry)) }
@@ -54,7 +54,7 @@ pub(crate) fn stop_store(rest: Rest<'_>) -> Result<Command, LineFault>
     Ok(Command::StopStore { when, appends })
 }
 
-#[tactic(auto, using(bosh_words::proofs::GrammarLemmas::reading))]
+#[tactic(auto, using(bosh_line_words::proofs::GrammarLemmas::reading))]
 pub(crate) fn stop_call(alloc: Global, rest: Rest<'_>) -> Result<Command, LineFault>
     ensures ok { IfOk result (IsRead stop_call_form (words_in rest.entry)) }
     ensures refused { IfErr result (IsRefused stop_call_form.places stop_call_form.options (words_in rest.entry)) }
@@ -76,7 +76,7 @@ pub(crate) fn stop_call(alloc: Global, rest: Rest<'_>) -> Result<Command, LineFa
     }))
 }
 
-#[tactic(auto, using(bosh_words::proofs::GrammarLemmas::reading))]
+#[tactic(auto, using(bosh_line_words::proofs::GrammarLemmas::reading))]
 pub(crate) fn read(alloc: Global, rest: Rest<'_>) -> Result<Command, LineFault>
     ensures ok { IfOk result (IsRead read_form (words_in rest.entry)) }
     ensures refused { IfErr result (IsRefused read_form.places read_form.options (words_in rest.entry)) }
@@ -86,7 +86,7 @@ pub(crate) fn read(alloc: Global, rest: Rest<'_>) -> Result<Command, LineFault>
     Ok(Command::Read(inst))
 }
 
-#[tactic(auto, using(bosh_words::proofs::GrammarLemmas::reading))]
+#[tactic(auto, using(bosh_line_words::proofs::GrammarLemmas::reading))]
 pub(crate) fn show(alloc: Global, rest: Rest<'_>) -> Result<Command, LineFault>
     ensures ok { IfOk result (IsRead show_form (words_in rest.entry)) }
     ensures refused { IfErr result (IsRefused show_form.places show_form.options (words_in rest.entry)) }
@@ -97,7 +97,7 @@ pub(crate) fn show(alloc: Global, rest: Rest<'_>) -> Result<Command, LineFault>
     Ok(Command::Show { inst, path })
 }
 
-#[tactic(auto, using(bosh_words::proofs::GrammarLemmas::reading))]
+#[tactic(auto, using(bosh_line_words::proofs::GrammarLemmas::reading))]
 pub(crate) fn lose(alloc: Global, rest: Rest<'_>) -> Result<Command, LineFault>
     ensures ok { IfOk result (IsRead lose_form (words_in rest.entry)) }
     ensures refused { IfErr result (IsRefused lose_form.places lose_form.options (words_in rest.entry)) }

@@ -1,19 +1,21 @@
 //! Lines about one deployment.
 ghost use Rattle.std.specs.Prelude.{◌≡◌, IfErr, IfOk, true};
 ghost use Rattle.bosh_base.specs.Name.{is_name};
-ghost use Rattle.bosh_words.specs.Grammar.{IsRefused};
-ghost use Rattle.bosh_words.specs.Words.{words_in};
-ghost use Rattle.bosh_words.specs.declared.fault.LineFault.TheVariants.{Memory};
+ghost use Rattle.bosh_line_words.specs.Grammar.{IsRefused};
+ghost use Rattle.bosh_line_words.specs.Words.{words_in};
+ghost use Rattle.bosh_line_words.specs.declared.fault.LineFault.TheVariants.{Memory};
 ghost use Rattle.bosh_lines.specs.Forms.{IsRead, cloud_check_form, delete_deployment_form, deploy_form, instances_form, recreate_form, start_form, stop_form};
 
 use crate::site::copied;
 use crate::variable::{VariableWord, variables};
 use crate::{Command, Deploy};
 use bosh_base::{Name, Text};
-use bosh_words::{Choice, LineFault, Member, Path, Rest, end, has, name_of, one, options, take};
+use bosh_line_words::{
+    Choice, LineFault, Member, Path, Rest, end, has, name_of, one, options, take,
+};
 use std::alloc::Global;
 
-#[tactic(auto, using(bosh_words::proofs::GrammarLemmas::reading))]
+#[tactic(auto, using(bosh_line_words::proofs::GrammarLemmas::reading))]
 pub(crate) fn instances(alloc: Global, dep: &[u8], rest: Rest<'_>) -> Result<Command, LineFault>
     requires { is_name dep.now ≡ true }
     ensures ok { IfOk result (IsRead (instances_form dep.now) (words_in rest.entry)) }
@@ -24,7 +26,7 @@ pub(crate) fn instances(alloc: Global, dep: &[u8], rest: Rest<'_>) -> Result<Com
     Ok(Command::Instances { dep })
 }
 
-#[tactic(auto, using(bosh_words::proofs::GrammarLemmas::reading))]
+#[tactic(auto, using(bosh_line_words::proofs::GrammarLemmas::reading))]
 pub(crate) fn delete_deployment(
     alloc: Global,
     dep: &[u8],
@@ -39,7 +41,7 @@ pub(crate) fn delete_deployment(
     Ok(Command::DeleteDeployment { dep })
 }
 
-#[tactic(auto, using(bosh_words::proofs::GrammarLemmas::reading))]
+#[tactic(auto, using(bosh_line_words::proofs::GrammarLemmas::reading))]
 pub(crate) fn recreate(alloc: Global, dep: &[u8], rest: Rest<'_>) -> Result<Command, LineFault>
     requires { is_name dep.now ≡ true }
     ensures ok { IfOk result (IsRead (recreate_form dep.now) (words_in rest.entry)) }
@@ -50,7 +52,7 @@ pub(crate) fn recreate(alloc: Global, dep: &[u8], rest: Rest<'_>) -> Result<Comm
     Ok(Command::Recreate(inst))
 }
 
-#[tactic(auto, using(bosh_words::proofs::GrammarLemmas::reading))]
+#[tactic(auto, using(bosh_line_words::proofs::GrammarLemmas::reading))]
 pub(crate) fn start(alloc: Global, dep: &[u8], rest: Rest<'_>) -> Result<Command, LineFault>
     requires { is_name dep.now ≡ true }
     ensures ok { IfOk result (IsRead (start_form dep.now) (words_in rest.entry)) }
@@ -105,7 +107,7 @@ fn named_file(alloc: Global, dep: &[u8], path: &[u8]) -> Result<(Name, Text), Li
     Ok((dep, path))
 }
 
-#[tactic(auto, using(bosh_words::proofs::GrammarLemmas::reading))]
+#[tactic(auto, using(bosh_line_words::proofs::GrammarLemmas::reading))]
 pub(crate) fn deploy(alloc: Global, dep: &[u8], rest: Rest<'_>) -> Result<Command, LineFault>
     requires { is_name dep.now ≡ true }
     ensures ok { IfOk result (IsRead (deploy_form dep.now) (words_in rest.entry)) }
@@ -126,7 +128,7 @@ pub(crate) fn deploy(alloc: Global, dep: &[u8], rest: Rest<'_>) -> Result<Comman
     }))
 }
 
-#[tactic(auto, using(bosh_words::proofs::GrammarLemmas::reading))]
+#[tactic(auto, using(bosh_line_words::proofs::GrammarLemmas::reading))]
 pub(crate) fn stop(alloc: Global, dep: &[u8], rest: Rest<'_>) -> Result<Command, LineFault>
     requires { is_name dep.now ≡ true }
     ensures ok { IfOk result (IsRead (stop_form dep.now) (words_in rest.entry)) }

@@ -10,7 +10,7 @@ mod variable;
 mod verb;
 mod word;
 
-pub use bosh_words::LineFault;
+pub use bosh_line_words::LineFault;
 pub use command::{Command, Deploy, StopCall};
 pub use line::parse_line;
 pub use variable::Variable;

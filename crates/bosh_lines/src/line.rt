@@ -1,12 +1,12 @@
 ghost use Rattle.std.specs.Prelude.{◌≡◌, ◌≤◌, [], Some, length, true};
 ghost use Rattle.bosh_base.specs.Name.{is_name};
-ghost use Rattle.bosh_words.specs.Words.{words_in};
+ghost use Rattle.bosh_line_words.specs.Words.{words_in};
 ghost use Rattle.bosh_lines.specs.Lines.{IsParsed, begins_store, by_verb, follows_store, form_on, found_in, on_deployment};
 ghost use Rattle.bosh_lines.specs.Lines.{Formed};
 
 use crate::verb::{Action, Verb};
 use crate::{Command, call, deployment, site};
-use bosh_words::{LineFault, Rest, is_name};
+use bosh_line_words::{LineFault, Rest, is_name};
 use std::alloc::Global;
 
 /// The most bytes of a line.

@@ -1,14 +1,14 @@
 //! Lines that are about no single deployment.
 ghost use Rattle.std.specs.Prelude.{◌≡◌, ◌^◌, IfErr, IfOk};
-ghost use Rattle.bosh_words.specs.Grammar.{IsRefused};
-ghost use Rattle.bosh_words.specs.Words.{words_in};
+ghost use Rattle.bosh_line_words.specs.Grammar.{IsRefused};
+ghost use Rattle.bosh_line_words.specs.Words.{words_in};
 ghost use Rattle.bosh_lines.specs.Forms.{IsRead, clean_up_form, cloud_form, compiled_form, delete_disk_form, disks_form, file_form, generate_form, releases_form, restart_form, task_form, tasks_form, together_form, update_cloud_config_form, upload_release_form, upload_stemcell_form};
-ghost use Rattle.bosh_words.specs.declared.fault.LineFault.TheVariants.{Memory};
+ghost use Rattle.bosh_line_words.specs.declared.fault.LineFault.TheVariants.{Memory};
 
 use crate::Command;
 use crate::word::{All, Orphaned};
 use bosh_base::{Stemcell, Text};
-use bosh_words::{
+use bosh_line_words::{
     DiskWord, LineFault, NameWord, Number, Path, Rest, VersionOption, VersionWord, end, name_of,
     one, two,
 };
@@ -24,7 +24,7 @@ pub(crate) fn copied(alloc: Global, bytes: &[u8]) -> Result<Text, LineFault>
     Ok(Text::from(Vec::from_slice(alloc, bytes)?))
 }
 
-#[tactic(auto, using(bosh_words::proofs::GrammarLemmas::reading))]
+#[tactic(auto, using(bosh_line_words::proofs::GrammarLemmas::reading))]
 pub(crate) fn file(alloc: Global, rest: Rest<'_>) -> Result<Command, LineFault>
     ensures ok { IfOk result (IsRead file_form (words_in rest.entry)) }
     ensures refused { IfErr result (IsRefused file_form.places file_form.options (words_in rest.entry)) }
@@ -34,7 +34,7 @@ pub(crate) fn file(alloc: Global, rest: Rest<'_>) -> Result<Command, LineFault>
     Ok(Command::File { path })
 }
 
-#[tactic(auto, using(bosh_words::proofs::GrammarLemmas::reading))]
+#[tactic(auto, using(bosh_line_words::proofs::GrammarLemmas::reading))]
 pub(crate) fn upload_release(alloc: Global, rest: Rest<'_>) -> Result<Command, LineFault>
     ensures ok { IfOk result (IsRead upload_release_form (words_in rest.entry)) }
     ensures refused { IfErr result (IsRefused upload_release_form.places upload_release_form.options (words_in rest.entry)) }
@@ -45,7 +45,7 @@ pub(crate) fn upload_release(alloc: Global, rest: Rest<'_>) -> Result<Command, L
     Ok(Command::UploadRelease { folder, version })
 }
 
-#[tactic(auto, using(bosh_words::proofs::GrammarLemmas::reading))]
+#[tactic(auto, using(bosh_line_words::proofs::GrammarLemmas::reading))]
 pub(crate) fn upload_stemcell(alloc: Global, rest: Rest<'_>) -> Result<Command, LineFault>
     ensures ok { IfOk result (IsRead upload_stemcell_form (words_in rest.entry)) }
     ensures refused { IfErr result (IsRefused upload_stemcell_form.places upload_stemcell_form.options (words_in rest.entry)) }
@@ -56,7 +56,7 @@ pub(crate) fn upload_stemcell(alloc: Global, rest: Rest<'_>) -> Result<Command, 
     Ok(Command::UploadStemcell(Stemcell { os, version }))
 }
 
-#[tactic(auto, using(bosh_words::proofs::GrammarLemmas::reading))]
+#[tactic(auto, using(bosh_line_words::proofs::GrammarLemmas::reading))]
 pub(crate) fn update_cloud_config(alloc: Global, rest: Rest<'_>) -> Result<Command, LineFault>
     ensures ok { IfOk result (IsRead update_cloud_config_form (words_in rest.entry)) }
     ensures refused { IfErr result (IsRefused update_cloud_config_form.places update_cloud_config_form.options (words_in rest.entry)) }
@@ -66,7 +66,7 @@ pub(crate) fn update_cloud_config(alloc: Global, rest: Rest<'_>) -> Result<Comma
     Ok(Command::UpdateCloudConfig { path })
 }
 
-#[tactic(auto, using(bosh_words::proofs::GrammarLemmas::reading))]
+#[tactic(auto, using(bosh_line_words::proofs::GrammarLemmas::reading))]
 pub(crate) fn disks(rest: Rest<'_>) -> Result<Command, LineFault>
     ensures ok { IfOk result (IsRead disks_form (words_in rest.entry)) }
     ensures refused { IfErr result (IsRefused disks_form.places disks_form.options (words_in rest.entry)) }
@@ -75,7 +75,7 @@ pub(crate) fn disks(rest: Rest<'_>) -> Result<Command, LineFault>
     Ok(Command::OrphanedDisks)
 }
 
-#[tactic(auto, using(bosh_words::proofs::GrammarLemmas::reading))]
+#[tactic(auto, using(bosh_line_words::proofs::GrammarLemmas::reading))]
 pub(crate) fn clean_up(rest: Rest<'_>) -> Result<Command, LineFault>
     ensures ok { IfOk result (IsRead clean_up_form (words_in rest.entry)) }
     ensures refused { IfErr result (IsRefused clean_up_form.places clean_up_form.options (words_in rest.entry)) }
@@ -84,7 +84,7 @@ pub(crate) fn clean_up(rest: Rest<'_>) -> Result<Command, LineFault>
     Ok(Command::CleanUp)
 }
 
-#[tactic(auto, using(bosh_words::proofs::GrammarLemmas::reading))]
+#[tactic(auto, using(bosh_line_words::proofs::GrammarLemmas::reading))]
 pub(crate) fn delete_disk(rest: Rest<'_>) -> Result<Command, LineFault>
     ensures ok { IfOk result (IsRead delete_disk_form (words_in rest.entry)) }
     ensures refused { IfErr result (IsRefused delete_disk_form.places delete_disk_form.options (words_in rest.entry)) }
@@ -93,7 +93,7 @@ pub(crate) fn delete_disk(rest: Rest<'_>) -> Result<Command, LineFault>
     Ok(Command::DeleteDisk { disk })
 }
 
-#[tactic(auto, using(bosh_words::proofs::GrammarLemmas::reading))]
+#[tactic(auto, using(bosh_line_words::proofs::GrammarLemmas::reading))]
 pub(crate) fn task(rest: Rest<'_>) -> Result<Command, LineFault>
     ensures ok { IfOk result (IsRead task_form (words_in rest.entry)) }
     ensures refused { IfErr result (IsRefused task_form.places task_form.options (words_in rest.entry)) }
@@ -102,7 +102,7 @@ pub(crate) fn task(rest: Rest<'_>) -> Result<Command, LineFault>
     Ok(Command::Task { task })
 }
 
-#[tactic(auto, using(bosh_words::proofs::GrammarLemmas::reading))]
+#[tactic(auto, using(bosh_line_words::proofs::GrammarLemmas::reading))]
 pub(crate) fn together(rest: Rest<'_>) -> Result<Command, LineFault>
     ensures ok { IfOk result (IsRead together_form (words_in rest.entry)) }
     ensures refused { IfErr result (IsRefused together_form.places together_form.options (words_in rest.entry)) }
@@ -111,7 +111,7 @@ pub(crate) fn together(rest: Rest<'_>) -> Result<Command, LineFault>
     Ok(Command::Together { count })
 }
 
-#[tactic(auto, using(bosh_words::proofs::GrammarLemmas::reading))]
+#[tactic(auto, using(bosh_line_words::proofs::GrammarLemmas::reading))]
 pub(crate) fn generate(rest: Rest<'_>) -> Result<Command, LineFault>
     ensures ok { IfOk result (IsRead generate_form (words_in rest.entry)) }
     ensures refused { IfErr result (IsRefused generate_form.places generate_form.options (words_in rest.entry)) }
@@ -120,7 +120,7 @@ pub(crate) fn generate(rest: Rest<'_>) -> Result<Command, LineFault>
     Ok(Command::Generate { instances })
 }
 
-#[tactic(auto, using(bosh_words::proofs::GrammarLemmas::reading))]
+#[tactic(auto, using(bosh_line_words::proofs::GrammarLemmas::reading))]
 pub(crate) fn tasks(rest: Rest<'_>) -> Result<Command, LineFault>
     ensures ok { IfOk result (IsRead tasks_form (words_in rest.entry)) }
     ensures refused { IfErr result (IsRefused tasks_form.places tasks_form.options (words_in rest.entry)) }
@@ -129,7 +129,7 @@ pub(crate) fn tasks(rest: Rest<'_>) -> Result<Command, LineFault>
     Ok(Command::Tasks)
 }
 
-#[tactic(auto, using(bosh_words::proofs::GrammarLemmas::reading))]
+#[tactic(auto, using(bosh_line_words::proofs::GrammarLemmas::reading))]
 pub(crate) fn releases(rest: Rest<'_>) -> Result<Command, LineFault>
     ensures ok { IfOk result (IsRead releases_form (words_in rest.entry)) }
     ensures refused { IfErr result (IsRefused releases_form.places releases_form.options (words_in rest.entry)) }
@@ -138,7 +138,7 @@ pub(crate) fn releases(rest: Rest<'_>) -> Result<Command, LineFault>
     Ok(Command::Releases)
 }
 
-#[tactic(auto, using(bosh_words::proofs::GrammarLemmas::reading))]
+#[tactic(auto, using(bosh_line_words::proofs::GrammarLemmas::reading))]
 pub(crate) fn compiled(rest: Rest<'_>) -> Result<Command, LineFault>
     ensures ok { IfOk result (IsRead compiled_form (words_in rest.entry)) }
     ensures refused { IfErr result (IsRefused compiled_form.places compiled_form.options (words_in rest.entry)) }
@@ -147,7 +147,7 @@ pub(crate) fn compiled(rest: Rest<'_>) -> Result<Command, LineFault>
     Ok(Command::Compiled)
 }
 
-#[tactic(auto, using(bosh_words::proofs::GrammarLemmas::reading))]
+#[tactic(auto, using(bosh_line_words::proofs::GrammarLemmas::reading))]
 pub(crate) fn restart(rest: Rest<'_>) -> Result<Command, LineFault>
     ensures ok { IfOk result (IsRead restart_form (words_in rest.entry)) }
     ensures refused { IfErr result (IsRefused restart_form.places restart_form.options (words_in rest.entry)) }
@@ -156,7 +156,7 @@ pub(crate) fn restart(rest: Rest<'_>) -> Result<Command, LineFault>
     Ok(Command::Restart)
 }
 
-#[tactic(auto, using(bosh_words::proofs::GrammarLemmas::reading))]
+#[tactic(auto, using(bosh_line_words::proofs::GrammarLemmas::reading))]
 pub(crate) fn cloud(rest: Rest<'_>) -> Result<Command, LineFault>
     ensures ok { IfOk result (IsRead cloud_form (words_in rest.entry)) }
     ensures refused { IfErr result (IsRefused cloud_form.places cloud_form.options (words_in rest.entry)) }

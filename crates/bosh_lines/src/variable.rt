@@ -2,12 +2,12 @@ ghost use Rattle.std.specs.Prelude.{◌≡◌, ◌==◌, IfErr, IfOk, IfSome, po
 ghost use Rattle.std.specs.Option.{option_map};
 ghost use Rattle.std.specs.Str.{IsUtf8};
 ghost use Rattle.bosh_lines.specs.Variable.{variable, variable_of, variables_in};
-ghost use Rattle.bosh_words.specs.Words.{words_in};
-ghost use Rattle.bosh_words.specs.declared.fault.LineFault.TheVariants.{Memory};
+ghost use Rattle.bosh_line_words.specs.Words.{words_in};
+ghost use Rattle.bosh_line_words.specs.declared.fault.LineFault.TheVariants.{Memory};
 
 use bosh_base::Seq;
+use bosh_line_words::{LineFault, Place, Rest, is_text};
 use bosh_vars::is_name;
-use bosh_words::{LineFault, Place, Rest, is_text};
 use bosh_yaml::Str;
 use std::alloc::Global;
 

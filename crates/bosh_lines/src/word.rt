@@ -2,7 +2,7 @@ ghost use Rattle.std.specs.Prelude.{◌≡◌};
 ghost use Rattle.bosh_lines.specs.Words.{fate_of, lost_of, others_of, when_of};
 
 use bosh_fates::Fate;
-use bosh_words::Place;
+use bosh_line_words::Place;
 
 /// Whether a trap stops the session before a call or an append, or after it.
 #[derive(Clone, Copy, Debug, PartialEq, Eq)]

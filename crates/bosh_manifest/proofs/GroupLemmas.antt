@@ -19,8 +19,8 @@ use Rattle.bosh_manifest_parts.specs.declared.disk.DiskUse.{DiskUse}
 use Rattle.bosh_manifest_parts.specs.declared.disk.DiskUse.TheVariants.{Size}
 use Rattle.bosh_manifest_parts.specs.declared.job.JobUse.{JobUse}
 use Rattle.bosh_manifest_parts.specs.declared.network.NetUse.{NetUse}
-use Rattle.bosh_update.specs.Update.{group_update}
-use Rattle.bosh_update.specs.declared.update.Update.{Update}
+use Rattle.bosh_manifest_update.specs.Update.{group_update}
+use Rattle.bosh_manifest_update.specs.declared.update.Update.{Update}
 use Rattle.bosh_manifest.specs.Group.{a_group, contents, group_of, offered, place, update_of, zones}
 use Rattle.bosh_manifest.specs.Sound.{AreDistinct, IsSoundDisk, IsSoundGroup, IsSoundUpdate, job_name, network_name, group_name}
 use Rattle.bosh_manifest.specs.declared.group.Common.{Common}

@@ -13,7 +13,7 @@ use Rattle.bosh_manifest_parts.specs.Source.{a_release, a_source_list, a_stemcel
 use Rattle.bosh_manifest_parts.specs.Unoffered.{absent}
 use Rattle.bosh_manifest_parts.specs.declared.source.ReleaseUse.{ReleaseUse}
 use Rattle.bosh_manifest_parts.specs.declared.source.StemcellUse.{StemcellUse}
-use Rattle.bosh_update.specs.Update.{an_update}
+use Rattle.bosh_manifest_update.specs.Update.{an_update}
 use Rattle.bosh_manifest.specs.Group.{a_group}
 use Rattle.bosh_manifest.specs.Manifest.{a_manifest, all_groups, few_instances, groups, instances_of, offered, offered_groups}
 use Rattle.bosh_manifest.specs.Sound.{IsSound, IsSoundGroup, IsSoundUpdate, alias_of, group_name, release_name}

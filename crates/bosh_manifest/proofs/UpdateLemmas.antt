@@ -11,9 +11,9 @@ use Rattle.bosh_fields.specs.Field.{optional, optional_value, required, value_at
 use Rattle.bosh_fields.specs.Kind.{a_mapping}
 use Rattle.bosh_fields.specs.declared.fault.FieldFault.{FieldFault}
 use Rattle.bosh_fields.specs.declared.fault.FieldFault.TheVariants.{Malformed, Limit}
-use Rattle.bosh_update.specs.Amount.{an_amount, both_digits, digit, share, share_in, two_digits, whole}
-use Rattle.bosh_update.specs.Update.{an_own_update, an_update, group_update, optional_amounts, optional_times, required_amounts, required_times, serial, update_from}
-use Rattle.bosh_update.specs.declared.update.Update.{Update}
+use Rattle.bosh_manifest_update.specs.Amount.{an_amount, both_digits, digit, share, share_in, two_digits, whole}
+use Rattle.bosh_manifest_update.specs.Update.{an_own_update, an_update, group_update, optional_amounts, optional_times, required_amounts, required_times, serial, update_from}
+use Rattle.bosh_manifest_update.specs.declared.update.Update.{Update}
 use Rattle.bosh_manifest.specs.Sound.{IsAmount, IsSoundUpdate}
 use Rattle.bosh_manifest.proofs.ReadingLemmas.{both-parts, ok-parts, required-ok, same-ok}
 

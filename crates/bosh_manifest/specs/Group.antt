@@ -14,11 +14,11 @@ use Rattle.bosh_manifest_parts.specs.Job.{group_jobs}
 use Rattle.bosh_manifest_parts.specs.Named.{some_items}
 use Rattle.bosh_manifest_parts.specs.Network.{group_networks}
 use Rattle.bosh_manifest_parts.specs.Unoffered.{is_text}
-use Rattle.bosh_update.specs.Update.{group_update}
+use Rattle.bosh_manifest_update.specs.Update.{group_update}
 use Rattle.bosh_manifest_parts.specs.declared.disk.DiskUse.{DiskUse}
 use Rattle.bosh_manifest_parts.specs.declared.job.JobUse.{JobUse}
 use Rattle.bosh_manifest_parts.specs.declared.network.NetUse.{NetUse}
-use Rattle.bosh_update.specs.declared.update.Update.{Update}
+use Rattle.bosh_manifest_update.specs.declared.update.Update.{Update}
 use Rattle.bosh_manifest.specs.declared.group.Common.{Common}
 use Rattle.bosh_manifest.specs.declared.group.Group.{Group}
 

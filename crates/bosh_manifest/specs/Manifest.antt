@@ -8,7 +8,7 @@ use Rattle.bosh_fields.specs.declared.fault.FieldFault.{FieldFault}
 use Rattle.bosh_fields.specs.declared.fault.FieldFault.TheVariants.{Limit}
 use Rattle.bosh_manifest_parts.specs.Named.{a_named_list}
 use Rattle.bosh_manifest_parts.specs.Source.{sources}
-use Rattle.bosh_update.specs.Update.{an_update}
+use Rattle.bosh_manifest_update.specs.Update.{an_update}
 use Rattle.bosh_manifest.specs.declared.group.Common.{Common}
 use Rattle.bosh_manifest.specs.declared.group.Group.{Group}
 use Rattle.bosh_manifest.specs.declared.manifest.Contents.{Contents}

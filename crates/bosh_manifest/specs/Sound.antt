@@ -10,7 +10,7 @@ use Rattle.bosh_manifest_parts.specs.declared.job.JobUse.{JobUse}
 use Rattle.bosh_manifest_parts.specs.declared.network.NetUse.{NetUse}
 use Rattle.bosh_manifest_parts.specs.declared.source.ReleaseUse.{ReleaseUse}
 use Rattle.bosh_manifest_parts.specs.declared.source.StemcellUse.{StemcellUse}
-use Rattle.bosh_update.specs.declared.update.Update.{Update}
+use Rattle.bosh_manifest_update.specs.declared.update.Update.{Update}
 use Rattle.bosh_manifest.specs.Manifest.{instances_of}
 use Rattle.bosh_manifest.specs.declared.group.Group.{Group}
 use Rattle.bosh_manifest.specs.declared.manifest.Contents.{Contents}

@@ -2,27 +2,32 @@ ghost use Rattle.std.specs.Prelude.{◌≡◌, Err, Ok};
 ghost use Rattle.bosh_yaml.specs.View.{tree_of};
 ghost use Rattle.bosh_manifest.specs.Answer.{IsAnswer};
 ghost use Rattle.bosh_manifest.specs.Check.{manifest_of, named};
-ghost use Rattle.bosh_manifest.specs.declared.fault.ManFault.TheVariants.{NameDiffers};
+ghost use Rattle.bosh_manifest.specs.declared.fault.ManifestFault.TheVariants.{NameDiffers};
 
 use crate::manifest::read_manifest;
-use crate::{ManFault, Manifest};
+use crate::{Manifest, ManifestFault};
 use bosh_base::{Name, Text};
 use bosh_fields::required;
 use bosh_yaml::Node;
 use std::alloc::Global;
 
-fn differs(alloc: Global, name: &Name) -> Result<Manifest, ManFault>
+fn differs(alloc: Global, name: &Name) -> Result<Manifest, ManifestFault>
     ensures { IsAnswer result (Err (NameDiffers name.now)) }
 {
     match Vec::from_slice(alloc, name.as_bytes()) {
-        Ok(bytes) => Err(ManFault::NameDiffers {
+        Ok(bytes) => Err(ManifestFault::NameDiffers {
             name: Text::from(bytes),
         }),
-        Err(_) => Err(ManFault::Memory),
+        Err(_) => Err(ManifestFault::Memory),
     }
 }
 
-fn named(alloc: Global, name: Name, node: &Node, deployment: &Name) -> Result<Manifest, ManFault>
+fn named(
+    alloc: Global,
+    name: Name,
+    node: &Node,
+    deployment: &Name,
+) -> Result<Manifest, ManifestFault>
     ensures { IsAnswer result (named deployment.now (Ok name) (tree_of node.now)) }
 {
     if name == *deployment {
@@ -36,7 +41,7 @@ fn named(alloc: Global, name: Name, node: &Node, deployment: &Name) -> Result<Ma
 /// the other keys in their order: the releases, the stemcells, the update rules, the groups, and what is not offered;
 /// last, how many instances there are in all. Within a list an item's name comes first, and then its other keys in
 /// their order. Other keys are not looked at.
-pub fn check(alloc: Global, node: &Node, deployment: &Name) -> Result<Manifest, ManFault>
+pub fn check(alloc: Global, node: &Node, deployment: &Name) -> Result<Manifest, ManifestFault>
     ensures { IsAnswer result (manifest_of deployment.now (tree_of node.now)) }
 {
     let name = required(alloc, node, b"name")?;

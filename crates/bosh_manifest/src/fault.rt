@@ -1,13 +1,13 @@
 ghost use Rattle.std.specs.Prelude.{◌≡◌};
 ghost use Rattle.bosh_manifest.specs.Answer.{fault_of};
-ghost use Rattle.bosh_manifest.specs.declared.fault.ManFault.TheVariants.{Memory};
+ghost use Rattle.bosh_manifest.specs.declared.fault.ManifestFault.TheVariants.{Memory};
 
 use bosh_base::Text;
 use bosh_fields::FieldFault;
 
 /// Why a node is no manifest of a deployment. A key is that of the field at fault.
 #[derive(Drop)]
-pub enum ManFault {
+pub enum ManifestFault {
     /// A required key is absent, a list that needs an item has none, or of several networks not exactly one has the
     /// gateway among its defaults.
     Missing { key: Text },
@@ -27,18 +27,18 @@ pub enum ManFault {
     Memory,
 }
 
-impl From<FieldFault> for ManFault {
+impl From<FieldFault> for ManifestFault {
     ghost from_gives = { λ given fault. fault ≡ fault_of given };
 
     fn from(fault: FieldFault) -> Self {
         match fault {
-            FieldFault::Missing { key } => ManFault::Missing { key },
-            FieldFault::WrongKind { key } => ManFault::WrongKind { key },
-            FieldFault::Repeated { name } => ManFault::Repeated { name },
-            FieldFault::Malformed { key } => ManFault::BadUpdate { key },
-            FieldFault::Unsupported { key } => ManFault::Unsupported { key },
-            FieldFault::Limit { key } => ManFault::Limit { key },
-            FieldFault::Memory => ManFault::Memory,
+            FieldFault::Missing { key } => ManifestFault::Missing { key },
+            FieldFault::WrongKind { key } => ManifestFault::WrongKind { key },
+            FieldFault::Repeated { name } => ManifestFault::Repeated { name },
+            FieldFault::Malformed { key } => ManifestFault::BadUpdate { key },
+            FieldFault::Unsupported { key } => ManifestFault::Unsupported { key },
+            FieldFault::Limit { key } => ManifestFault::Limit { key },
+            FieldFault::Memory => ManifestFault::Memory,
         }
     }
 }

@@ -18,7 +18,7 @@ use bosh_fields::{
 use bosh_manifest_parts::{
     DiskUse, JobUse, Member, NetUse, group_disk, group_jobs, group_networks, is_text, some_items,
 };
-use bosh_update::{Update, group_update};
+use bosh_manifest_update::{Update, group_update};
 use bosh_yaml::Node;
 use std::alloc::Global;
 

@@ -9,6 +9,6 @@ mod manifest;
 
 pub use checked::Manifest;
 pub use checking::check;
-pub use fault::ManFault;
+pub use fault::ManifestFault;
 pub use group::Group;
 pub use manifest::Contents;

@@ -5,7 +5,7 @@ use bosh_cases::push_parts;
 use bosh_ip::add_addr;
 use bosh_manifest::Group;
 use bosh_manifest_parts::{DiskUse, NetUse};
-use bosh_update::Update;
+use bosh_manifest_update::Update;
 use std::alloc::{AllocError, Global};
 
 fn push_number(text: &mut Vec<u8>, word: &[u8], number: u32) -> Result<(), AllocError> {

@@ -3,7 +3,7 @@ use crate::groups::push_groups;
 use crate::refusals::of_manifest;
 use bosh_base::{Name, Seq, Text};
 use bosh_cases::{CaseFault, Outcome, pair, push_parts};
-use bosh_manifest::{Contents, ManFault, Manifest, check};
+use bosh_manifest::{Contents, Manifest, ManifestFault, check};
 use bosh_manifest_parts::{ReleaseUse, StemcellUse};
 use bosh_yaml::{Node, read};
 use std::alloc::{AllocError, Global};
@@ -45,13 +45,13 @@ fn check_text(
     alloc: Global,
     deployment: &Name,
     text: &Text,
-) -> Result<Result<Manifest, ManFault>, CaseFault> {
+) -> Result<Result<Manifest, ManifestFault>, CaseFault> {
     let node = read(alloc, text.as_slice())?;
     Ok(check(alloc, &node, deployment))
 }
 
 // The manifest of a deployment: its name, and the text.
-fn manifest(alloc: Global, given: &Node) -> Result<Result<Manifest, ManFault>, CaseFault> {
+fn manifest(alloc: Global, given: &Node) -> Result<Result<Manifest, ManifestFault>, CaseFault> {
     let (deployment, text) = pair(alloc, given)?;
     check_text(alloc, &deployment, &text)
 }

@@ -11,7 +11,7 @@ use Rattle.bosh_manifest_parts.specs.declared.link.Provide.{Provide}
 use Rattle.bosh_template.specs.Environment.{JobEnv}
 use Rattle.bosh_template.specs.Property.{property_of}
 use Rattle.bosh_ties.specs.Links.{joint_of, offering_in, provide_of, provider}
-use Rattle.bosh_uses.specs.Used.{UsedJob}
+use Rattle.bosh_manifest_names.specs.Used.{UsedJob}
 use Rattle.bosh_offers.specs.Sited.{Sited, gateway_addrs}
 use Rattle.bosh_offers.specs.declared.offering.Choice.{Choice}
 use Rattle.bosh_offers.specs.declared.offering.Choice.TheVariants.{All, Shared}

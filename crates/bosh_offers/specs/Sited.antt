@@ -3,7 +3,7 @@ use Rattle.std.specs.Prelude.{ℕ, zero, suc, List, [], ◌∷◌, cond, drop, l
 use Rattle.bosh_base.specs.declared.addr.Addr.{Addr}
 use Rattle.bosh_manifest.specs.declared.group.Group.{Group}
 use Rattle.bosh_manifest_parts.specs.declared.network.NetUse.{NetUse}
-use Rattle.bosh_uses.specs.Used.{UsedGroup}
+use Rattle.bosh_manifest_names.specs.Used.{UsedGroup}
 
 -- a group, with the addresses of each of its instances in the order of the networks
 pub record Sited : Type 0 where

@@ -15,7 +15,7 @@ use Rattle.bosh_base.specs.declared.offer.Offer.{Offer}
 use Rattle.bosh_base.specs.declared.release.LinkSpec.{LinkSpec}
 use Rattle.bosh_template.specs.Environment.{LinkEnv}
 use Rattle.bosh_ties.specs.Links.{joint_of}
-use Rattle.bosh_uses.specs.Used.{UsedJob}
+use Rattle.bosh_manifest_names.specs.Used.{UsedJob}
 use Rattle.bosh_offers.specs.declared.socket.Socket.{Socket}
 
 -- a thing of the second link, of its type, is one of the first

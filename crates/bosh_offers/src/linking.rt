@@ -8,9 +8,9 @@ ghost use Rattle.bosh_offers.specs.Tied.{AreBySocket, Stands, all_offers, env_of
 use crate::pushing::push_some;
 use crate::socket::{BySocket, Socket, first_of, put_all, socket_of};
 use bosh_base::{DepOffers, Name, Offer, Tie};
+use bosh_manifest_names::UsedJob;
 use bosh_template::LinkEnv;
 use bosh_ties::Spot;
-use bosh_uses::UsedJob;
 use std::alloc::{AllocError, Global};
 use std::collections::BTreeMap;
 use std::marker::Model;

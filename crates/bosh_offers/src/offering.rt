@@ -13,10 +13,10 @@ use crate::pushing::push_some;
 use bosh_base::{Addr, CopyFault, Copyable, LinkSpec, Name, Offer, Prop, Seq, Text};
 use bosh_links::Provider;
 use bosh_lookup::{Table, find, table_of};
+use bosh_manifest_names::UsedJob;
 use bosh_manifest_parts::Provide;
 use bosh_template::JobEnv;
 use bosh_ties::{Spot, provider};
-use bosh_uses::UsedJob;
 use std::alloc::Global;
 
 /// Which offers are meant.

@@ -4,8 +4,8 @@ ghost use Rattle.bosh_offers.specs.Offers.{giving, link_props, prop_of};
 
 use crate::pushing::push_some;
 use bosh_base::{LinkSpec, Name, Prop, Seq, Text};
+use bosh_manifest_names::UsedJob;
 use bosh_template::{JobEnv, property};
-use bosh_uses::UsedJob;
 use std::alloc::{AllocError, Global};
 
 /// What a job has to give: its own properties.

@@ -4,7 +4,7 @@ ghost use Rattle.bosh_offers.specs.Sited.{after_group, beyond, by_instance, gate
 
 use crate::gateway::gateway_addr;
 use bosh_base::{Addr, Seq};
-use bosh_uses::UsedGroup;
+use bosh_manifest_names::UsedGroup;
 use std::alloc::{AllocError, Global};
 use std::marker::Model;
 

@@ -6,7 +6,7 @@ use crate::fault::recorded;
 use bosh_base::{
     Begin, Call, CompileRow, Copyable, Doubt, Inst, Make, Name, Owner, Row, copy_both,
 };
-use bosh_owned::beside;
+use bosh_drops::beside;
 use bosh_records::{Machine, Records, RecordsFault};
 use bosh_rows::{bare, begin};
 use bosh_work::MachineName;

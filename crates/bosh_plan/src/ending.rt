@@ -8,7 +8,7 @@ ghost use Rattle.bosh_plan.specs.declared.ending.After.TheVariants as afters;
 
 use crate::fault::recorded;
 use bosh_base::{Answer, Begin, Call, Copyable, Digest, End, Inst, Owner, Row, TaskEnd, Vm};
-use bosh_owned::beside;
+use bosh_drops::beside;
 use bosh_records::{Records, RecordsFault};
 use bosh_rows::after;
 use std::alloc::Global;

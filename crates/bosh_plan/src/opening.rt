@@ -6,7 +6,7 @@ use crate::grouping::grouped;
 use crate::key_places::progress;
 use crate::lines::{full, nothing};
 use bosh_base::{Copyable, DepRow, Goal, Inst, Name, Seq, TaskKind, TaskOpen, TaskRow, copy_both};
-use bosh_owned::{beside, put};
+use bosh_drops::{beside, put};
 use bosh_records::{Records, RecordsFault, Since, copies};
 use bosh_work::{MachineName, Work};
 use std::alloc::Global;

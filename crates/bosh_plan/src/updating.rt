@@ -4,7 +4,7 @@ ghost use Rattle.bosh_plan.specs.Updated.{left_gone, left_updated, orphan_of, or
 
 use crate::fault::recorded;
 use bosh_base::{Copyable, DiskRow, Inst, Orphan, Row, Seq, Update};
-use bosh_owned::beside;
+use bosh_drops::beside;
 use bosh_records::{Records, RecordsFault};
 use bosh_rows::update_done;
 use std::alloc::Global;

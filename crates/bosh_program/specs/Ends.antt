@@ -69,7 +69,7 @@ pub record IsUnbegun {I O K L : Type 0} {k : keeper.Ghosts K} {l : keeper.Ghosts
   pub none_refused : end.refused ≡ None
 
 -- the words ask for a session, by so many threads, or are none of the command
-pub record IsRun {I O K L : Type 0} {k : keeper.Ghosts K} {l : keeper.Ghosts L}
+pub record IsRunByWords {I O K L : Type 0} {k : keeper.Ghosts K} {l : keeper.Ghosts L}
     (left : I → Option (List ℕ)) (read_faults : I → ℕ) (written : O → Option (List ℕ)) (write_faults : O → ℕ)
     (bodies : K → Option (List (List ℕ))) (faults : K → ℕ) (is_broken : K → Bool)
     (cloud_bodies : L → Option (List (List ℕ))) (cloud_faults : L → ℕ) (words : List (List ℕ))

@@ -1,5 +1,5 @@
 ghost use Rattle.std.specs.Prelude.{◌≡◌, ◌⊎◌, ℕ, List, None, Some, codes};
-ghost use Rattle.bosh_program.specs.Ends.{IsRun, IsTextWritten, IsUnbegun};
+ghost use Rattle.bosh_program.specs.Ends.{IsRunByWords, IsTextWritten, IsUnbegun};
 ghost use Rattle.bosh_transcript.specs.declared.status.Status.TheVariants.{Usage};
 
 use crate::{Ended, session_plain};
@@ -24,7 +24,7 @@ pub fn run<I: Source, O: Sink, F: Shelf, K: Keeper + Drop, L: Keeper + Drop, G: 
     _gate: &G,
 ) -> Ended<K, L>
     ensures { IsUnbegun input.old input.new out.old out.new result
-        ⊎ IsRun I.left I.faults O.written O.faults K.bodies K.faults K.is_broken L.bodies L.faults words.now
+        ⊎ IsRunByWords I.left I.faults O.written O.faults K.bodies K.faults K.is_broken L.bodies L.faults words.now
         input.old input.new out.old out.new store cloud result }
 {
     match threads(alloc, words) {

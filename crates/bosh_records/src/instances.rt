@@ -11,7 +11,7 @@ ghost use Rattle.bosh_records.specs.declared.instances.Instance.{Instance};
 use crate::RecordsFault;
 use crate::table::insert;
 use bosh_base::{Copyable, Inst, Owner, Row};
-use bosh_owned::{let_go, put};
+use bosh_drops::{let_go, put};
 use bosh_work::{GroupPlace, Part};
 use std::alloc::Global;
 use std::collections::BTreeMap;

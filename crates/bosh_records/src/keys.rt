@@ -1,10 +1,13 @@
 ghost use Rattle.std.specs.Prelude.{◌≡◌, [], IfOk, IsNone, IsPermutation, IsSome, None, OnErr, OnOk, Some, is_some};
 ghost use Rattle.std.specs.BTreeMap.{IsUnchanged, Updates};
+ghost use Rattle.std.specs.List.Sorted.{IsSorted};
 ghost use Rattle.bosh_base.specs.contracts.key.KeyOrd.TheImpl as key_order;
+ghost use Rattle.bosh_rows.specs.SoundSnapshot.{built_cmp};
 ghost use Rattle.bosh_records.specs.Keys.{IsChanged, asked, built_of, compiled_of, digest_in, is_compiling_in, state_in};
 
 use crate::RecordsFault;
-use bosh_base::{BuiltKey, Copyable, Digest, Key, Name, Seq};
+use bosh_base::{BuiltKey, Copyable, Digest, Key, KeyWork, Name, Seq};
+use bosh_drops::put;
 use std::alloc::Global;
 use std::collections::BTreeMap;
 
@@ -82,7 +85,19 @@ impl Keys {
         Ok(())
     }
 
-    /// Notes how a key was compiled.
+    /// Notes how a key was compiled, by the name of the package that was: another package may have asked for it first.
+    pub fn set_built(&mut self, work: KeyWork, digest: Digest)
+        ensures { IsChanged self.old self.new work.key
+            (λ it. record it { name = work.name; digest = Some digest }) }
+    {
+        let KeyWork { name, key, deps: _ } = work;
+        if let Some(state) = self.by_key.get_mut(&key) {
+            state.digest = Some(digest);
+            put(&mut state.name, name);
+        }
+    }
+
+    /// Notes how a key was compiled that a snapshot tells of.
     pub fn set_digest(&mut self, key: &Key, digest: Digest)
         ensures { IsChanged self.old self.new key.now (λ it. record it { digest = Some digest }) }
     {
@@ -115,7 +130,8 @@ impl Keys {
 
     /// What was compiled, by name and key.
     pub fn built(&self, alloc: Global) -> Result<Seq<BuiltKey>, RecordsFault>
-        ensures { IfOk result (IsPermutation (built_of self.now.by_key.entries)) }
+        ensures permutation { IfOk result (IsPermutation (built_of self.now.by_key.entries)) }
+        ensures sorted { IfOk result (IsSorted built_cmp) }
     {
         let mut built = Vec::new(alloc);
         for (key, state) in self.by_key.iter() {
@@ -123,7 +139,7 @@ impl Keys {
                 built.push(built_key(alloc, key, &state.name, digest)?)?;
             }
         }
-        built.sort_by(|one, other| one.name.cmp(&other.name))?;
+        built.sort_by(|one, other| one.name.cmp(&other.name).then(one.key.cmp(&other.key)))?;
         Ok(Seq::from(built))
     }
 }

@@ -1,11 +1,13 @@
 ghost use Rattle.std.specs.Prelude.{◌≡◌, ◌==◌, ◌&&◌, ℕ, [], false, IfOk, IsPermutation, None, Option};
 ghost use Rattle.std.specs.List.{list_any};
+ghost use Rattle.std.specs.List.Sorted.{IsSorted};
 ghost use Rattle.std.specs.Map.Iter.{ShowsInOrder, deref_pair};
 ghost use Rattle.std.specs.Option.{option_copied, option_map_or};
 ghost use Rattle.std.specs.Str.{bytes_eq};
 ghost use Rattle.bosh_base.specs.declared.inst.Inst.{Inst};
 ghost use Rattle.bosh_base.specs.declared.snapshot.DepRow.{DepRow};
 ghost use Rattle.bosh_base.specs.declared.task.TaskRow.{TaskRow};
+ghost use Rattle.bosh_rows.specs.SoundSnapshot.{built_cmp};
 ghost use Rattle.bosh_records.specs.Arrivals.{arrivals};
 ghost use Rattle.bosh_records.specs.Keys.{built_of};
 ghost use Rattle.bosh_records.specs.Readers.{call_at, dep_of_task, deployed_by, deployment_in, deployment_of};
@@ -228,7 +230,8 @@ impl Records {
 
     /// What was compiled, by name and key.
     pub fn built_keys(&self) -> Result<Seq<BuiltKey>, RecordsFault>
-        ensures { IfOk result (IsPermutation (built_of self.now.keys.by_key.entries)) }
+        ensures permutation { IfOk result (IsPermutation (built_of self.now.keys.by_key.entries)) }
+        ensures sorted { IfOk result (IsSorted built_cmp) }
     {
         self.keys.built(self.alloc)
     }

@@ -4,20 +4,20 @@ use Rattle.bosh_base.specs.declared.reply.Refusal.{Refusal}
 use Rattle.bosh_report.specs.Joint.{joint_text}
 use Rattle.bosh_report.specs.Owner.{addr_text, disk_name, inst_text, owner_text}
 use Rattle.bosh_refusals.specs.Refused.{bare_refusal, refusal_with, refusal_with_both}
-use Rattle.bosh_uses.specs.declared.fault.Kind.{Kind}
-use Rattle.bosh_uses.specs.declared.fault.Kind.TheVariants as kinds
-use Rattle.bosh_words.specs.declared.fault.LineFault.{LineFault}
-use Rattle.bosh_words.specs.declared.fault.LineFault.TheVariants as lines
+use Rattle.bosh_manifest_names.specs.declared.fault.Kind.{Kind}
+use Rattle.bosh_manifest_names.specs.declared.fault.Kind.TheVariants as kinds
+use Rattle.bosh_line_words.specs.declared.fault.LineFault.{LineFault}
+use Rattle.bosh_line_words.specs.declared.fault.LineFault.TheVariants as lines
 use Rattle.bosh_ports.specs.declared.shelf.ShelfFault.{ShelfFault}
 use Rattle.bosh_ports.specs.declared.shelf.ShelfFault.TheVariants as shelf
 use Rattle.bosh_yaml.specs.declared.fault.ReadFault.{ReadFault}
 use Rattle.bosh_yaml.specs.declared.fault.ReadFault.TheVariants as yaml
 use Rattle.bosh_vars.specs.declared.fault.VarsFault.{VarsFault}
 use Rattle.bosh_vars.specs.declared.fault.VarsFault.TheVariants as vars
-use Rattle.bosh_cloudcfg.specs.declared.fault.CfgFault.{CfgFault}
-use Rattle.bosh_cloudcfg.specs.declared.fault.CfgFault.TheVariants as config
-use Rattle.bosh_manifest.specs.declared.fault.ManFault.{ManFault}
-use Rattle.bosh_manifest.specs.declared.fault.ManFault.TheVariants as manifest
+use Rattle.bosh_cloudcfg.specs.declared.fault.ConfigFault.{ConfigFault}
+use Rattle.bosh_cloudcfg.specs.declared.fault.ConfigFault.TheVariants as config
+use Rattle.bosh_manifest.specs.declared.fault.ManifestFault.{ManifestFault}
+use Rattle.bosh_manifest.specs.declared.fault.ManifestFault.TheVariants as manifest
 use Rattle.bosh_release_files.specs.declared.fault.ReleaseFault.{ReleaseFault}
 use Rattle.bosh_release_files.specs.declared.fault.ReleaseFault.TheVariants as release
 use Rattle.bosh_links.specs.declared.fault.LinkFault.{LinkFault}
@@ -28,8 +28,8 @@ use Rattle.bosh_pool.specs.declared.fault.PoolFault.{PoolFault}
 use Rattle.bosh_pool.specs.declared.fault.PoolFault.TheVariants as pool
 use Rattle.bosh_template.specs.declared.fault.TemplateFault.{TemplateFault}
 use Rattle.bosh_template.specs.declared.fault.TemplateFault.TheVariants as template
-use Rattle.bosh_uses.specs.declared.fault.GoalFault.{GoalFault}
-use Rattle.bosh_uses.specs.declared.fault.GoalFault.TheVariants as goal
+use Rattle.bosh_manifest_names.specs.declared.fault.GoalFault.{GoalFault}
+use Rattle.bosh_manifest_names.specs.declared.fault.GoalFault.TheVariants as goal
 use Rattle.bosh_asks.specs.declared.fault.BookFault.{BookFault}
 use Rattle.bosh_asks.specs.declared.fault.BookFault.TheVariants as book
 use Rattle.bosh_refusals.specs.declared.session.SessionFault.{SessionFault}
@@ -63,7 +63,7 @@ vars_told (vars.Unset name) = Some (refusal_with (codes "vars") (codes "Unset") 
 vars_told (vars.NotText name) = Some (refusal_with (codes "vars") (codes "NotText") name)
 vars_told vars.Memory = None
 
-abbrev pub config_told : CfgFault → Option Refusal
+abbrev pub config_told : ConfigFault → Option Refusal
 config_told (config.Missing key) = Some (refusal_with (codes "config") (codes "Missing") key)
 config_told (config.WrongKind key) = Some (refusal_with (codes "config") (codes "WrongKind") key)
 config_told (config.Repeated name) = Some (refusal_with (codes "config") (codes "Repeated") name)
@@ -76,7 +76,7 @@ config_told (config.Unsupported key) = Some (refusal_with (codes "config") (code
 config_told (config.Limit key) = Some (refusal_with (codes "config") (codes "Limit") key)
 config_told config.Memory = None
 
-abbrev pub manifest_told : ManFault → Option Refusal
+abbrev pub manifest_told : ManifestFault → Option Refusal
 manifest_told (manifest.Missing key) = Some (refusal_with (codes "manifest") (codes "Missing") key)
 manifest_told (manifest.WrongKind key) = Some (refusal_with (codes "manifest") (codes "WrongKind") key)
 manifest_told (manifest.Repeated name) = Some (refusal_with (codes "manifest") (codes "Repeated") name)

@@ -4,8 +4,8 @@ ghost use Rattle.bosh_refusals.specs.Told.{goal_told, kind_word};
 use crate::Refuses;
 use crate::refusal::{refused, refused_both, refused_with};
 use bosh_base::Refusal;
+use bosh_manifest_names::{GoalFault, Kind};
 use bosh_report::{ReportFault, Word};
-use bosh_uses::{GoalFault, Kind};
 use std::alloc::Global;
 
 fn word_of(kind: Kind) -> &'static [u8]

@@ -3,8 +3,8 @@ ghost use Rattle.bosh_refusals.specs.Told.{lines_told};
 use crate::Refuses;
 use crate::refusal::{refused, refused_with};
 use bosh_base::Refusal;
+use bosh_line_words::LineFault;
 use bosh_report::ReportFault;
-use bosh_words::LineFault;
 use std::alloc::Global;
 
 impl Refuses for LineFault {

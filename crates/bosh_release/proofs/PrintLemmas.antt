@@ -10,7 +10,7 @@ use Rattle.std.proofs.lemmas.List.{get_or-set_other, get_or-set_same, length-set
 use Rattle.std.proofs.lemmas.List.Elements.{All-cons, All-head, All-nil, All-tail, All-weaker, Contains-append_left, Contains-append_right, Contains-push_cases}
 use Rattle.std.proofs.lemmas.List.Sums.{fold-append}
 use Rattle.bosh_base.specs.declared.digest.Digest.{Digest}
-use Rattle.bosh_listing.specs.Listing.{Stamped, digest_of, package_text}
+use Rattle.bosh_release_listing.specs.Listing.{Stamped, digest_of, package_text}
 use Rattle.bosh_release.specs.Collected.{ArePrints, listing_of, no_digest, numbers_in_order, print_at, print_of, stamp_at}
 use Rattle.bosh_release.specs.Prints.{ArePrintsOf}
 use Rattle.bosh_release.specs.declared.drafted_package.PackageDraft.{PackageDraft}

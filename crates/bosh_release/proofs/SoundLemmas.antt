@@ -17,7 +17,7 @@ use Rattle.bosh_base.specs.declared.digest.Digest.{Digest}
 use Rattle.bosh_base.specs.declared.release.JobSpec.{JobSpec}
 use Rattle.bosh_base.specs.declared.release.PackageSpec.{PackageSpec}
 use Rattle.bosh_base.specs.declared.release.Release.{Release}
-use Rattle.bosh_listing.specs.Listing.{Stamped}
+use Rattle.bosh_release_listing.specs.Listing.{Stamped}
 use Rattle.bosh_release.specs.Collected.{Answers, Collects, IsCollected, package_spec, package_specs}
 use Rattle.bosh_release.specs.Draft.{both_files, check_job, draft_of, graph_of, job_of, job_path, job_with, jobs_and_packages, jobs_of, named, needs_of, package_names, package_of, package_path, package_with, packages_of, place_among, place_of, places_of, template_in, with_needs}
 use Rattle.bosh_release.specs.Sound.{CollectedIsSound, Depends, IsSound, Lists, at_once, by, names_of}

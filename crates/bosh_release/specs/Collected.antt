@@ -6,7 +6,7 @@ use Rattle.std.specs.Ordering.{nat_cmp}
 use Rattle.bosh_base.specs.declared.digest.Digest.{Digest}
 use Rattle.bosh_base.specs.declared.release.PackageSpec.{PackageSpec}
 use Rattle.bosh_base.specs.declared.release.Release.{Release}
-use Rattle.bosh_listing.specs.Listing.{PackageListing, Stamped, digest_of, package_text}
+use Rattle.bosh_release_listing.specs.Listing.{PackageListing, Stamped, digest_of, package_text}
 use Rattle.bosh_release.specs.Draft.{draft_of}
 use Rattle.bosh_release.specs.declared.draft.Draft.{Draft}
 use Rattle.bosh_release.specs.declared.drafted_package.PackageDraft.{PackageDraft}

@@ -5,7 +5,7 @@ use Rattle.std.specs.Option.{option_map}
 use Rattle.std.specs.Str.{bytes_eq}
 use Rattle.bosh_base.specs.declared.release.JobSpec.{JobSpec}
 use Rattle.bosh_base.specs.declared.release.TemplateSpec.{TemplateSpec}
-use Rattle.bosh_listing.specs.Listing.{JobListing, Stamped, digest_of, job_text}
+use Rattle.bosh_release_listing.specs.Listing.{JobListing, Stamped, digest_of, job_text}
 use Rattle.bosh_release.specs.Spec.{check_name, spec_at}
 use Rattle.bosh_release.specs.declared.draft.Draft.{Draft}
 use Rattle.bosh_release.specs.declared.drafted_package.PackageDraft.{PackageDraft}

@@ -1,7 +1,7 @@
 -- Fingerprints that are found one after another.
 use Rattle.std.specs.Prelude.{◌≡◌, ℕ, List, All, Contains, length, slice_index_or}
 use Rattle.bosh_base.specs.declared.digest.Digest.{Digest}
-use Rattle.bosh_listing.specs.Listing.{Stamped}
+use Rattle.bosh_release_listing.specs.Listing.{Stamped}
 use Rattle.bosh_release.specs.Collected.{print_at, print_of}
 use Rattle.bosh_release.specs.declared.draft.Draft.{Draft}
 use Rattle.bosh_release.specs.declared.drafted_package.PackageDraft.{PackageDraft}

@@ -6,8 +6,8 @@ ghost use Rattle.bosh_release_files.specs.Answer.{IsAnswer, IsAnswerSeen};
 use crate::reading::{check_name, package_at};
 use crate::required::{both_files, path_in};
 use bosh_base::{Digest, Name, Seq, Text};
-use bosh_listing::fingerprint;
 use bosh_release_files::{Folder, Pattern, ReleaseFault, Sources};
+use bosh_release_listing::fingerprint;
 use std::alloc::{AllocError, Global};
 
 /// A package without its fingerprint.

@@ -1,7 +1,7 @@
 //! Jobs.
 ghost use Rattle.std.specs.Prelude.{◌≡◌, ◌++◌, IfErr, IfOk, Ok, codes, map};
-ghost use Rattle.bosh_listing.specs.Listing.{digest_of, job_text};
-ghost use Rattle.bosh_listing.specs.Parts.{stamp_view as stamp_seen};
+ghost use Rattle.bosh_release_listing.specs.Listing.{digest_of, job_text};
+ghost use Rattle.bosh_release_listing.specs.Parts.{stamp_view as stamp_seen};
 ghost use Rattle.bosh_release.specs.Draft.{both_files, job_listing, job_of, job_path, job_with, stamped, template_in, with_text};
 ghost use Rattle.bosh_release.specs.Spec.{spec_at};
 ghost use Rattle.bosh_release_files.specs.Answer.{IsAnswer, IsAnswerSeen, each};
@@ -11,8 +11,8 @@ ghost use Rattle.bosh_release_specs.specs.JobSpec.{a_job_spec};
 use crate::reading::{check_name, job_at};
 use crate::required::{both_files, path_in, required_at};
 use bosh_base::{Copyable, Digest, JobSpec, Name, Seq, TemplateSpec, Text, copy_both};
-use bosh_listing::{Stamp, fingerprint, job_fingerprint};
 use bosh_release_files::{Folder, ReleaseFault};
+use bosh_release_listing::{Stamp, fingerprint, job_fingerprint};
 use bosh_release_specs::{JobDescription, TemplatePlace};
 use std::alloc::{AllocError, Global};
 

@@ -1,6 +1,6 @@
 //! The fingerprints of packages.
 ghost use Rattle.std.specs.Prelude.{◌≡◌, ◌<◌, ℕ, All, IfErr, IfOk, length, map, slice_index_or};
-ghost use Rattle.bosh_listing.specs.Parts.{stamp_view};
+ghost use Rattle.bosh_release_listing.specs.Parts.{stamp_view};
 ghost use Rattle.bosh_release.specs.Collected.{ArePrints, numbers_in_order, print_of, stamp_at};
 ghost use Rattle.bosh_release.specs.Prints.{IsFit};
 ghost use Rattle.bosh_release.specs.declared.drafted_package.PackageDraft.{PackageDraft as DraftSeen};
@@ -10,8 +10,8 @@ ghost use Rattle.bosh_release_order.specs.Graph.{IsOrder, needs_of};
 use crate::draft::Draft;
 use crate::drafted_package::PackageDraft;
 use bosh_base::{Digest, Seq};
-use bosh_listing::{Stamp, package_fingerprint};
 use bosh_release_files::{ReleaseFault, Sources};
+use bosh_release_listing::{Stamp, package_fingerprint};
 use std::alloc::Global;
 use std::collections::BTreeSet;
 

@@ -17,9 +17,9 @@ use Rattle.std.proofs.lemmas.Map.Text.{is_eq-slice_cmp}
 use Rattle.std.proofs.lemmas.Slice.Eq.{bytes_eq-Decides}
 use denote.Ref.{Bor}
 use Rattle.bosh_base.specs.declared.digest.Digest.{Digest}
-use Rattle.bosh_listing.specs.Listing.{Stamped}
-use Rattle.bosh_listing.specs.Parts.{stamp_view}
-use Rattle.bosh_listing.specs.declared.listing.Stamp.{Stamp}
+use Rattle.bosh_release_listing.specs.Listing.{Stamped}
+use Rattle.bosh_release_listing.specs.Parts.{stamp_view}
+use Rattle.bosh_release_listing.specs.declared.listing.Stamp.{Stamp}
 use Rattle.bosh_release_files.specs.Answer.{◌>>=◌, check_each}
 use Rattle.bosh_release_files.specs.Files.{by_path, digest_after, digests_below, stamped_by}
 use Rattle.bosh_release_files.specs.Pattern.{folder_of, is_taken, is_that, lies_in, matches, taken_files, takes}

@@ -13,7 +13,7 @@ use Rattle.std.proofs.lemmas.Bool.Decides.{eqb_tells, nat_tests}
 use Rattle.std.proofs.lemmas.Cmp.{nat_list_cmp_total}
 use Rattle.std.proofs.lemmas.List.Elements.{All-cons, All-nil, All-weaker}
 use Rattle.std.proofs.lemmas.Map.Views.{All-keys-insert_entry}
-use Rattle.bosh_listing.specs.declared.listing.Stamp.{Stamp}
+use Rattle.bosh_release_listing.specs.declared.listing.Stamp.{Stamp}
 use Rattle.bosh_release_files.specs.Files.{after}
 use Rattle.bosh_release_files.specs.Sources.{IsInOrder, path_of}
 use Rattle.bosh_release_files.specs.Span.{comes_before, comes_up_to}

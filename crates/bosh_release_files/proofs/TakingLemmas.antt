@@ -10,7 +10,7 @@ use Rattle.std.proofs.Math.Seq.{get_or-append_seam}
 use Rattle.std.proofs.lemmas.List.Elements.{All-replicate, All-take}
 use Rattle.std.proofs.lemmas.List.Folds.{list_any_none}
 use denote.Ref.{Bor}
-use Rattle.bosh_listing.specs.declared.listing.Stamp.{Stamp}
+use Rattle.bosh_release_listing.specs.declared.listing.Stamp.{Stamp}
 use Rattle.bosh_release_files.specs.Pattern.{folder_of, is_taken, is_that, lies_in, takes}
 use Rattle.bosh_release_files.specs.Sources.{AddsSpan, AddsText, AreReached, IsReach, IsSpan, exact_text, folder_text, has, is_one, is_reached, lies_in_some, path_of, spans}
 use Rattle.bosh_release_files.specs.declared.pattern.Form.{Form}

@@ -9,7 +9,7 @@ use Rattle.std.specs.Option.{option_and_then, option_map}
 use Rattle.std.specs.Ordering.{nat_cmp}
 use Rattle.std.specs.Str.{bytes_eq}
 use Rattle.bosh_base.specs.declared.digest.Digest.{Digest}
-use Rattle.bosh_listing.specs.Listing.{Stamped, digest_of}
+use Rattle.bosh_release_listing.specs.Listing.{Stamped, digest_of}
 use Rattle.bosh_release_files.specs.declared.folder.File.{File}
 
 -- what stands after a front of a path

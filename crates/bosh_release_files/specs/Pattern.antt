@@ -4,7 +4,7 @@ use Rattle.std.specs.Prelude.{ℕ, ◌==◌, ◌||◌, not, Bool, true, false, L
 use Rattle.std.specs.List.{list_any}
 use Rattle.std.specs.Option.{option_map}
 use Rattle.std.specs.Str.{bytes_eq}
-use Rattle.bosh_listing.specs.Listing.{Stamped}
+use Rattle.bosh_release_listing.specs.Listing.{Stamped}
 use Rattle.bosh_release_files.specs.Answer.{◌>>=◌, check_each, each, or_fault}
 use Rattle.bosh_release_files.specs.Files.{after}
 use Rattle.bosh_release_files.specs.declared.fault.ReleaseFault.{ReleaseFault}

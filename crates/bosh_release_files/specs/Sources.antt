@@ -9,7 +9,7 @@ use Rattle.std.specs.Str.{bytes_eq}
 use Rattle.std.specs.declared.cmp.Ordering.TheVariants.{Less}
 use denote.Ref.{Bor}
 use Rattle.bosh_base.specs.declared.digest.Digest.{Digest}
-use Rattle.bosh_listing.specs.declared.listing.Stamp.{Stamp}
+use Rattle.bosh_release_listing.specs.declared.listing.Stamp.{Stamp}
 use Rattle.bosh_release_files.specs.Files.{after}
 use Rattle.bosh_release_files.specs.Pattern.{folder_of, is_that, lies_in}
 use Rattle.bosh_release_files.specs.declared.pattern.Form.{Form}

@@ -2,7 +2,7 @@ ghost use Rattle.std.specs.Prelude.{◌≡◌, ℕ, List, true, IfErr, IfOk, OnO
 ghost use Rattle.std.specs.List.{list_any};
 ghost use Rattle.std.specs.Option.{option_map};
 ghost use Rattle.std.specs.Str.{bytes_eq};
-ghost use Rattle.bosh_listing.specs.Parts.{stamp_view};
+ghost use Rattle.bosh_release_listing.specs.Parts.{stamp_view};
 ghost use Rattle.bosh_release_files.specs.Answer.{IsAnswer, IsAnswerSeen, check_each};
 ghost use Rattle.bosh_release_files.specs.Files.{digest_after, digests_below, files_below, stamped_by};
 ghost use Rattle.bosh_release_files.specs.Pattern.{check_match, lies_in, matches, patterns, taken_files};
@@ -16,7 +16,7 @@ use crate::span::span_below;
 use crate::taking::taken;
 use crate::{File, Form, Pattern, ReleaseFault};
 use bosh_base::{Digest, Seq, Text};
-use bosh_listing::{Stamp, fingerprint};
+use bosh_release_listing::{Stamp, fingerprint};
 use std::alloc::Global;
 use std::collections::{BTreeMap, BTreeSet};
 use std::marker::Model;
@@ -32,8 +32,8 @@ pub struct Sources<'a> {
 
 impl<'a> Model for Sources<'a> {
     ghost use Rattle.std.specs.Prelude.{List, map};
-    ghost use Rattle.bosh_listing.specs.Listing.{Stamped};
-    ghost use Rattle.bosh_listing.specs.Parts.{stamp_view};
+    ghost use Rattle.bosh_release_listing.specs.Listing.{Stamped};
+    ghost use Rattle.bosh_release_listing.specs.Parts.{stamp_view};
     ghost use Rattle.bosh_release_files.specs.Sources.{IsIndexed};
 
     ghost Value = { List Stamped };

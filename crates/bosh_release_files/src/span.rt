@@ -7,7 +7,7 @@ ghost use Rattle.bosh_release_files.specs.Span.{comes_before, comes_up_to};
 
 use crate::Form;
 use crate::path::after;
-use bosh_listing::Stamp;
+use bosh_release_listing::Stamp;
 
 /// The places from one up to another.
 #[derive(Clone, Copy)]

@@ -2,7 +2,7 @@
 ghost use Rattle.std.specs.Prelude.{◌≡◌, ◌∷◌, ◌++◌, ◌||◌, ℕ, List, [], IfErr, IfOk, OnOk, length, map, if◌then◌else◌};
 ghost use Rattle.std.specs.List.{list_any};
 ghost use Rattle.std.specs.Option.{option_map};
-ghost use Rattle.bosh_listing.specs.Parts.{stamp_view};
+ghost use Rattle.bosh_release_listing.specs.Parts.{stamp_view};
 ghost use Rattle.bosh_release_files.specs.Pattern.{is_that, taken_files};
 ghost use Rattle.bosh_release_files.specs.Sources.{AddsSpan, AreReached, IsInOrder, IsReach, exact_text, folder_text, has, lies_in_some, path_of};
 ghost use Rattle.bosh_release_files.specs.declared.fault.ReleaseFault.TheVariants.{Memory};
@@ -11,7 +11,7 @@ use crate::path::folder_of;
 use crate::sources::add_text;
 use crate::span::{Span, span_of};
 use crate::{Form, Pattern, ReleaseFault};
-use bosh_listing::Stamp;
+use bosh_release_listing::Stamp;
 use std::alloc::Global;
 use std::collections::BTreeSet;
 

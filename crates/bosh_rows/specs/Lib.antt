@@ -5,6 +5,7 @@ pub mod Disks
 pub mod Group
 pub mod NextStep
 pub mod Same
+pub mod SoundSnapshot
 pub mod Standing
 pub mod Tied
 pub mod Told

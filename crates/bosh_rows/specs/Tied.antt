@@ -1,5 +1,5 @@
 -- What is recorded of an instance is what the cloud has of it (this project's profile).
-use Rattle.std.specs.Prelude.{◌≡◌, ℕ, Bool, true, false, not, nat_eq, ◌&&◌, ◌||◌, ◌==◌, if◌then◌else◌, Option, Some, None, is_some, List, [], ◌∷◌, filter}
+use Rattle.std.specs.Prelude.{◌≡◌, ℕ, ◌+◌, Bool, true, false, not, nat_eq, nat_le, ◌&&◌, ◌||◌, ◌==◌, if◌then◌else◌, Option, Some, None, is_some, List, [], ◌∷◌, count_by, filter}
 use Rattle.std.specs.List.{list_any, list_all}
 use Rattle.std.specs.Cmp.Lexicographic.{pointwise}
 use Rattle.std.specs.Option.{option_eq}
@@ -7,7 +7,7 @@ use Rattle.bosh_base.specs.Cloud.{numbers_to, vms_created, vm_creation, is_vm_th
 use Rattle.bosh_base.specs.CallStep.{found_vm, found_disk}
 use Rattle.bosh_base.specs.declared.answer.Answer.TheVariants as answers
 use Rattle.bosh_base.specs.declared.call.Call.{Call}
-use Rattle.bosh_base.specs.declared.call.Call.TheVariants.{CreateVm, CreateDisk, FindVm, FindDisk}
+use Rattle.bosh_base.specs.declared.call.Call.TheVariants.{AttachDisk, CreateVm, CreateDisk, FindVm, FindDisk}
 use Rattle.bosh_base.specs.declared.disk_want.DiskWant.{DiskWant}
 use Rattle.bosh_base.specs.declared.entry.Effect as effect
 use Rattle.bosh_base.specs.declared.entry.Entry.{Entry}
@@ -47,13 +47,14 @@ was_provided owner tag wanted (Some e) =
     same_owner e.owner owner && (e.n == tag && option_eq same_want (want_of e.call) (Some wanted))
 was_provided owner tag wanted None = false
 
+-- the entry is a loss of the machine
+abbrev pub is_loss_of : ℕ → Entry → Bool
+is_loss_of v (Lost loss) = loss.vm == v
+is_loss_of v entry = false
+
 -- a machine was lost, whole or its agent
 abbrev pub is_named_lost : List Entry → ℕ → Bool
-is_named_lost effects v = list_any names effects
-  where
-    names : Entry → Bool
-    names (Lost loss) = loss.vm == v
-    names entry = false
+is_named_lost effects v = list_any (is_loss_of v) effects
 
 -- ---- a row in doubt
 
@@ -80,6 +81,11 @@ as_done effects row = by_doubt row.doubt
 abbrev pub number_of : Option vm.Vm → List ℕ
 number_of (Some it) = it.vm ∷ []
 number_of None = []
+
+-- the machine was made for the instance as it is recorded, also where it is gone
+abbrev pub is_made : List Entry → Row → Option vm.Vm → Bool
+is_made effects row (Some it) = was_made (Instance row.inst) it.agent row.make (vm_creation effects it.vm)
+is_made effects row None = true
 
 -- the machine was made as recorded, and has the spec and the state that are recorded
 abbrev pub has_facts : List Entry → Row → Option vm.Vm → Bool
@@ -133,3 +139,22 @@ is_tied_row effects row =
 -- What is recorded of an instance is what the cloud has; with a call in doubt, as it was before or after its effect.
 abbrev pub IsTiedRow : List Entry → Row → Type 0
 IsTiedRow effects row = is_tied_row effects row ≡ true
+
+-- ---- room for disks
+
+abbrev pub one_if : Bool → ℕ
+one_if true = 1
+one_if false = 0
+
+abbrev pub attaches : Call → Bool
+attaches (AttachDisk vm disk) = true
+attaches call = false
+
+-- a disk is being attached
+abbrev pub is_attaching : Option doubt.Doubt → Bool
+is_attaching (Some it) = attaches it.call
+is_attaching None = false
+
+-- a row has at most two attached disks, counting one that is being attached
+abbrev pub has_room_for_disks : Row → Bool
+has_room_for_disks row = nat_le (count_by (λ d. d.attached) row.disks + one_if (is_attaching row.doubt)) 2

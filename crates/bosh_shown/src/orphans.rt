@@ -1,13 +1,13 @@
 ghost use Rattle.std.specs.Prelude.{◌≡◌, ◌++◌, IfOk, OnOk, option_map};
 ghost use Rattle.std.specs.Option.{option_copied, option_to_list};
-ghost use Rattle.bosh_shown.specs.Orphans.{orphan_line, orphan_lines};
+ghost use Rattle.bosh_shown.specs.Orphans.{loose_line, orphan_lines};
 
 use bosh_base::{CopyFault, Copyable, OrphanLine, Seq};
 use bosh_records::{LooseDisk, Records};
 use std::alloc::Global;
 
 fn orphan_line(alloc: Global, it: &LooseDisk) -> Result<OrphanLine, CopyFault>
-    ensures { IfOk result (λ line. line ≡ orphan_line it.now) }
+    ensures { IfOk result (λ line. line ≡ loose_line it.now) }
 {
     Ok(OrphanLine {
         disk: it.orphan.disk,
@@ -23,7 +23,7 @@ fn push_line(
     lines: &mut Vec<OrphanLine>,
 ) -> Result<(), CopyFault>
     ensures { OnOk result (lines.new.items ≡ lines.old.items
-        ++ option_to_list (option_map orphan_line (option_copied it.entry))) }
+        ++ option_to_list (option_map loose_line (option_copied it.entry))) }
 {
     if let Some(it) = it {
         lines.push(orphan_line(alloc, it)?)?;

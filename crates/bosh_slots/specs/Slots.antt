@@ -15,9 +15,9 @@ use Rattle.bosh_lookup.specs.Table.{first_named}
 use Rattle.bosh_pool.specs.Fixed.{same_addr}
 use Rattle.bosh_pool.specs.Spare.{spares}
 use Rattle.bosh_pool.specs.declared.fault.PoolFault.TheVariants.{Empty}
-use Rattle.bosh_uses.specs.Uses.{machine_name, machine_properties, no_properties}
-use Rattle.bosh_uses.specs.declared.fault.GoalFault.{GoalFault}
-use Rattle.bosh_uses.specs.declared.fault.GoalFault.TheVariants.{Pool}
+use Rattle.bosh_manifest_names.specs.Uses.{machine_name, machine_properties, no_properties}
+use Rattle.bosh_manifest_names.specs.declared.fault.GoalFault.{GoalFault}
+use Rattle.bosh_manifest_names.specs.declared.fault.GoalFault.TheVariants.{Pool}
 
 -- ---- the addresses that are held
 

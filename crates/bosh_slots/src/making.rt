@@ -3,14 +3,14 @@ ghost use Rattle.std.specs.Prelude.{◌≡◌, ◌∷◌, [], IfOk, map, option_
 ghost use Rattle.std.specs.Option.{option_copied};
 ghost use Rattle.bosh_lookup.specs.Table.{first_named};
 ghost use Rattle.bosh_slots.specs.Slots.{addrs_for, machine, slot_with, slots, with_addrs};
-ghost use Rattle.bosh_uses.specs.Answer.{IsAnswer};
-ghost use Rattle.bosh_uses.specs.Uses.{machine_name, machine_properties};
+ghost use Rattle.bosh_manifest_names.specs.Answer.{IsAnswer};
+ghost use Rattle.bosh_manifest_names.specs.Uses.{machine_name, machine_properties};
 
 use crate::holding::held_and;
 use bosh_base::{Addr, CopyFault, Copyable, Make, Name, NetAddr, Seq, Text, View, copy_three};
 use bosh_cloudcfg::{Compilation, Config};
+use bosh_manifest_names::GoalFault;
 use bosh_pool::{PoolFault, spare};
-use bosh_uses::GoalFault;
 use std::alloc::{AllocError, Global};
 
 fn properties_of<'a>(config: &'a Config, name: &Name) -> Option<&'a Text>

@@ -17,11 +17,11 @@ use Rattle.bosh_manifest_parts.specs.declared.link.Origin.{Origin}
 use Rattle.bosh_manifest_parts.specs.declared.link.Provide.{Provide}
 use Rattle.bosh_share.specs.Shared.{across_resolution}
 use Rattle.bosh_share.specs.declared.across.Across.{Across}
-use Rattle.bosh_uses.specs.Answer.{◌>>=◌, with_fault}
+use Rattle.bosh_manifest_names.specs.Answer.{◌>>=◌, with_fault}
 use Rattle.bosh_lookup.specs.Table.{first_named}
-use Rattle.bosh_uses.specs.Used.{UsedGroup, UsedJob}
-use Rattle.bosh_uses.specs.declared.fault.GoalFault.{GoalFault}
-use Rattle.bosh_uses.specs.declared.fault.GoalFault.TheVariants.{Link, Share}
+use Rattle.bosh_manifest_names.specs.Used.{UsedGroup, UsedJob}
+use Rattle.bosh_manifest_names.specs.declared.fault.GoalFault.{GoalFault}
+use Rattle.bosh_manifest_names.specs.declared.fault.GoalFault.TheVariants.{Link, Share}
 
 abbrev pub joint_of : List ℕ → List ℕ → UsedJob → LinkSpec → Joint
 joint_of dep group job link = record { dep = dep; group = group; job = job.job.name; link = link.name }

@@ -3,16 +3,16 @@ ghost use Rattle.std.specs.Prelude.{◌≡◌, ◌++◌, IfOk, IsOkUnless, OnOk}
 ghost use Rattle.std.specs.List.{flat_map};
 ghost use Rattle.std.specs.Option.{option_to_list};
 ghost use Rattle.bosh_ties.specs.Links.{of_groups};
-ghost use Rattle.bosh_uses.specs.declared.fault.GoalFault.TheVariants.{Memory};
+ghost use Rattle.bosh_manifest_names.specs.declared.fault.GoalFault.TheVariants.{Memory};
 
 use bosh_base::Name;
-use bosh_uses::{GoalFault, UsedGroup, UsedJob};
+use bosh_manifest_names::{GoalFault, UsedGroup, UsedJob};
 use std::alloc::Global;
 
 /// What jobs have several of.
 pub(crate) trait OfJob: Drop {
     ghost use Rattle.std.specs.Prelude.{List, ℕ};
-    ghost use Rattle.bosh_uses.specs.Used.{UsedJob};
+    ghost use Rattle.bosh_manifest_names.specs.Used.{UsedJob};
 
     /// Those of a job, by the names of its deployment and its group.
     ghost of_job: { List ℕ → List ℕ → UsedJob → List Self };

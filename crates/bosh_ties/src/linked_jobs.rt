@@ -9,9 +9,9 @@ use crate::spot::Spot;
 use bosh_base::{CopyFault, Copyable, LinkSpec, Name, Text, copy_three};
 use bosh_links::{Consumer, Provider, Source};
 use bosh_lookup::{find, table_of};
+use bosh_manifest_names::{GoalFault, UsedJob};
 use bosh_manifest_parts::{Consume, Origin, Provide};
 use bosh_share::Across;
-use bosh_uses::{GoalFault, UsedJob};
 use std::alloc::Global;
 
 // The name that a link is public by.

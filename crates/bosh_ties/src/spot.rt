@@ -3,7 +3,7 @@ ghost use Rattle.bosh_ties.specs.Links.{joint_of};
 ghost use Rattle.bosh_ties.specs.Spot.{spot_joint};
 
 use bosh_base::{CopyFault, Joint, LinkSpec, Name, copy_four};
-use bosh_uses::UsedJob;
+use bosh_manifest_names::UsedJob;
 use std::alloc::Global;
 
 /// Where a link stands: of which deployment, group and job it is.

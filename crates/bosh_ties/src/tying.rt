@@ -5,15 +5,15 @@ ghost use Rattle.bosh_links.specs.Links as links;
 ghost use Rattle.bosh_links.specs.declared.fault.LinkFault.{LinkFault};
 ghost use Rattle.bosh_share.specs.Shared as shared;
 ghost use Rattle.bosh_share.specs.declared.fault.ShareFault.{ShareFault};
-ghost use Rattle.bosh_uses.specs.Answer.{IsAnswer, with_fault};
+ghost use Rattle.bosh_manifest_names.specs.Answer.{IsAnswer, with_fault};
 ghost use Rattle.bosh_ties.specs.Links.{own_ties, ties, ties_across};
-ghost use Rattle.bosh_uses.specs.declared.fault.GoalFault.TheVariants.{Link, Share};
+ghost use Rattle.bosh_manifest_names.specs.declared.fault.GoalFault.TheVariants.{Link, Share};
 
 use crate::gathering::of_groups;
 use bosh_base::{CopyFault, Copyable, DepOffers, Name, Seq, Tie};
 use bosh_links::{Consumer, LinkFault, Provider, resolve};
+use bosh_manifest_names::{GoalFault, UsedGroup};
 use bosh_share::{Across, ShareFault, resolve_across};
-use bosh_uses::{GoalFault, UsedGroup};
 use std::alloc::Global;
 
 fn linked(answer: Result<Seq<Tie>, LinkFault>) -> Result<Seq<Tie>, GoalFault>

@@ -3,7 +3,7 @@
 use Rattle.std.specs.Prelude.{◌≡◌, ℕ, zero, suc, ◌+◌, ◌≤◌, List, [], ◌∷◌, ◌++◌, length, Result, Ok}
 use Rattle.std.specs.List.Sorted.{IsPermutation}
 use Rattle.bosh_base.specs.declared.moves.Said as said
-use Rattle.bosh_words.specs.declared.fault.LineFault.{LineFault}
+use Rattle.bosh_line_words.specs.declared.fault.LineFault.{LineFault}
 use Rattle.bosh_lines.specs.declared.command.Command.{Command}
 use Rattle.bosh_lines.specs.declared.command.Command.TheVariants.{Generate, Together}
 use Rattle.bosh_input.specs.Ended.{bounded_request}

@@ -3,7 +3,7 @@ ghost use Rattle.bosh_records.specs.Table.{things};
 ghost use Rattle.bosh_views.specs.Snapshot.{IsSnapshot, compile_rows, loose_disks, recorded_rows};
 
 use bosh_base::{CompileRow, Copyable, DepRow, Orphan, Row, Seq, Snapshot, TaskRow};
-use bosh_owned::put;
+use bosh_drops::put;
 use bosh_records::{Records, RecordsFault, copies};
 use std::alloc::Global;
 

@@ -7,7 +7,7 @@ ghost use Rattle.bosh_views.specs.View.{rows_of, taken_of, view_of};
 use bosh_base::{
     Copyable, DepOffers, DepRow, Goal, Held, Make, Name, Offer, Owner, Row, Seq, TaskRow, View,
 };
-use bosh_owned::put;
+use bosh_drops::put;
 use bosh_records::{Records, RecordsFault};
 use std::alloc::Global;
 

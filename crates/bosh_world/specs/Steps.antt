@@ -13,7 +13,7 @@ use Rattle.bosh_base.specs.declared.moves.Said as said
 use Rattle.bosh_base.specs.declared.task.TaskEnd.{TaskEnd}
 use Rattle.bosh_book.specs.Adds.{Adds}
 use Rattle.bosh_book.specs.Ends.{closing, coming_end, end_of}
-use Rattle.bosh_book.specs.Opens.{IsOpening}
+use Rattle.bosh_book.specs.Opens.{IsOpeningOf}
 use Rattle.bosh_book.specs.Claims as claims
 use Rattle.bosh_book.specs.Turns.{Gives, IsUpdate}
 use Rattle.bosh_book.specs.declared.claim.Claim.{Claim}
@@ -81,7 +81,7 @@ pub record OpensTask {K L : Type 0} {k : keeper.Ghosts K} {l : keeper.Ghosts L}
     (bodies : K → Option (List (List ℕ))) (faults : K → ℕ) (was : Site K L k l) (ask : Ask) (task : ℕ)
     (now : Site K L k l) : Type 0 where
   pub opening : task_open.TaskOpen
-  pub is_opening : IsOpening was.book.records ask opening
+  pub is_opening : IsOpeningOf was.book.records ask opening
   pub notes : Notes bodies faults was (entries.TaskOpen opening ∷ []) None now
   pub told : task ≡ opening.task
 

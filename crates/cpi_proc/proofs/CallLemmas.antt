@@ -17,7 +17,7 @@ use Rattle.cpi_wire.proofs.StructLemmas.{make_law, spec_law, want_law, work_law}
 use Rattle.cpi_wire.proofs.ValueLemmas.{digest_law, number_law}
 use Rattle.cpi_proc.specs.Call.{arguments, call_from, is_call}
 use Rattle.cpi_proc.specs.Method.{named, named_of}
-use Rattle.cpi_proc.specs.declared.method.TheConstants.{METHODS}
+use Rattle.bosh_base.specs.declared.method.TheConstants.{METHODS}
 
 -- these are the arguments of a call of a method
 pub record Takes (m : Method) (d : Data) (c : Call) : Type 0 where

@@ -6,7 +6,7 @@ use Rattle.bosh_base.specs.declared.method.Method.{Method}
 use Rattle.serde_json.specs.Data.{Data, string}
 use Rattle.serde_json.specs.Find.{as_str}
 use Rattle.cpi_wire.specs.Reading.{Reader}
-use Rattle.cpi_proc.specs.declared.method.TheConstants.{METHODS}
+use Rattle.bosh_base.specs.declared.method.TheConstants.{METHODS}
 
 -- a method, by its name
 abbrev pub method_data : Method → Data

@@ -3,35 +3,9 @@ ghost use Rattle.serde_json.specs.View.{view};
 ghost use Rattle.cpi_wire.specs.Reading.{Gives};
 ghost use Rattle.cpi_proc.specs.Method.{method_from, named, named_of};
 
-use bosh_base::Method;
+use bosh_base::{METHODS, Method};
 use cpi_wire::WireFault;
 use serde_json::Value;
-
-/// All methods.
-pub(crate) const METHODS: [Method; 22] = [
-    Method::CreateVm,
-    Method::DeleteVm,
-    Method::HasVm,
-    Method::FindVm,
-    Method::CreateDisk,
-    Method::DeleteDisk,
-    Method::HasDisk,
-    Method::FindDisk,
-    Method::AttachDisk,
-    Method::DetachDisk,
-    Method::GetDisks,
-    Method::Ping,
-    Method::GetState,
-    Method::Apply,
-    Method::Start,
-    Method::Drain,
-    Method::Stop,
-    Method::MountDisk,
-    Method::UnmountDisk,
-    Method::ListDisk,
-    Method::MigrateDisk,
-    Method::CompilePackage,
-];
 
 // The first of these methods that has this name.
 fn named_of(methods: &[Method], name: &str) -> Option<Method>

@@ -1,5 +1,5 @@
 use Rattle.std.proofs.Common.{◌≡◌, length}
-use Rattle.bosh_claim.specs.Sound.{have_locks_of_their_own}
+use Rattle.bosh_rows.specs.SoundSnapshot.{have_locks_of_their_own}
 use Rattle.bosh_claim.proofs.snapshot.have_locks_of_their_own.Given as goal
 
 abbrev pub invariant-loop-left : goal.invariant-loop-left

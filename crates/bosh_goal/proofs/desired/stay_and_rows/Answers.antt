@@ -2,7 +2,7 @@
 use Rattle.std.proofs.Common.{◌≡◌, ◌∙◌, Ok, ap, subst, sym, true}
 use Rattle.bosh_manifest.specs.declared.manifest.Contents.{Contents}
 use Rattle.bosh_instances.specs.Moving.{disks_stay}
-use Rattle.bosh_uses.specs.Answer.{IsAnswer}
+use Rattle.bosh_manifest_names.specs.Answer.{IsAnswer}
 use Rattle.bosh_goal.specs.Goal.{rows_of}
 use Rattle.bosh_goal.proofs.AnswerLemmas.{then-ok}
 use Rattle.bosh_goal.proofs.desired.stay_and_rows.Goals as goal

@@ -1,7 +1,7 @@
 -- One more address is looked at.
 use Rattle.std.proofs.Common.{◌≡◌, ◌⊎◌, ◌∙◌, ◌+◌, Err, find, inl, inr, map, rules, true, drop}
 use Rattle.bosh_slots.specs.Slots.{net_addr}
-use Rattle.bosh_uses.specs.declared.fault.GoalFault.TheVariants.{Memory}
+use Rattle.bosh_manifest_names.specs.declared.fault.GoalFault.TheVariants.{Memory}
 use Rattle.bosh_goal.specs.Anew.{all_free, keeps, refusal_at}
 use Rattle.bosh_goal.proofs.AddrLemmas.{all_free-next}
 use Rattle.bosh_goal.proofs.AnswerLemmas.{then-fault, then-ok}

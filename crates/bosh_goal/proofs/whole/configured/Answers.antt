@@ -4,7 +4,7 @@ use Rattle.bosh_alike.specs.Alike.{AreAlike}
 use Rattle.bosh_keys.specs.Works.{releases_of}
 use Rattle.bosh_keys.proofs.UsesLemmas.{used_alike, used_all}
 use Rattle.bosh_release.specs.Sound.{IsSound}
-use Rattle.bosh_uses.specs.Used.{UsedGroup}
+use Rattle.bosh_manifest_names.specs.Used.{UsedGroup}
 use Rattle.bosh_goal.proofs.UsedLemmas.{uses-groups}
 use Rattle.bosh_goal.proofs.whole.configured.Goals as goal
 

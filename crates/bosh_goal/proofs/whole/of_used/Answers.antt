@@ -4,9 +4,9 @@ use Rattle.bosh_base.specs.declared.addr.Addr.{Addr}
 use Rattle.bosh_base.specs.declared.link.Tie.{Tie}
 use Rattle.bosh_manifest.specs.declared.manifest.Contents.{Contents}
 use Rattle.bosh_ties.specs.Links as links
-use Rattle.bosh_uses.specs.Answer.{◌>>=◌, IsAnswer}
-use Rattle.bosh_uses.specs.declared.fault.GoalFault.{GoalFault}
-use Rattle.bosh_uses.specs.declared.fault.GoalFault.TheVariants.{Memory}
+use Rattle.bosh_manifest_names.specs.Answer.{◌>>=◌, IsAnswer}
+use Rattle.bosh_manifest_names.specs.declared.fault.GoalFault.{GoalFault}
+use Rattle.bosh_manifest_names.specs.declared.fault.GoalFault.TheVariants.{Memory}
 use Rattle.bosh_goal.specs.Goal.{addresses, of_used, with_addrs}
 use Rattle.bosh_goal.proofs.AnswerLemmas.{then-fault, then-ok}
 use Rattle.bosh_goal.proofs.UsedLemmas.{used-zones}

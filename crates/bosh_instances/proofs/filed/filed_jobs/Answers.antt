@@ -2,7 +2,7 @@
 use Rattle.std.proofs.Common.{◌∙◌, List, ap, map, sym}
 use Rattle.bosh_offers.specs.Tied.{job_links}
 use Rattle.bosh_template.specs.Environment.{LinkEnv}
-use Rattle.bosh_uses.specs.Used.{UsedJob}
+use Rattle.bosh_manifest_names.specs.Used.{UsedJob}
 use Rattle.bosh_instances.proofs.MachineLemmas.{mapped-at}
 use Rattle.bosh_instances.proofs.filed.filed_jobs.Goals as goal
 

@@ -1,6 +1,6 @@
 -- The rows of one more group are taken.
 use Rattle.std.proofs.Common.{◌≡◌, ◌⊎◌, Err, inl, inr, rules}
-use Rattle.bosh_uses.specs.declared.fault.GoalFault.TheVariants.{Memory}
+use Rattle.bosh_manifest_names.specs.declared.fault.GoalFault.TheVariants.{Memory}
 use Rattle.bosh_files.specs.Gathered.{gather}
 use Rattle.bosh_files.proofs.TakenLemmas.{AreGathered-none, AreGathered-more, AreGathered-fault, AreGathered-end}
 use Rattle.bosh_instances.specs.Rows.{group_rows, row_bytes}

@@ -2,14 +2,14 @@
 use Rattle.std.proofs.Common.{◌≡◌, ◌⊎◌, ◌<◌, ◌≤◌, ℕ, List, Result, ◌∙◌, Err, ap, inl, inr, length, rules, subst, sym}
 use Rattle.bosh_base.specs.declared.goal.GoalRow.{GoalRow}
 use Rattle.bosh_manifest.specs.declared.group.Group.{Group}
-use Rattle.bosh_uses.specs.Used.{UsedGroup}
-use Rattle.bosh_uses.specs.declared.fault.GoalFault.{GoalFault}
-use Rattle.bosh_uses.specs.declared.fault.GoalFault.TheVariants.{Memory}
+use Rattle.bosh_manifest_names.specs.Used.{UsedGroup}
+use Rattle.bosh_manifest_names.specs.declared.fault.GoalFault.{GoalFault}
+use Rattle.bosh_manifest_names.specs.declared.fault.GoalFault.TheVariants.{Memory}
 use Rattle.bosh_files.specs.Gathered.{gather}
 use Rattle.bosh_files.proofs.TakenLemmas.{AreGathered-none, AreGathered-more, AreGathered-fault, AreGathered-end}
 use Rattle.bosh_instances.specs.Rows.{instance_row, row_bytes}
 use Rattle.bosh_instances.proofs.BelowLemmas.{below-at, below-length}
-use Rattle.bosh_places.specs.Wants.{below}
+use Rattle.bosh_wants.specs.Wants.{below}
 use Rattle.bosh_instances.proofs.listing.add_rows.Goals as goal
 
 pub loop-index-init : goal.loop-index-init

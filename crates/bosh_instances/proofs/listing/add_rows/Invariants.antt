@@ -1,6 +1,6 @@
 use Rattle.bosh_files.proofs.TakenLemmas.{AreGathered}
 use Rattle.bosh_instances.specs.Rows.{instance_row, row_bytes}
-use Rattle.bosh_places.specs.Wants.{below}
+use Rattle.bosh_wants.specs.Wants.{below}
 use Rattle.bosh_instances.proofs.listing.add_rows.Given as goal
 
 abbrev pub invariant-loop-index : goal.invariant-loop-index

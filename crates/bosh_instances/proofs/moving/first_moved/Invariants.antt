@@ -1,5 +1,5 @@
 use Rattle.std.proofs.Common.{◌≡◌, None, find}
-use Rattle.bosh_places.specs.Wants.{below}
+use Rattle.bosh_wants.specs.Wants.{below}
 use Rattle.bosh_instances.specs.Moving.{moves}
 use Rattle.bosh_instances.proofs.moving.first_moved.Given as goal
 

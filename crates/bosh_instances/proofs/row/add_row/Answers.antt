@@ -4,7 +4,7 @@ use Rattle.bosh_base.specs.declared.goal.GoalRow.{GoalRow}
 use Rattle.bosh_base.specs.declared.spec.Placed.{Placed}
 use Rattle.bosh_files.specs.Budget.{Takes, is_kept}
 use Rattle.bosh_files.specs.Files.{bytes_of}
-use Rattle.bosh_uses.specs.declared.fault.GoalFault.TheVariants.{Memory}
+use Rattle.bosh_manifest_names.specs.declared.fault.GoalFault.TheVariants.{Memory}
 use Rattle.bosh_instances.specs.Rows.{placed}
 use Rattle.bosh_instances.proofs.RowLemmas.{row-taken}
 use Rattle.bosh_instances.proofs.row.add_row.Goals as goal

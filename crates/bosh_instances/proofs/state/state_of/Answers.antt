@@ -2,7 +2,7 @@ use Rattle.std.proofs.Common.{◌∙◌, List, Option, ap, find, sym}
 use Rattle.bosh_base.specs.declared.goal.Goal.{Goal}
 use Rattle.bosh_base.specs.declared.goal.GoalRow.{GoalRow}
 use Rattle.bosh_instances.specs.Machines.{state_in, state_of}
-use Rattle.bosh_places.specs.Zones.{inst_of}
+use Rattle.bosh_wants.specs.Zones.{inst_of}
 use Rattle.bosh_pool.specs.Fixed.{same_inst}
 use Rattle.bosh_instances.proofs.state.state_of.Goals as goal
 

@@ -1,10 +1,10 @@
 use Rattle.std.proofs.Common.{◌≡◌, ◌∙◌, ◌≤◌, ◌<◌, true, false, [], ◌∷◌, length, ap, sym, arith, rules, nat_le}
 use Rattle.std.specs.Option.{option_map}
 use Rattle.std.proofs.lemmas.Bool.Decides.{nat_tests}
-use Rattle.bosh_words.specs.Grammar.{IsRefused}
-use Rattle.bosh_words.specs.Kinds.{inst_from}
-use Rattle.bosh_words.specs.Words.{word_of, words_in}
-use Rattle.bosh_words.proofs.GrammarLemmas.{out_of_memory}
+use Rattle.bosh_line_words.specs.Grammar.{IsRefused}
+use Rattle.bosh_line_words.specs.Kinds.{inst_from}
+use Rattle.bosh_line_words.specs.Words.{word_of, words_in}
+use Rattle.bosh_line_words.proofs.GrammarLemmas.{out_of_memory}
 use Rattle.bosh_lines.specs.Forms.{is_inst, is_written, write_command, write_form}
 use Rattle.bosh_lines.specs.Lines.{written, written_text}
 use Rattle.bosh_lines.specs.declared.command.Command.TheVariants as command

@@ -1,7 +1,7 @@
 use Rattle.std.proofs.Common.{[], ◌∷◌, codes, false, Some, refl}
-use Rattle.bosh_words.specs.Grammar.{Choice, IsRefused}
-use Rattle.bosh_words.specs.Words.{word_of, words_in}
-use Rattle.bosh_words.proofs.GrammarLemmas.{out_of_memory, refused, value_follows}
+use Rattle.bosh_line_words.specs.Grammar.{Choice, IsRefused}
+use Rattle.bosh_line_words.specs.Words.{word_of, words_in}
+use Rattle.bosh_line_words.proofs.GrammarLemmas.{out_of_memory, refused, value_follows}
 use Rattle.bosh_lines.specs.Forms.{cloud_check_form, is_member}
 use Rattle.bosh_lines.proofs.LineLemmas.{passed_on}
 use Rattle.bosh_lines.proofs.deployment.cloud_check.Goals as goal

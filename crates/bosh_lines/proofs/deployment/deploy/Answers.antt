@@ -1,8 +1,8 @@
 use Rattle.std.proofs.Common.{◌∙◌, [], ◌∷◌, codes, ap, sym}
-use Rattle.bosh_words.specs.Grammar.{IsRefused, has}
-use Rattle.bosh_words.specs.Kinds.{is_path}
-use Rattle.bosh_words.specs.Words.{words_in}
-use Rattle.bosh_words.proofs.GrammarLemmas.{fault_taken, out_of_memory, refused, refused_taken}
+use Rattle.bosh_line_words.specs.Grammar.{IsRefused, has}
+use Rattle.bosh_line_words.specs.Kinds.{is_path}
+use Rattle.bosh_line_words.specs.Words.{words_in}
+use Rattle.bosh_line_words.proofs.GrammarLemmas.{fault_taken, out_of_memory, refused, refused_taken}
 use Rattle.bosh_lines.specs.Forms.{deploy_command, deploy_form}
 use Rattle.bosh_lines.specs.Variable.{variables_in}
 use Rattle.bosh_lines.proofs.LineLemmas.{passed_on, same_deploy}

@@ -1,9 +1,9 @@
 use Rattle.std.proofs.Common.{◌∙◌, [], ◌∷◌, codes, ap, sym}
 use Rattle.std.specs.Option.{option_map}
-use Rattle.bosh_words.specs.Grammar.{IsRefused, has}
-use Rattle.bosh_words.specs.Kinds.{inst_from}
-use Rattle.bosh_words.specs.Words.{words_in}
-use Rattle.bosh_words.proofs.GrammarLemmas.{fault_taken, out_of_memory, refused, refused_taken}
+use Rattle.bosh_line_words.specs.Grammar.{IsRefused, has}
+use Rattle.bosh_line_words.specs.Kinds.{inst_from}
+use Rattle.bosh_line_words.specs.Words.{words_in}
+use Rattle.bosh_line_words.proofs.GrammarLemmas.{fault_taken, out_of_memory, refused, refused_taken}
 use Rattle.bosh_lines.specs.Forms.{is_member, stop_command, stop_form}
 use Rattle.bosh_lines.specs.declared.command.Command.TheVariants as command
 use Rattle.bosh_lines.proofs.LineLemmas.{passed_on, same_stop}

@@ -1,5 +1,5 @@
 use Rattle.std.proofs.Common.{◌≡◌, ◌++◌, length}
-use Rattle.bosh_words.specs.Words.{words_in}
+use Rattle.bosh_line_words.specs.Words.{words_in}
 use Rattle.bosh_lines.specs.Variable.{variables_in}
 use Rattle.bosh_lines.proofs.variable.variables.Given as goal
 

@@ -1,5 +1,5 @@
 use Rattle.std.proofs.Common.{◌≡◌, map, take}
-use Rattle.bosh_listing.specs.Parts.{stamp_view as stamp_seen}
+use Rattle.bosh_release_listing.specs.Parts.{stamp_view as stamp_seen}
 use Rattle.bosh_release.specs.Draft.{stamped}
 use Rattle.bosh_release.proofs.job.stamps_of.Given as goal
 

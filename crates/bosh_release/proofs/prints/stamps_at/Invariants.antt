@@ -1,5 +1,5 @@
 use Rattle.std.proofs.Common.{◌≡◌, map, take}
-use Rattle.bosh_listing.specs.Parts.{stamp_view}
+use Rattle.bosh_release_listing.specs.Parts.{stamp_view}
 use Rattle.bosh_release.specs.Collected.{stamp_at}
 use Rattle.bosh_release.proofs.prints.stamps_at.Given as goal
 

@@ -5,7 +5,7 @@ use Rattle.std.specs.Cmp.Lexicographic.{slice_cmp}
 use Rattle.std.specs.Option.{option_map}
 use Rattle.std.specs.Ordering.{nat_cmp}
 use Rattle.bosh_base.specs.declared.digest.Digest.{Digest}
-use Rattle.bosh_listing.specs.Listing.{digest_of}
+use Rattle.bosh_release_listing.specs.Listing.{digest_of}
 use Rattle.bosh_release_files.specs.Files.{after}
 use Rattle.bosh_release_files.specs.Sources.{digest_seen, with_file}
 use Rattle.bosh_release_files.proofs.FolderLemmas.{seen-insert}

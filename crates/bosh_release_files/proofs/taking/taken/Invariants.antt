@@ -1,5 +1,5 @@
 use Rattle.std.proofs.Common.{◌≡◌, map, take}
-use Rattle.bosh_listing.specs.Parts.{stamp_view}
+use Rattle.bosh_release_listing.specs.Parts.{stamp_view}
 use Rattle.bosh_release_files.specs.Pattern.{taken_files}
 use Rattle.bosh_release_files.proofs.taking.taken.Given as goal
 

@@ -2,7 +2,7 @@ use Rattle.std.proofs.Common.{◌≡◌, sym, ◌∙◌, ap, Result, Ok, Err, If
 use Rattle.std.specs.Option.{option_copied}
 use Rattle.bosh_agent.specs.Compiled.{compiled_digest}
 use Rattle.bosh_base.specs.declared.answer.Answer.{Answer}
-use Rattle.bosh_changes.specs.declared.fault.InventoryFault.{InventoryFault}
+use Rattle.bosh_registers.specs.declared.fault.InventoryFault.{InventoryFault}
 use Rattle.bosh_inventory.proofs.AnswerLemmas.{agent_answer-is}
 use Rattle.bosh_inventory.proofs.LookupLemmas.{seen}
 use Rattle.bosh_inventory.proofs.inventory.Inventory.agent_answer.Goals as goal

@@ -4,7 +4,7 @@ use Rattle.bosh_base.specs.Cloud.{machine_of}
 use Rattle.bosh_base.specs.declared.call.Call.TheVariants.{AttachDisk}
 use Rattle.bosh_inventory.proofs.LeadLemmas.{Leads-attach}
 use Rattle.bosh_inventory.specs.Changes.{LeadsBy}
-use Rattle.bosh_changes.specs.declared.change.Change.TheVariants.{Moved}
+use Rattle.bosh_registers.specs.declared.change.Change.TheVariants.{Moved}
 use Rattle.bosh_inventory.proofs.inventory.Inventory.attach.Goals as goal
 
 pub returns : goal.returns

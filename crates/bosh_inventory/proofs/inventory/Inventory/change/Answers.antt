@@ -4,7 +4,7 @@ use Rattle.bosh_base.specs.CallStep.{takes_effect}
 use Rattle.bosh_base.specs.declared.call.Call.{Call}
 use Rattle.bosh_inventory.proofs.LeadLemmas.{Leads-deleted, Leads-disk_deleted, done_there}
 use Rattle.bosh_inventory.specs.Changes.{LeadsBy}
-use Rattle.bosh_changes.specs.declared.change.Change.TheVariants.{NoVm, NoDisk}
+use Rattle.bosh_registers.specs.declared.change.Change.TheVariants.{NoVm, NoDisk}
 use Rattle.bosh_inventory.proofs.inventory.Inventory.change.Goals as goal
 
 pub returns-in-DeleteVm : goal.returns-in-DeleteVm

@@ -4,7 +4,7 @@ use Rattle.std.proofs.Common.{Bool, sym, subst}
 use Rattle.bosh_base.specs.declared.entry.Entry.TheVariants.{Lost}
 use Rattle.bosh_inventory.proofs.LeadLossLemmas.{Leads-silenced}
 use Rattle.bosh_inventory.specs.Changes.{Leads}
-use Rattle.bosh_changes.specs.declared.change.Change.TheVariants.{NoVm, Silent}
+use Rattle.bosh_registers.specs.declared.change.Change.TheVariants.{NoVm, Silent}
 
 pub returns-then-whole : goal.returns-then-whole
 returns-then-whole c =

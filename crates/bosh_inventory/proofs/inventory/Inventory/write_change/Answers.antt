@@ -2,7 +2,7 @@ use Rattle.std.proofs.Common.{ℕ, List, sym, subst}
 use Rattle.bosh_base.specs.declared.entry.Entry.TheVariants.{Write}
 use Rattle.bosh_inventory.proofs.LeadLossLemmas.{Leads-written}
 use Rattle.bosh_inventory.specs.Changes.{Leads}
-use Rattle.bosh_changes.specs.declared.change.Change.TheVariants.{Written}
+use Rattle.bosh_registers.specs.declared.change.Change.TheVariants.{Written}
 use Rattle.bosh_inventory.proofs.inventory.Inventory.write_change.Goals as goal
 
 pub returns : goal.returns

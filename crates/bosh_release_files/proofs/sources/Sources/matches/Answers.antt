@@ -1,7 +1,7 @@
 use Rattle.std.proofs.Common.{◌∙◌, ap, sym, is_some, true}
 use Rattle.std.specs.List.{list_any}
 use Rattle.std.specs.Str.{bytes_eq}
-use Rattle.bosh_listing.specs.declared.listing.Stamp.{Stamp}
+use Rattle.bosh_release_listing.specs.declared.listing.Stamp.{Stamp}
 use Rattle.bosh_release_files.specs.Files.{after}
 use Rattle.bosh_release_files.specs.Pattern.{lies_in, matches}
 use Rattle.bosh_release_files.specs.Sources.{path_of}

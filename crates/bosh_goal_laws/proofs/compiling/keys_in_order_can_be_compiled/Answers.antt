@@ -1,5 +1,0 @@
-use Rattle.bosh_goal_laws.proofs.LeftLemmas.{can-be-compiled}
-use Rattle.bosh_goal_laws.proofs.compiling.keys_in_order_can_be_compiled.Goals as goal
-
-pub returns : goal.returns
-returns c = can-be-compiled

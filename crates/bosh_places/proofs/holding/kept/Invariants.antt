@@ -1,6 +1,0 @@
-use Rattle.std.proofs.Common.{◌≡◌, take}
-use Rattle.bosh_places.specs.Wants.{kept}
-use Rattle.bosh_places.proofs.holding.kept.Given as goal
-
-abbrev pub invariant-loop-row : goal.invariant-loop-row
-invariant-loop-row l = l.held.items ≡ kept l.dep l.groups (take l.row-index l.rows)

@@ -1,6 +1,0 @@
-use Rattle.std.proofs.Common.{◌≡◌, drop}
-use Rattle.bosh_places.specs.Statics.{addr_in}
-use Rattle.bosh_places.proofs.statics.addr_in.Given as goal
-
-abbrev pub invariant-loop-band : goal.invariant-loop-band
-invariant-loop-band l = addr_in l.bands l.place ≡ addr_in (drop l.band-index l.bands) l.rest

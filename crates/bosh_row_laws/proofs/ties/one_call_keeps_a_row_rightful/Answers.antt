@@ -1,8 +1,0 @@
-use Rattle.bosh_row_laws.proofs.RightCaseLemmas.{still_right, sound_after}
-use Rattle.bosh_row_laws.proofs.ties.one_call_keeps_a_row_rightful.Goals as goal
-
-pub returns-clause-rightful : goal.returns-clause-rightful
-returns-clause-rightful c = still_right
-
-pub returns-clause-sound : goal.returns-clause-sound
-returns-clause-sound c = sound_after

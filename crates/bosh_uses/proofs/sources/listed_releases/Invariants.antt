@@ -1,8 +1,0 @@
-use Rattle.std.proofs.Common.{take}
-use Rattle.bosh_uses.specs.Answer.{Stands, each}
-use Rattle.bosh_uses.specs.Sources.{AreReleases}
-use Rattle.bosh_uses.specs.Uses.{used_release}
-use Rattle.bosh_uses.proofs.sources.listed_releases.Given as goal
-
-abbrev pub invariant-loop-asked : goal.invariant-loop-asked
-invariant-loop-asked l = Stands AreReleases (each (used_release l.releases) (take l.asked-index l.asked)) l.table

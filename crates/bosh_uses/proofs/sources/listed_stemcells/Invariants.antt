@@ -1,8 +1,0 @@
-use Rattle.std.proofs.Common.{take}
-use Rattle.bosh_uses.specs.Answer.{Stands, each}
-use Rattle.bosh_uses.specs.Sources.{AreStemcells}
-use Rattle.bosh_uses.specs.Uses.{used_stemcell}
-use Rattle.bosh_uses.proofs.sources.listed_stemcells.Given as goal
-
-abbrev pub invariant-loop-asked : goal.invariant-loop-asked
-invariant-loop-asked l = Stands AreStemcells (each (used_stemcell l.stemcells) (take l.asked-index l.asked)) l.table

@@ -1,0 +1,26 @@
+use Rattle.std.proofs.Common.{inr, refl, rules}
+use Rattle.bosh_history.specs.Fit.{LeavesPair, empty, left}
+use Rattle.bosh_history.specs.Moments.{nothing}
+use Rattle.bosh_history.specs.Permitted.{IsRun}
+use Rattle.examples_histories.specs.Scenes.{Builder}
+use Rattle.examples_histories.specs.Verdicts.{outside}
+use Rattle.examples_moments.specs.Loads.{left_by, run}
+use Rattle.examples_moments.proofs.loads.openings_are_reached.Goals as goal
+
+eleven : (built : Builder) → IsRun (outside built) nothing (run 11)
+eleven built = search rules
+
+five : (built : Builder) → LeavesPair (outside built) nothing (run 5) (left_by (run 5))
+five built = search rules
+
+pub returns-clause-shortened : goal.returns-clause-shortened
+returns-clause-shortened c =
+    λ built. record {
+      is_run = eleven built;
+      stopped = refl;
+      entries = inr refl;
+      effects = refl;
+    }
+
+pub returns-clause-after_a_session : goal.returns-clause-after_a_session
+returns-clause-after_a_session c = λ built. left nothing (left_by (run 5)) (run 5) empty (five built)

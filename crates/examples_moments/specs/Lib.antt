@@ -1,0 +1,9 @@
+pub mod Borrowed
+pub mod Goals
+pub mod Lawful
+pub mod Left
+pub mod Listed
+pub mod Loads
+pub mod Loose
+pub mod Moves
+pub mod Seen

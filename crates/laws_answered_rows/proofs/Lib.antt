@@ -1,0 +1,15 @@
+pub mod AgreedLemmas
+pub mod BeforeCases
+pub mod CreatedCases
+pub mod DoubtHeldCases
+pub mod FactCases
+pub mod FoundCases
+pub mod HeldCases
+pub mod HeldLemmas
+pub mod KeepsLemmas
+pub mod LaterLemmas
+pub mod MadeHeldLemmas
+pub mod OwnLemmas
+pub mod ProbeLemmas
+pub mod QuietLemmas
+pub mod StillLemmas

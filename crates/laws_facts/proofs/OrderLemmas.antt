@@ -1,0 +1,87 @@
+-- Lists in order: an item comes to its place, and an item goes.
+use Rattle.std.proofs.Common.{◌≡◌, Bool, true, false, List, [], ◌∷◌, refl, arith}
+use Rattle.std.specs.Prelude.{◌||◌, if◌then◌else◌}
+use Rattle.std.specs.Cmp.{IsTotalOrder}
+use Rattle.std.specs.declared.cmp.Ordering.{Ordering}
+use Rattle.std.specs.declared.cmp.Ordering.TheVariants.{Less, Equal, Greater}
+use Rattle.laws_facts.proofs.ListLemmas.{Tells}
+use Rattle.laws_row_facts.specs.Words.{are_ascending, is_below}
+use Rattle.bosh_rows.specs.SoundSnapshot.{is_less}
+use Rattle.bosh_history.specs.Words.{by_order, inserted, is_among, without}
+
+is_less_says : (o : Ordering) → is_less o ≡ true → o ≡ Less
+is_less_says Less is = refl
+is_less_says Equal is = absurd cc
+is_less_says Greater is = absurd cc
+
+module _ {A : Type 0} (cmp : A → A → Ordering) (total : IsTotalOrder cmp) (same : A → A → Bool)
+    (tells : (a b : A) → Tells same a b) (equal : (a b : A) → cmp a b ≡ Equal → a ≡ b) where
+  less_trans : (x y z : A) → is_less (cmp x y) ≡ true → is_less (cmp y z) ≡ true → is_less (cmp x z) ≡ true
+  less_trans x y z xy yz = grind (arith, total.trans x y z, is_less_says (cmp x y), is_less_says (cmp y z), xy, yz)
+
+  -- what comes to its place is there
+  pub among_inserted : (x a : A) (items : List A)
+      → is_among same x (inserted cmp a items) ≡ (is_among same x items || same x a)
+  among_inserted x a [] = grind (arith)
+  among_inserted x a (b ∷ items) = by (cmp a b) refl (among_inserted x a items)
+    where
+      by : (o : Ordering) → cmp a b ≡ o → is_among same x (inserted cmp a items) ≡ (is_among same x items || same x a)
+          → is_among same x (by_order o (a ∷ b ∷ items) (a ∷ items) (b ∷ inserted cmp a items)) ≡
+          (is_among same x (b ∷ items) || same x a)
+      by Less is before = grind (arith)
+      by Equal is before = grind (arith, equal a b is)
+      by Greater is before = grind (arith, before)
+
+  below_inserted : (b a : A) (items : List A) → cmp a b ≡ Greater → is_below cmp b items ≡ true
+      → is_below cmp b (inserted cmp a items) ≡ true
+  below_inserted b a [] greater below = grind (arith, total.antisymm a b, greater)
+  below_inserted b a (c ∷ items) greater below = by (cmp a c)
+    where
+      by : (o : Ordering) → is_below cmp b (by_order o (a ∷ c ∷ items) (a ∷ items) (c ∷ inserted cmp a items)) ≡ true
+      by Less = grind (arith, total.antisymm b a, greater)
+      by Equal = grind (arith, total.antisymm b a, greater)
+      by Greater = below
+
+  -- the list stays in order where an item comes to its place
+  pub ascending_inserted : (a : A) (items : List A) → are_ascending cmp items ≡ true
+      → are_ascending cmp (inserted cmp a items) ≡ true
+  ascending_inserted a [] ascending = refl
+  ascending_inserted a (b ∷ items) ascending = by (cmp a b) refl (ascending_inserted a items)
+    where
+      by : (o : Ordering) → cmp a b ≡ o
+          → (are_ascending cmp items ≡ true → are_ascending cmp (inserted cmp a items) ≡ true)
+          → are_ascending cmp (by_order o (a ∷ b ∷ items) (a ∷ items) (b ∷ inserted cmp a items)) ≡ true
+      by Less is before = grind (arith, is, ascending)
+      by Equal is before = grind (arith, equal a b is, ascending)
+      by Greater is before = grind (arith, ascending, before, below_inserted b a items is)
+
+  below_without : (b a : A) (items : List A) → is_below cmp b items ≡ true → are_ascending cmp items ≡ true
+      → is_below cmp b (without same a items) ≡ true
+  below_without b a [] below ascending = refl
+  below_without b a (c ∷ items) below ascending = by (same a c) (below_without b a items)
+    where
+      next : is_below cmp b items ≡ true
+      next = first items below ascending
+        where
+          first : (others : List A) → is_less (cmp b c) ≡ true → are_ascending cmp (c ∷ others) ≡ true
+              → is_below cmp b others ≡ true
+          first [] less also = refl
+          first (d ∷ others) less also = less_trans b c d less (grind (arith, also))
+
+      by : (is : Bool)
+          → (is_below cmp b items ≡ true → are_ascending cmp items ≡ true
+          → is_below cmp b (without same a items) ≡ true)
+          → is_below cmp b (if is then without same a items else c ∷ without same a items) ≡ true
+      by true before = before next (grind (arith, ascending))
+      by false before = below
+
+  -- .. and where an item goes
+  pub ascending_without : (a : A) (items : List A) → are_ascending cmp items ≡ true
+      → are_ascending cmp (without same a items) ≡ true
+  ascending_without a [] ascending = refl
+  ascending_without a (b ∷ items) ascending = by (same a b) (ascending_without a items)
+    where
+      by : (is : Bool) → (are_ascending cmp items ≡ true → are_ascending cmp (without same a items) ≡ true)
+          → are_ascending cmp (if is then without same a items else b ∷ without same a items) ≡ true
+      by true before = before (grind (arith, ascending))
+      by false before = grind (arith, ascending, before, below_without b a items)

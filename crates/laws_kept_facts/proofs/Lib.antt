@@ -1,0 +1,13 @@
+pub mod BareCases
+pub mod BareLemmas
+pub mod CallCases
+pub mod LatestLemmas
+pub mod NamedLemmas
+pub mod NeededLemmas
+pub mod NumberedLemmas
+pub mod OrderCases
+pub mod PlacedLemmas
+pub mod RoomCases
+pub mod RoomyLemmas
+pub mod SilentCases
+pub mod TellsLemmas

@@ -1,0 +1,4 @@
+pub mod ListLemmas
+pub mod CycleLemmas
+pub mod ReleaseLemmas
+pub mod ConfigLemmas

@@ -1,0 +1,5 @@
+pub mod Packages
+pub mod Releases
+pub mod Configs
+pub mod Shipped
+pub mod Examples

@@ -1,0 +1,5 @@
+pub mod Calls
+pub mod Cloud
+pub mod Numbers
+pub mod Rows
+pub mod Words

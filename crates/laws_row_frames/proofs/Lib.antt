@@ -1,0 +1,14 @@
+pub mod CloudCases
+pub mod DoneLemmas
+pub mod DroppedCases
+pub mod EntryFrames
+pub mod FrameLemmas
+pub mod LeavingLemmas
+pub mod LossCases
+pub mod LossLemmas
+pub mod LostCases
+pub mod OtherCases
+pub mod OthersLemmas
+pub mod PingCases
+pub mod UpdateCases
+pub mod WithinLemmas
