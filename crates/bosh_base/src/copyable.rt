@@ -1,4 +1,4 @@
-ghost use Rattle.std.specs.Prelude.{◌≡◌, Ok, IfOk};
+ghost use Rattle.std.specs.Prelude.{◌≡◌, ◌⊎◌, Ok, Err, IfOk, IfErr};
 ghost use Rattle.bosh_base.specs.declared.copyable.CopyFault.TheVariants.{Memory};
 
 use std::alloc::{AllocError, AllocFailed, Global};
@@ -53,13 +53,14 @@ impl<T: Copyable> Copyable for Option<T> {
     }
 }
 
-/// Two values that were made one after the other, or the fault of the first that was not. A struct is copied as pairs of
-/// pairs, so that what was copied before memory ran short is let go here alone.
+/// Two values that were made one after the other, or the fault of one that was not: it refuses only where one of them was
+/// refused. A struct is copied as pairs of pairs, so that what was copied before memory ran short is let go here alone.
 pub fn both<A: Drop, B: Drop>(
     first: Result<A, CopyFault>,
     second: Result<B, CopyFault>,
 ) -> Result<(A, B), CopyFault>
-    ensures { IfOk result (λ both. (first ≡ Ok both.0) × (second ≡ Ok both.1)) }
+    ensures made { IfOk result (λ both. (first ≡ Ok both.0) × (second ≡ Ok both.1)) }
+    ensures refused { IfErr result (λ fault. (first ≡ Err fault) ⊎ (second ≡ Err fault)) }
 {
     let second = second?;
     Ok((first?, second))
