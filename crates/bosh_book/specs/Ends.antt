@@ -26,13 +26,13 @@ end_of records task = option_and_then (λ row. row.end) (task_at records task)
 
 -- A task that has a failed call ends by the least of them once none is open, and another one is done once nothing is
 -- left in any phase.
-abbrev pub end_by : Option TaskEnd → Work → Option TaskEnd
-end_by (Some end) work = if work.open == 0 then Some end else None
-end_by None work = if is_none (present work) then Some ends.Finished else None
+abbrev pub end_by : Records → Option TaskEnd → Work → Option TaskEnd
+end_by records (Some end) work = if work.open == 0 then Some end else None
+end_by records None work = if is_none (present records work) then Some ends.Finished else None
 
 -- how a task ends now, and none where something is left of it, or it is not recorded
 abbrev pub coming_end : Records → ℕ → Option TaskEnd
-coming_end records task = option_and_then (λ work. end_by work.failed work) (work_at records task)
+coming_end records task = option_and_then (λ work. end_by records work.failed work) (work_at records task)
 
 -- a task that has ended is only told, and nothing changes
 abbrev pub IsTold : {K : Type 0} → Book K → ℕ → TaskEnd → Book K → Type 0

@@ -81,20 +81,20 @@ fn coming_end(alloc: Global, records: &Records, task: u64) -> Result<Option<Task
     ensures { IfOk result (λ end. end ≡ coming_end records.now task) }
 {
     match records.work(task) {
-        Some(work) => end_by(alloc, work),
+        Some(work) => end_by(alloc, records, work),
         None => Ok(None),
     }
 }
 
 // A task that has a failed call ends by the least of them once none is open, and another one is done once nothing is
 // left in any phase.
-fn end_by(alloc: Global, work: &Work) -> Result<Option<TaskEnd>, CopyFault>
-    ensures { IfOk result (λ end. end ≡ end_by work.now.failed work.now) }
+fn end_by(alloc: Global, records: &Records, work: &Work) -> Result<Option<TaskEnd>, CopyFault>
+    ensures { IfOk result (λ end. end ≡ end_by records.now work.now.failed work.now) }
 {
     match &work.failed {
         Some(_) if work.open > 0 => Ok(None),
         Some(end) => Ok(Some(end.copy(alloc)?)),
-        None if present(work).is_some() => Ok(None),
+        None if present(records, work).is_some() => Ok(None),
         None => Ok(Some(TaskEnd::Finished)),
     }
 }

@@ -103,7 +103,7 @@ abbrev pub begins_in : Records → Begin → Work → Bool
 begins_in records begin work =
     is_none work.failed
     && (is_next begin.n records.last_call
-    && is_call (option_and_then (λ phase. call_for records work phase begin.owner) (present work)) begin.call)
+    && is_call (option_and_then (λ phase. call_for records work phase begin.owner) (present records work)) begin.call)
 
 abbrev pub begins : Records → Begin → Bool
 begins records begin = option_map_or (begins_in records begin) (work_at records begin.task) false

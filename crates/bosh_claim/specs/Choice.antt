@@ -44,7 +44,7 @@ in_phase records work worker (Some phase) = or_waits (item_of records work worke
 -- one with a failed call is over once it has no open call, and waits before
 abbrev pub of_open : Records → Work → ℕ → Option TaskEnd → Choice
 of_open records work worker (Some end) = if work.open == 0 then Over else Waits
-of_open records work worker None = in_phase records work worker (present work)
+of_open records work worker None = in_phase records work worker (present records work)
 
 -- an ended task is over
 abbrev pub of_task : Records → ℕ → Option Work → Choice

@@ -35,8 +35,8 @@ abbrev pub is_done : Records → ℕ → Work → Bool
 is_done records task work =
     is_none work.failed
     && (work.open == 0
-    && (is_none (present work)
-    && (marked_in work.keys.left == 0
+    && (is_none (present records work)
+    && (marked_in work.keys.queue.left == 0
     && not (has_machine records (dep_of records task)))))
 
 abbrev pub ends_task : Records → ℕ → Bool

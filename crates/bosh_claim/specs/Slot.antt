@@ -5,23 +5,17 @@ use Rattle.std.specs.Option.{option_and_then, option_map, option_or}
 use Rattle.bosh_base.specs.declared.call.Call.{Call}
 use Rattle.bosh_base.specs.declared.call.Call.TheVariants.{CreateVm, DeleteVm, CompilePackage}
 use Rattle.bosh_base.specs.declared.digest.Digest.{Digest}
-use Rattle.bosh_base.specs.declared.goal.Goal.{Goal}
 use Rattle.bosh_base.specs.declared.key.Key.{Key}
 use Rattle.bosh_base.specs.declared.key.KeyWork.{KeyWork}
 use Rattle.bosh_base.specs.declared.make.Make.{Make}
 use Rattle.bosh_base.specs.declared.owner.Owner.{Owner}
 use Rattle.bosh_base.specs.declared.owner.Owner.TheVariants.{Compile}
 use Rattle.bosh_base.specs.declared.row.Doubt.{Doubt}
-use Rattle.bosh_progress.specs.Tree.{first_marked}
-use Rattle.bosh_records.specs.Readers.{digest_of, goal_of, is_compiling, machine_at, task_at}
+use Rattle.bosh_records.specs.NextKey.{goal_for, next_key}
+use Rattle.bosh_records.specs.Readers.{digest_of, is_compiling, machine_at}
 use Rattle.bosh_records.specs.declared.machines.Machine.{Machine}
 use Rattle.bosh_records.specs.declared.records.Records.{Records}
 use Rattle.bosh_work.specs.declared.work.Work.{Work}
-
--- the current goal of the deployment of a task
-abbrev pub goal_for : Records → ℕ → Option Goal
-goal_for records task =
-    option_and_then (λ dep. goal_of records dep) (option_and_then (λ row. row.dep) (task_at records task))
 
 -- what a task compiles, by its place among the keys of the goal
 abbrev pub key_at : Records → Work → ℕ → Option KeyWork
@@ -61,15 +55,15 @@ abbrev pub make_for : KeyWork → Make → Make
 make_for key make = record make { os = key.key.os; version = key.key.version }
 
 -- the first key that a slot may take
-abbrev pub next_key : Records → Work → Option KeyWork
-next_key records work = option_and_then (key_at records work) (first_marked work.keys.ready)
+abbrev pub first_key : Records → Work → Option KeyWork
+first_key records work = option_and_then (key_at records work) (next_key records work)
 
 abbrev pub creation_for : Records → Work → ℕ → KeyWork → Option Call
 creation_for records work slot key = option_map (λ make. CreateVm (make_for key make) []) (slot_at records work slot)
 
 -- the call of an idle slot: it makes a machine for the first key that it may take
 abbrev pub creation : Records → Work → ℕ → Option Call
-creation records work slot = option_and_then (creation_for records work slot) (next_key records work)
+creation records work slot = option_and_then (creation_for records work slot) (first_key records work)
 
 -- the call of a slot that has this machine, or none
 abbrev pub call_with : Records → Work → ℕ → Option Machine → Option Call

@@ -28,15 +28,15 @@ is_leave (Some phases.Leave) = true
 is_leave phase = false
 
 -- a group and a place there, where its stage is the present phase
-abbrev pub if_present : Work → ℕ → GroupWork → Option (GroupWork × ℕ)
-if_present work place group = if is_stage (present work) group.stage then Some (group, place) else None
+abbrev pub if_present : Records → Work → ℕ → GroupWork → Option (GroupWork × ℕ)
+if_present records work place group = if is_stage (present records work) group.stage then Some (group, place) else None
 
-abbrev pub at_change : Work → GroupPlace → Option (GroupWork × ℕ)
-at_change work change = option_and_then (if_present work change.place) (slice_get work.groups.items change.group)
+abbrev pub at_change : Records → Work → GroupPlace → Option (GroupWork × ℕ)
+at_change records work change = option_and_then (if_present records work change.place) (slice_get work.groups.items change.group)
 
 -- the group of a changed instance, and its place there, where the stage of the group is the present phase
 abbrev pub of_present : Records → Work → Inst → Option (GroupWork × ℕ)
-of_present records work inst = option_and_then (at_change work) (change_of records inst)
+of_present records work inst = option_and_then (at_change records work) (change_of records inst)
 
 -- no call of the task failed, the update has not begun, and canaries and limit allow it
 abbrev pub begins_in : Work → GroupWork × ℕ → Bool
@@ -75,7 +75,7 @@ ends_update records update = option_map_or (ends_now records update) (work_at re
 -- an obsolete instance has nothing left
 abbrev pub leaves_in : Records → Update → Work → Bool
 leaves_in records update work =
-    is_leave (present work)
+    is_leave (present records work)
     && (is_leaving records work update.inst
     && is_none (step_of records None update.inst))
 

@@ -25,7 +25,7 @@ pub(crate) fn begins(alloc: Global, records: &Records, begin: &Begin) -> Result<
     if work.failed.is_some() || !is_next(begin.n, records.last_call()) {
         return Ok(false);
     }
-    let Some(phase) = present(work) else {
+    let Some(phase) = present(records, work) else {
         return Ok(false);
     };
     let call = call_for(alloc, records, work, phase, &begin.owner)?;

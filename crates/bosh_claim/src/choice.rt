@@ -39,7 +39,7 @@ pub fn choose(alloc: Global, records: &Records, task: u64, worker: u8) -> Result
             Choice::Waits
         });
     }
-    match present(work) {
+    match present(records, work) {
         Some(phase) => or_waits(item(alloc, records, work, worker, phase)),
         None => Ok(Choice::Over),
     }

@@ -1,6 +1,7 @@
 ghost use Rattle.std.specs.Prelude.{◌≡◌, IfOk, OnOk};
 ghost use Rattle.std.specs.Option.{option_copied};
 ghost use Rattle.bosh_base.specs.declared.call.Call.TheVariants as calls;
+ghost use Rattle.bosh_records.specs.NextKey.{next_key};
 ghost use Rattle.bosh_claim.specs.Slot.{call_of_slot, creation, digests_of, key_at, make_for, own_call, slot_at, slot_call};
 
 use crate::ClaimFault;
@@ -10,7 +11,6 @@ use bosh_work::{MachineName, Work};
 use std::alloc::Global;
 
 /// The call for the first slot of a task that is not passed over.
-#[tactic(auto, using(crate::proofs::SlotLemmas::below_more, crate::proofs::SlotLemmas::below_found))]
 pub(crate) fn slot_call(
     alloc: Global,
     records: &Records,
@@ -18,8 +18,22 @@ pub(crate) fn slot_call(
 ) -> Result<Option<(Owner, Call)>, ClaimFault>
     ensures { IfOk result (λ call. call ≡ slot_call records.now work.now) }
 {
+    first_slot_call(alloc, records, work, records.next_key(work))
+}
+
+// The same, with the next key, which is looked for once for all slots.
+#[tactic(auto, using(crate::proofs::SlotLemmas::below_more, crate::proofs::SlotLemmas::below_found))]
+fn first_slot_call(
+    alloc: Global,
+    records: &Records,
+    work: &Work,
+    next: Option<usize>,
+) -> Result<Option<(Owner, Call)>, ClaimFault>
+    requires next { next ≡ next_key records.now work.now }
+    ensures { IfOk result (λ call. call ≡ slot_call records.now work.now) }
+{
     for slot in 0..work.slots {
-        let call = call_of_slot(alloc, records, work, slot)?;
+        let call = call_by(alloc, records, work, slot, next)?;
         if let Some(call) = call {
             return Ok(Some((Owner::Compile(work.task, slot), call)));
         }
@@ -36,13 +50,27 @@ pub(crate) fn call_of_slot(
 ) -> Result<Option<Call>, ClaimFault>
     ensures { IfOk result (λ call. call ≡ call_of_slot records.now work.now slot) }
 {
+    call_by(alloc, records, work, slot, records.next_key(work))
+}
+
+// The same, with the next key.
+fn call_by(
+    alloc: Global,
+    records: &Records,
+    work: &Work,
+    slot: u32,
+    next: Option<usize>,
+) -> Result<Option<Call>, ClaimFault>
+    requires next { next ≡ next_key records.now work.now }
+    ensures { IfOk result (λ call. call ≡ call_of_slot records.now work.now slot) }
+{
     let name = MachineName {
         task: work.task,
         slot,
     };
     match records.machine(name) {
         Some(machine) => own_call(alloc, records, work, machine),
-        None => creation(alloc, records, work, slot),
+        None => creation(alloc, records, work, slot, next),
     }
 }
 
@@ -75,16 +103,14 @@ pub(crate) fn own_call(
 pub(crate) fn work_at<'a>(records: &'a Records, work: &Work, place: usize) -> Option<&'a KeyWork>
     ensures { option_copied result ≡ key_at records.now work.now place }
 {
-    let dep = records.task(work.task)?.dep.as_ref()?;
-    records.goal_of(dep)?.keys.get(place)
+    records.goal_for(work.task)?.keys.get(place)
 }
 
 /// The make of a slot of a task.
 pub(crate) fn slot_at<'a>(records: &'a Records, work: &Work, slot: u32) -> Option<&'a Make>
     ensures { option_copied result ≡ slot_at records.now work.now slot }
 {
-    let dep = records.task(work.task)?.dep.as_ref()?;
-    records.goal_of(dep)?.slots.get(slot as usize)
+    records.goal_for(work.task)?.slots.get(slot as usize)
 }
 
 fn compiling(alloc: Global, records: &Records, vm: u64, key: &KeyWork) -> Result<Call, ClaimFault>
@@ -114,14 +140,12 @@ pub(crate) fn creation(
     records: &Records,
     work: &Work,
     slot: u32,
+    next: Option<usize>,
 ) -> Result<Option<Call>, ClaimFault>
+    requires next { next ≡ next_key records.now work.now }
     ensures { IfOk result (λ call. call ≡ creation records.now work.now slot) }
 {
-    let Some(key) = work
-        .keys
-        .next()
-        .and_then(|place| work_at(records, work, place))
-    else {
+    let Some(key) = next.and_then(|place| work_at(records, work, place)) else {
         return Ok(None);
     };
     let Some(make) = slot_at(records, work, slot) else {

@@ -67,7 +67,7 @@ pub(crate) fn leaves(alloc: Global, records: &Records, update: &Update) -> Resul
     let Some(work) = records.work(update.task) else {
         return Ok(false);
     };
-    if !is_leave(present(work)) || !is_leaving(records, work, &update.inst) {
+    if !is_leave(present(records, work)) || !is_leaving(records, work, &update.inst) {
         return Ok(false);
     }
     has_no_step(alloc, records, None, &update.inst)
@@ -88,8 +88,8 @@ pub(crate) fn ends_task(records: &Records, task: u64) -> bool
         Some(work) => {
             work.failed.is_none()
                 && work.open == 0
-                && present(work).is_none()
-                && work.keys.is_over()
+                && present(records, work).is_none()
+                && work.keys.queue.is_over()
                 && !has_machine(records, dep_of(records, task))
         }
         None => false,

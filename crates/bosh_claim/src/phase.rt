@@ -1,6 +1,7 @@
 ghost use Rattle.std.specs.Prelude.{◌≡◌};
 ghost use Rattle.bosh_claim.specs.Phase.{least_stage, lesser, present};
 
+use bosh_records::Records;
 use bosh_work::{GroupWork, Work};
 
 /// The phases of a task, in their order (bosh.io, "Deploying", for the order of compilation and updates).
@@ -21,8 +22,8 @@ pub enum Phase {
 }
 
 /// The first phase in which something is left to do.
-pub fn present(work: &Work) -> Option<Phase>
-    ensures { result ≡ present work.now }
+pub fn present(records: &Records, work: &Work) -> Option<Phase>
+    ensures { result ≡ present records.now work.now }
 {
     if !work.pings.queue.is_over() {
         return Some(Phase::Ask);
@@ -33,7 +34,7 @@ pub fn present(work: &Work) -> Option<Phase>
     if !work.sweep.queue.is_over() {
         return Some(Phase::Sweep);
     }
-    if work.machines > 0 || (work.slots > 0 && work.keys.next().is_some()) {
+    if work.machines > 0 || (work.slots > 0 && records.next_key(work).is_some()) {
         return Some(Phase::Compile);
     }
     if !work.obsolete.queue.is_over() {

@@ -31,7 +31,7 @@ pub(crate) fn of_present<'a>(
 {
     let change: GroupPlace = records.instance(inst)?.part.change?;
     let group = work.groups.get(change.group)?;
-    if is_stage(present(work), group.stage) {
+    if is_stage(present(records, work), group.stage) {
         Some((group, change.place))
     } else {
         None

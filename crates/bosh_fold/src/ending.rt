@@ -7,7 +7,7 @@ use bosh_base::{Begin, Call, Digest, Key, Owner, TaskEnd};
 use bosh_drops::{let_go, put};
 use bosh_plan::{After, Ended, Told};
 use bosh_records::{Records, Table};
-use bosh_work::{MachineName, Work};
+use bosh_work::{Line, MachineName, Work};
 
 /// A call ends, where it is open.
 pub(crate) fn learn_end(records: &mut Records, ended: Ended)
@@ -175,39 +175,70 @@ fn drop_disk(records: &mut Records, disk: u64)
     }
 }
 
+// No open task has the key left from now on.
 fn compiled(works: &mut Table<u64, Work>, key: &Key) {
-    for place in works.places.values_mut() {
-        if let Some(work) = place {
-            work.keys.compiled(key);
+    let mut last = 0;
+    while let Some(task) = works.next_after(last) {
+        if let Some(work) = thing_mut(works, &task) {
+            finish_key(&mut work.keys, key);
         }
+        last = task;
     }
 }
 
+fn finish_key(keys: &mut Line<Key>, key: &Key) {
+    let place = keys.items.iter().position(|it| it == key);
+    keys.finish(place);
+}
+
+// A compile machine that an earlier task left is not there any more: it is finished in the task that sweeps it.
 fn swept(works: &mut Table<u64, Work>, name: MachineName, at: usize) {
-    for place in works.places.values_mut() {
-        if let Some(work) = place {
-            swept_at(work, name, at);
+    if let Some(task) = sweeper(works, name, at) {
+        if let Some(work) = thing_mut(works, &task) {
+            work.sweep.finish(Some(at));
         }
     }
 }
 
+// The first task that has the machine at a place of those that it sweeps.
+fn sweeper(works: &Table<u64, Work>, name: MachineName, at: usize) -> Option<u64> {
+    for (task, work) in works.iter() {
+        if sweeps(work.as_ref(), name, at) {
+            return Some(*task);
+        }
+    }
+    None
+}
+
+fn sweeps(work: Option<&Work>, name: MachineName, at: usize) -> bool {
+    match work {
+        Some(work) => work.sweep.items.get(at) == Some(&name),
+        None => false,
+    }
+}
+
+// A disk is not there any more: it is finished in the task that deletes it.
 fn deleted(works: &mut Table<u64, Work>, disk: u64, at: usize) {
-    for place in works.places.values_mut() {
-        if let Some(work) = place {
-            deleted_at(work, disk, at);
+    if let Some(task) = deleter(works, disk, at) {
+        if let Some(work) = thing_mut(works, &task) {
+            work.disks.finish(Some(at));
         }
     }
 }
 
-// A compile machine that an earlier task left is not there any more.
-fn swept_at(work: &mut Work, name: MachineName, at: usize) {
-    if work.sweep.items.get(at) == Some(&name) {
-        work.sweep.finish(Some(at));
+// The first task that has the disk at a place of those that it deletes.
+fn deleter(works: &Table<u64, Work>, disk: u64, at: usize) -> Option<u64> {
+    for (task, work) in works.iter() {
+        if deletes(work.as_ref(), disk, at) {
+            return Some(*task);
+        }
     }
+    None
 }
 
-fn deleted_at(work: &mut Work, disk: u64, at: usize) {
-    if work.disks.items.get(at) == Some(&disk) {
-        work.disks.finish(Some(at));
+fn deletes(work: Option<&Work>, disk: u64, at: usize) -> bool {
+    match work {
+        Some(work) => work.disks.items.get(at) == Some(&disk),
+        None => false,
     }
 }

@@ -11,8 +11,8 @@ use Rattle.bosh_base.specs.declared.owner.Owner.TheVariants as owners
 use Rattle.bosh_base.specs.declared.row.Doubt.{Doubt}
 use Rattle.bosh_base.specs.declared.row.Row.{Row}
 use Rattle.bosh_base.specs.declared.snapshot.CompileRow.{CompileRow}
-use Rattle.bosh_progress.specs.Tree.{first_marked}
 use Rattle.bosh_rows.specs.After.{bare, begun_row}
+use Rattle.bosh_records.specs.NextKey as keys
 use Rattle.bosh_records.specs.Readers.{dep_of_task, row_at, work_at}
 use Rattle.bosh_plan.specs.declared.beginning.Subject.{Subject}
 use Rattle.bosh_plan.specs.declared.beginning.Subject.TheVariants as subjects
@@ -32,7 +32,7 @@ row_begun records begin inst = begun_row begin.n begin.call (row_or_bare records
 
 -- the first key that a machine may be made for
 abbrev pub next_key : Records → ℕ → Option ℕ
-next_key records task = option_and_then (λ work. first_marked work.keys.ready) (work_at records task)
+next_key records task = option_and_then (keys.next_key records) (work_at records task)
 
 -- what is recorded of a compile machine that is being made
 abbrev pub compile_row_of : Begin → MachineName → Make → List ℕ → CompileRow

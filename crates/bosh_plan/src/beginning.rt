@@ -135,5 +135,5 @@ fn compile_row(
 fn next_key(records: &Records, task: u64) -> Option<usize>
     ensures { result ≡ next_key records.now task }
 {
-    records.work(task)?.keys.next()
+    records.next_key(records.work(task)?)
 }

@@ -1,11 +1,10 @@
 ghost use Rattle.std.specs.Prelude.{◌≡◌};
 
 use bosh_base::Seq;
-use bosh_progress::{PlaceSet, Queue};
+use bosh_progress::Queue;
 use bosh_records::RecordsFault;
-use bosh_work::{KeyProgress, Line, Work};
+use bosh_work::{Line, Work};
 use std::alloc::Global;
-use std::collections::BTreeMap;
 
 /// Nothing is left to do of a task.
 pub(crate) fn nothing(alloc: Global, task: u64) -> Work
@@ -15,7 +14,7 @@ pub(crate) fn nothing(alloc: Global, task: u64) -> Work
         task,
         pings: empty(alloc),
         sweep: empty(alloc),
-        keys: no_keys(alloc),
+        keys: empty(alloc),
         slots: 0,
         machines: 0,
         obsolete: empty(alloc),
@@ -24,16 +23,6 @@ pub(crate) fn nothing(alloc: Global, task: u64) -> Work
         disks: empty(alloc),
         failed: None,
         open: 0,
-    }
-}
-
-fn no_keys(alloc: Global) -> KeyProgress {
-    KeyProgress {
-        waiting: Vec::new(alloc),
-        left: PlaceSet::empty(),
-        ready: PlaceSet::empty(),
-        places: BTreeMap::new(alloc),
-        needed: BTreeMap::new(alloc),
     }
 }
 

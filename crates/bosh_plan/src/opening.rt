@@ -3,7 +3,7 @@ ghost use Rattle.bosh_records.specs.Arrivals.{arrivals};
 ghost use Rattle.bosh_plan.specs.Opened.{IsOpened, dep_row_of, task_row_of};
 
 use crate::grouping::grouped;
-use crate::key_places::progress;
+use crate::key_places::key_line;
 use crate::lines::{full, nothing};
 use bosh_base::{Copyable, DepRow, Goal, Inst, Name, Seq, TaskKind, TaskOpen, TaskRow, copy_both};
 use bosh_drops::{beside, put};
@@ -88,7 +88,7 @@ fn note_before(records: &Records, work: &mut Work, opening: &TaskOpen) -> Result
     if let Some(goal) = &opening.goal {
         put(
             &mut work.keys,
-            progress(alloc, goal.keys.as_slice(), &records.keys)?,
+            key_line(alloc, goal.keys.as_slice(), &records.keys)?,
         );
         work.slots = u32::try_from(goal.slots.len()).unwrap_or(u32::MAX);
     }

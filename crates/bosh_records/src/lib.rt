@@ -7,6 +7,7 @@ mod fault;
 mod instances;
 mod keys;
 mod machines;
+mod next_key;
 mod orphans;
 mod places;
 mod records;

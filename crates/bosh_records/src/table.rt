@@ -1,8 +1,8 @@
-ghost use Rattle.std.specs.Prelude.{◌≡◌, [], None, Option, Some, IsNone, IsSome, OnErr, OnOk, is_some};
+ghost use Rattle.std.specs.Prelude.{◌≡◌, ◌<◌, [], None, Option, Some, IfSome, IsNone, IsSome, OnErr, OnOk, is_some};
 ghost use Rattle.std.specs.BTreeMap.{IsUnchanged, Updates, btree_map_len, get};
 ghost use Rattle.std.specs.Map.Iter.{ShowsInOrder, deref_pair};
 ghost use Rattle.std.specs.Option.{option_copied};
-ghost use Rattle.bosh_records.specs.Table.{thing_at};
+ghost use Rattle.bosh_records.specs.Table.{next_after, thing_at};
 
 use crate::RecordsFault;
 use std::alloc::Global;
@@ -86,6 +86,21 @@ impl<K: Ord + Drop, V: Drop> Table<K, V> {
         ensures updates { Updates K.cmp self.old.places self.new.places key.now None }
     {
         self.places.remove(key)?
+    }
+}
+
+impl<V: Drop> Table<u64, V> {
+    /// The least number above another one that has a place. It looks through the places, of which open tasks have few.
+    pub fn next_after(&self, last: u64) -> Option<u64>
+        ensures first { result ≡ next_after self.now.places.entries last }
+        ensures above { IfSome result (λ number. last < number) }
+    {
+        for (number, _) in self.places.iter() {
+            if last < *number {
+                return Some(*number);
+            }
+        }
+        None
     }
 }
 

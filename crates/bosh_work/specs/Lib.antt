@@ -1,4 +1,3 @@
-pub mod Keys
 pub mod Line
 pub mod Part
 pub mod Rolling

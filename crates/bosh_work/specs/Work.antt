@@ -5,7 +5,6 @@ use Rattle.std.specs.Option.{option_and_then, option_map_or}
 use Rattle.bosh_base.specs.declared.task.TaskEnd.{TaskEnd}
 use Rattle.bosh_base.specs.declared.task.TaskEnd.TheVariants.{Fault, Gone}
 use Rattle.bosh_progress.specs.declared.rolling.Rolling.{Rolling}
-use Rattle.bosh_work.specs.Keys.{given_key}
 use Rattle.bosh_work.specs.Line.{given_line, taken_line}
 use Rattle.bosh_work.specs.declared.part.GroupPlace.{GroupPlace}
 use Rattle.bosh_work.specs.declared.part.Places.{Places}
@@ -48,7 +47,7 @@ given work places = record work {
 abbrev pub without_machine : Work → Option ℕ → Work
 without_machine work key = record work {
   machines = work.machines - 1;
-  keys = given_key work.keys key;
+  keys = given_line work.keys key;
 }
 
 -- a call failed before another one, or where none has

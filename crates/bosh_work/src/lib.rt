@@ -1,13 +1,11 @@
-//! What is left to do of an open task: which of its items are left, in which order, and how far each of its groups and
-//! keys has come. Plain data, with what is read from it.
+//! What is left to do of an open task: which of its items are left, in which order, and how far each of its groups has
+//! come. Plain data, with what is read from it.
 #![tactic(auto)]
 
-mod key_progress;
 mod line;
 mod part;
 mod work;
 
-pub use key_progress::KeyProgress;
 pub use line::Line;
 pub use part::{GroupPlace, MachineName, Part, Places};
 pub use work::{GroupWork, Work, number};

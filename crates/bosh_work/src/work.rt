@@ -5,8 +5,8 @@ ghost use Rattle.bosh_work.specs.Rolling.{at_change, begun, finished, given, tak
 ghost use Rattle.bosh_work.specs.Work.{failed_by, given as given_at, is_less, number_of, roll_of, taken as taken_at};
 ghost use Rattle.bosh_work.specs.Work.{without_machine};
 
-use crate::{GroupPlace, KeyProgress, Line, MachineName, Places};
-use bosh_base::{Inst, Seq, TaskEnd};
+use crate::{GroupPlace, Line, MachineName, Places};
+use bosh_base::{Inst, Key, Seq, TaskEnd};
 use bosh_progress::Rolling;
 
 /// The changed instances of one group.
@@ -27,7 +27,9 @@ pub struct Work {
     pub pings: Line<Inst>,
     /// The compile machines that an earlier task of the deployment left.
     pub sweep: Line<MachineName>,
-    pub keys: KeyProgress,
+    /// What its goal compiles. A key is left until it is compiled, by whichever task, and taken while a machine of this one
+    /// is for it.
+    pub keys: Line<Key>,
     /// How many compile machines it may have at a time.
     pub slots: u32,
     /// How many of its own compile machines are recorded.

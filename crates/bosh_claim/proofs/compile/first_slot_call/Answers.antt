@@ -1,6 +1,6 @@
 use Rattle.std.proofs.Common.{◌∙◌, sym}
 use Rattle.bosh_claim.proofs.SlotLemmas.{below_found}
-use Rattle.bosh_claim.proofs.compile.slot_call.Goals as goal
+use Rattle.bosh_claim.proofs.compile.first_slot_call.Goals as goal
 
 pub returns-in-Some : goal.returns-in-Some
 returns-in-Some c =
