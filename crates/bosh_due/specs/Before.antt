@@ -1,0 +1,51 @@
+-- What a reply is judged by: what was known and done before its command, and what its own moves made of that (this
+-- project's profile).
+use Rattle.std.specs.Prelude.{ℕ, ◌+◌, Bool, ◌||◌, Option, Some, None, is_some, List, fold, nat_le, if◌then◌else◌}
+use Rattle.std.specs.List.{list_any}
+use Rattle.bosh_base.specs.Cloud.{numbers_to}
+use Rattle.bosh_base.specs.declared.moves.Cause.{Cause}
+use Rattle.bosh_base.specs.declared.moves.Move.{Move}
+use Rattle.bosh_base.specs.declared.moves.Move.TheVariants as moves
+use Rattle.bosh_history.specs.Moments.{Moment, Opening, later, moment}
+use Rattle.bosh_history.specs.Recovered.{is_interruption}
+
+pub record Before : Type 0 where
+  pub moment : Moment
+  -- why the director halted last
+  pub last_halt : Option Cause
+  -- how many entries were noted since the director started
+  pub noted : ℕ
+
+abbrev pub halted_by : Option Cause → Move → Option Cause
+halted_by last (moves.Halt cause) = Some cause
+halted_by last move = last
+
+-- the ends of the tasks that a start found open are a part of the start
+abbrev pub noted_by : ℕ → Move → ℕ
+noted_by count (moves.Note entry) = if is_interruption entry then count else count + 1
+noted_by count (moves.Stop stop) = 0
+noted_by count move = count
+
+-- after moves that go on from an opening pair
+abbrev pub before_of : Opening → List Move → Before
+before_of o said = record {
+  moment = moment o said;
+  last_halt = fold halted_by None said;
+  noted = fold noted_by 0 said;
+}
+
+-- after the moves of the command
+abbrev pub after : Before → List Move → Before
+after b more = record {
+  moment = fold later b.moment more;
+  last_halt = fold halted_by b.last_halt more;
+  noted = fold noted_by b.noted more;
+}
+
+-- 1,000,000 entries were noted since the director started, or 2 ^ 62 calls were made: no more are
+abbrev pub is_full : Before → Bool
+is_full b = nat_le 1000000 b.noted || nat_le 4611686018427387904 b.moment.known.last_call
+
+-- a call is open
+abbrev pub has_open_call : Moment → Bool
+has_open_call m = list_any (λ n. is_some (m.calls n)) (numbers_to m.known.last_call)

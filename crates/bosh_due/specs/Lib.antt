@@ -1,0 +1,17 @@
+pub mod Before
+pub mod Commands
+pub mod Due
+pub mod Ends
+pub mod Files
+pub mod Generating
+pub mod Jobs
+pub mod Listed
+pub mod Openings
+pub mod Outcomes
+pub mod Plans
+pub mod Restarting
+pub mod Serving
+pub mod Together
+pub mod Turns
+pub mod UnderWay
+pub mod Uploads

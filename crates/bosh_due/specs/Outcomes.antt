@@ -1,0 +1,123 @@
+-- What may come of a command: of each kind the moves that it makes, and what it is then told (this project's profile).
+use Rattle.std.specs.Prelude.{◌≡◌, ◌||◌, ℕ, Bool, true, false, eqb, Option, Some, None, List, [], ◌∷◌, codes, decimal, find}
+use Rattle.std.specs.Prelude.{if◌then◌else◌}
+use Rattle.std.specs.List.{list_all}
+use Rattle.std.specs.Option.{unwrap_or}
+use Rattle.bosh_answers.specs.Ends.{told_end, told_halt}
+use Rattle.bosh_base.specs.declared.entry.Entry.{Entry}
+use Rattle.bosh_base.specs.declared.entry.Entry.TheVariants as entries
+use Rattle.bosh_base.specs.declared.entry.TaskOpen.{TaskOpen}
+use Rattle.bosh_base.specs.declared.moves.Cause.{Cause}
+use Rattle.bosh_base.specs.declared.moves.Cause.TheVariants as causes
+use Rattle.bosh_base.specs.declared.moves.Move.{Move}
+use Rattle.bosh_base.specs.declared.moves.Move.TheVariants as moves
+use Rattle.bosh_base.specs.declared.reply.Refusal.{Refusal}
+use Rattle.bosh_base.specs.declared.reply.Reply.{Reply}
+use Rattle.bosh_base.specs.declared.reply.Reply.TheVariants.{Refused}
+use Rattle.bosh_base.specs.declared.task.TaskEnd.{TaskEnd}
+use Rattle.bosh_due.specs.Before.{Before, has_open_call, is_full}
+use Rattle.bosh_history.specs.Held.{is_open}
+use Rattle.bosh_history.specs.Words.{is_among}
+use Rattle.bosh_refusals.specs.Refused.{bare_refusal, refusal_with}
+
+pub data Outcome : Type 0 where
+  -- it is refused, and nothing is done; a refusal that is not told is want of memory, after which no reply comes
+  Refuses : Option Refusal → Outcome
+  -- it is answered, and nothing is done
+  Answers : Reply → Outcome
+  -- an entry is noted, and that is told
+  Notes : Entry → Reply → Outcome
+  -- the cloud is changed, and that is told
+  Changes : Move → Reply → Outcome
+  -- a task opens and is carried to its end
+  Opens : TaskOpen → Outcome
+  -- the director starts anew
+  Restarts : Outcome
+
+-- a director that has halted refuses, for the first time here
+abbrev pub unless_halted : Before → Outcome → Outcome
+unless_halted b outcome =
+    if b.moment.halted then Refuses (Some (bare_refusal (codes "book") (codes "Stopped"))) else outcome
+
+-- ---- halts
+
+-- the director's store failed, or a stop sprang in it
+abbrev pub is_directors : Cause → Bool
+is_directors causes.CloudStore = false
+is_directors cause = true
+
+-- the cloud's store failed
+abbrev pub is_clouds : Cause → Bool
+is_clouds causes.CloudStore = true
+is_clouds cause = false
+
+-- One move is made, and the good reply given; or the store fails in it, which is told.
+abbrev pub Does : (Cause → Bool) → Move → Reply → List Move → Reply → Type 0
+Does halts move good (moves.Halt cause ∷ []) reply = (halts cause ≡ true) × (reply ≡ told_halt cause)
+Does halts move good more reply = (more ≡ move ∷ []) × (reply ≡ good)
+
+-- ---- tasks
+
+-- the entry is work of one of the tasks; the end of a call names no task
+abbrev pub is_work : List ℕ → Entry → Bool
+is_work tasks (entries.Begin it) = is_among eqb it.task tasks
+is_work tasks (entries.End it) = true
+is_work tasks (entries.UpdBegin it) = is_among eqb it.task tasks
+is_work tasks (entries.UpdDone it) = is_among eqb it.task tasks
+is_work tasks (entries.Gone it) = is_among eqb it.task tasks
+is_work tasks (entries.TaskDone task) = is_among eqb task tasks
+is_work tasks (entries.TaskError it) = is_among eqb it.task tasks
+is_work tasks entry = false
+
+-- .. noted, a call that is performed, or a halt
+abbrev pub is_work_move : List ℕ → Move → Bool
+is_work_move tasks (moves.Note entry) = is_work tasks entry
+is_work_move tasks (moves.Did did) = true
+is_work_move tasks (moves.Halt cause) = true
+is_work_move tasks move = false
+
+abbrev pub full_reply : Reply
+full_reply = Refused (bare_refusal (codes "book") (codes "Full"))
+
+abbrev pub locked_reply : ℕ → Reply
+locked_reply task = Refused (refusal_with (codes "book") (codes "Locked") (decimal task))
+
+-- the first of the tasks that has no end waits for the calls of others
+abbrev pub waiting_reply : List ℕ → Before → Reply
+waiting_reply tasks now = locked_reply (unwrap_or (find (is_open now.moment.known) tasks) 0)
+
+-- a task without an end: the director halted in the run, or there was no room, or calls of others are open
+abbrev pub left_reply : List ℕ → Before → Reply
+left_reply tasks now =
+    if now.moment.halted then told_halt (unwrap_or now.last_halt causes.Stop)
+    else if is_full now then full_reply else waiting_reply tasks now
+
+-- how a task of several ended that ran together, or why it has no end
+abbrev pub told_by : Option TaskEnd → List ℕ → Before → ℕ → Reply
+told_by (Some end) tasks now task = told_end task end
+told_by None tasks now task = left_reply tasks now
+
+abbrev pub task_reply : List ℕ → Before → ℕ → Reply
+task_reply tasks now task = told_by (now.moment.known.task task).end tasks now task
+
+-- that a task is left waits for a call that is open
+abbrev pub may_be_left : Before → ℕ → Bool
+may_be_left now task =
+    if is_open now.moment.known task then now.moment.halted || (is_full now || has_open_call now.moment) else true
+
+-- the task that was to open has opened, and its work alone was done since; its end is told
+pub record CarriesOut (due opened : TaskOpen) (run : List Move) (now : Before) (reply : Reply) : Type 0 where
+  pub is_due : opened ≡ due
+  pub is_its_work : list_all (is_work_move (due.task ∷ [])) run ≡ true
+  pub may_end : may_be_left now due.task ≡ true
+  pub told : reply ≡ task_reply (due.task ∷ []) now due.task
+
+abbrev pub CarriesFrom : TaskOpen → Before → Move → List Move → Reply → Type 0
+CarriesFrom due now (moves.Note (entries.TaskOpen opened)) run reply = CarriesOut due opened run now reply
+CarriesFrom due now move run reply = ⊥
+
+-- .. or the store failed as it was to open
+abbrev pub Carries : TaskOpen → Before → List Move → Reply → Type 0
+Carries due now [] reply = ⊥
+Carries due now (moves.Halt cause ∷ []) reply = (is_directors cause ≡ true) × (reply ≡ told_halt cause)
+Carries due now (move ∷ run) reply = CarriesFrom due now move run reply

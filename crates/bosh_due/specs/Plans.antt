@@ -1,0 +1,148 @@
+-- The goal that a task is to open with, over what is known, or the first cause for which it does not open (this
+-- project's profile). The refusals come in this order: what is named is not there; an open task has its lock; there is
+-- no goal; a link would be withdrawn that others use; there would be too many deployments.
+use Rattle.std.specs.Prelude.{◌≡◌, ◌==◌, ◌&&◌, ℕ, Bool, true, false, eqb, List, [], ◌∷◌, find, is_none, map, Option, Some, None, Result, Ok, Err}
+use Rattle.std.specs.Prelude.{if◌then◌else◌}
+use Rattle.std.specs.List.{list_any}
+use Rattle.std.specs.Option.{option_eq}
+use Rattle.std.specs.Str.{bytes_eq}
+use Rattle.bosh_answers.specs.Step.{◌>>=◌}
+use Rattle.bosh_asks.specs.Changed.{is_in}
+use Rattle.bosh_asks.specs.Faults.{answered, name_and_version, of_goal}
+use Rattle.bosh_asks.specs.Goals.{AreSound, nothing, recorded_config}
+use Rattle.bosh_asks.specs.Recorded.{first_consumer, is_full}
+use Rattle.bosh_asks.specs.declared.ask.Deploy.{Deploy}
+use Rattle.bosh_asks.specs.declared.fault.BookFault.{BookFault}
+use Rattle.bosh_asks.specs.declared.fault.BookFault.TheVariants as book
+use Rattle.bosh_base.specs.Cloud.{numbers_to}
+use Rattle.bosh_base.specs.declared.goal.Goal.{Goal}
+use Rattle.bosh_base.specs.declared.inst.Inst.{Inst}
+use Rattle.bosh_base.specs.declared.link.Joint.{Joint}
+use Rattle.bosh_base.specs.declared.release.Release.{Release}
+use Rattle.bosh_base.specs.declared.snapshot.DepRow.{DepRow}
+use Rattle.bosh_goal.specs.Anew.{anew}
+use Rattle.bosh_goal.specs.Goal.{IsGoal}
+use Rattle.bosh_goal.specs.declared.change.Change.{Change}
+use Rattle.bosh_history.specs.Held.{is_open, view}
+use Rattle.bosh_history.specs.Known.{Known}
+use Rattle.bosh_history.specs.Snapshots.{dep_row}
+use Rattle.bosh_history.specs.Words.{is_among}
+use Rattle.bosh_manifest_names.specs.declared.fault.GoalFault.{GoalFault}
+
+-- a goal, or none where disks alone are deleted
+abbrev pub Plan : Type 0
+Plan = Result (Option Goal) BookFault
+
+-- ---- what may stand against it
+
+-- the first open task that has the lock of a deployment, or that of the tasks that delete disks
+abbrev pub lock_holder : Known → Option (List ℕ) → Option ℕ
+lock_holder k dep = find (λ t. is_open k t && option_eq bytes_eq (k.task t).dep dep) (numbers_to k.tasks)
+
+abbrev pub unlocked : Option ℕ → Result Bool BookFault
+unlocked (Some task) = Err (book.Locked task)
+unlocked None = Ok true
+
+-- no open task has the lock
+abbrev pub free : Known → Option (List ℕ) → Result Bool BookFault
+free k dep = unlocked (lock_holder k dep)
+
+abbrev pub current : List ℕ → Option Goal → Result Goal BookFault
+current dep (Some goal) = Ok goal
+current dep None = Err (book.NoDeployment dep)
+
+-- the current goal of a deployment that is recorded
+abbrev pub goal_of : Known → List ℕ → Result Goal BookFault
+goal_of k dep = current dep (k.goal dep)
+
+abbrev pub wanting : Inst → Goal → Result Goal BookFault
+wanting inst goal = if is_in goal inst then Ok goal else Err (book.NoInstance inst)
+
+-- what is recorded of the deployments, in their order
+abbrev pub dep_rows : Known → List (List ℕ × Option DepRow)
+dep_rows k = map (λ dep. (dep, dep_row k dep)) k.deployments
+
+-- the first consumer, of another deployment, of a link that the goal withdraws
+abbrev pub consumer : Known → Goal → Option Joint
+consumer k goal = first_consumer goal (dep_rows k)
+
+abbrev pub unconsumed : Option Joint → Result Bool BookFault
+unconsumed (Some by) = Err (book.Consumed by)
+unconsumed None = Ok true
+
+-- the deployment is not recorded, and as many are as there may be
+abbrev pub lacks_room : Known → List ℕ → Bool
+lacks_room k dep = is_none (k.goal dep) && is_full (dep_rows k)
+
+-- a row has the disk
+abbrev pub is_owned : Known → ℕ → Bool
+is_owned k disk = list_any (λ i. list_any (λ it. it.disk == disk) (k.row i).disks) k.instances
+
+abbrev pub orphaned : Known → ℕ → Result Bool BookFault
+orphaned k disk =
+    if is_among eqb disk k.orphans then Ok true
+    else if is_owned k disk then Err (book.NotOrphaned disk) else Err (book.NoDisk disk)
+
+-- ---- goals
+
+-- the current goal of its deployment with an instance changed
+abbrev pub altered : Known → Inst → Change → Plan
+altered k inst change = do
+  whole ← goal_of k inst.dep
+  goal ← wanting inst whole
+  unheld ← free k (Some inst.dep)
+  made ← answered (anew inst change (recorded_config k.config) (view k inst.dep) goal)
+  Ok (Some made)
+
+-- nothing is wanted of a deployment that is deleted
+abbrev pub deleted : Known → List ℕ → Plan
+deleted k dep = do
+  whole ← goal_of k dep
+  unheld ← free k (Some dep)
+  unused ← unconsumed (consumer k (nothing dep))
+  Ok (Some (nothing dep))
+
+-- an orphaned disk is deleted, or all of them
+abbrev pub disk_deleted : Known → ℕ → Plan
+disk_deleted k disk = do
+  there ← orphaned k disk
+  unheld ← free k None
+  Ok None
+
+abbrev pub cleaned_up : Known → Plan
+cleaned_up k = do
+  unheld ← free k None
+  Ok None
+
+-- ---- deploys
+
+-- the releases that are recorded are no good: the last one is named
+abbrev pub unsound : List Release → BookFault
+unsound [] = book.Memory
+unsound (r ∷ []) = book.Differs (name_and_version r.name r.version)
+unsound (r ∷ rs) = unsound rs
+
+-- the goal of the manifest over what is recorded, or why there is none
+pub record Gives (k : Known) (it : Deploy) (answer : Result Goal GoalFault) : Type 0 where
+  pub is_free : lock_holder k (Some it.manifest.name) ≡ None
+  pub sound : AreSound k.releases
+  pub goal :
+      IsGoal it.manifest (recorded_config k.config) k.releases k.stemcells (view k it.manifest.name) it.recreate answer
+
+pub data PlansDeploy (k : Known) (it : Deploy) (plan : Plan) : Type 0 where
+  locked :
+      (task : ℕ) → lock_holder k (Some it.manifest.name) ≡ Some task → plan ≡ Err (book.Locked task) →
+      PlansDeploy k it plan
+  differs :
+      lock_holder k (Some it.manifest.name) ≡ None → ¬ AreSound k.releases → plan ≡ Err (unsound k.releases) →
+      PlansDeploy k it plan
+  no_goal : (fault : GoalFault) → Gives k it (Err fault) → plan ≡ Err (of_goal fault) → PlansDeploy k it plan
+  consumed :
+      (goal : Goal) (by : Joint) → Gives k it (Ok goal) → consumer k goal ≡ Some by → plan ≡ Err (book.Consumed by) →
+      PlansDeploy k it plan
+  too_many :
+      (goal : Goal) → Gives k it (Ok goal) → consumer k goal ≡ None → lacks_room k it.manifest.name ≡ true →
+      plan ≡ Err book.Limit → PlansDeploy k it plan
+  planned :
+      (goal : Goal) → Gives k it (Ok goal) → consumer k goal ≡ None → lacks_room k it.manifest.name ≡ false →
+      plan ≡ Ok (Some goal) → PlansDeploy k it plan

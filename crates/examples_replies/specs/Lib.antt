@@ -1,0 +1,9 @@
+pub mod Asked
+pub mod AtOnce
+pub mod Kept
+pub mod Openings
+pub mod Others
+pub mod Releases
+pub mod Replies
+pub mod Scenes
+pub mod Stemcells

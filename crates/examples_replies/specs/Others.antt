@@ -1,0 +1,36 @@
+-- Tasks that ran together, a director without room, and what was under way.
+use Rattle.std.specs.Prelude.{◌≡◌, ℕ, List, []}
+use Rattle.bosh_base.specs.declared.reply.Reply.{Reply}
+use Rattle.bosh_due.specs.Due.{DueAt, DueBy}
+use Rattle.bosh_due.specs.Together.{Running, by_end}
+use Rattle.bosh_history.specs.Moments.{Moment}
+use Rattle.bosh_line_words.specs.declared.fault.LineFault.{LineFault}
+use Rattle.bosh_lines.specs.declared.command.Command.{Command}
+use Rattle.bosh_base.specs.declared.entry.Entry.{Entry}
+use Rattle.bosh_base.specs.declared.moves.Stop as stop
+use Rattle.examples_histories.specs.Scenes.{Builder, History}
+use Rattle.examples_replies.specs.Scenes.{no_files, start}
+use Rattle.std.specs.Prelude.{Option, Err}
+
+abbrev pub runs : ℕ → ℕ → Running
+runs number task = record { number = number; task = task }
+
+abbrev pub AreToldSo : List Running → History → List Running → Type 0
+AreToldSo running history told = (built : Builder) → by_end running (history built) ≡ told
+
+-- a director that noted so many entries since it started answers so
+abbrev pub TellsAfter : ℕ → Moment → Command → Reply → Type 0
+TellsAfter noted m command reply = DueBy (start m noted) no_files command [] reply
+
+abbrev pub NeverTellsAfter : ℕ → Moment → Command → Reply → Type 0
+NeverTellsAfter noted m command reply = DueBy (start m noted) no_files command [] reply → ⊥
+
+-- a line that is no command is answered so
+abbrev pub TellsLine : Moment → LineFault → Reply → Type 0
+TellsLine m fault reply = DueAt (start m 0) no_files (Err fault) [] reply
+
+abbrev pub NeverTellsLine : Moment → LineFault → Reply → Type 0
+NeverTellsLine m fault reply = DueAt (start m 0) no_files (Err fault) [] reply → ⊥
+
+abbrev pub found : Option Entry → Option Entry → stop.Stop
+found kept wrote = record { kept = kept; took = []; wrote = wrote }

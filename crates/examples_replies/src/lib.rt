@@ -1,0 +1,24 @@
+//! Worked replies over worked histories: a right one is due, and wrong ones are not.
+#![tactic(auto)]
+
+mod asked;
+mod files;
+mod jobs;
+mod listings;
+mod others;
+mod releases;
+mod restarts;
+mod tasks;
+mod together;
+mod uploads;
+
+pub use asked::recreations_are_asked;
+pub use files::{configs_are_told, files_are_kept, files_are_looked_for_first};
+pub use jobs::{disks_are_written_and_read, machines_are_lost_and_shown};
+pub use listings::{instances_are_listed, records_are_listed, the_cloud_is_listed};
+pub use others::{lines_and_room_are_told, stops_find_what_was_asked, tasks_are_told_by_end};
+pub use releases::releases_are_told;
+pub use restarts::restarts_are_told;
+pub use tasks::{clean_ups_are_told, deploys_are_told, tasks_are_refused_in_order};
+pub use together::tasks_open_in_order;
+pub use uploads::stemcells_are_told;

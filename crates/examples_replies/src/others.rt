@@ -1,0 +1,41 @@
+ghost use Rattle.std.specs.Prelude.{◌∷◌, [], Some, None, codes};
+ghost use Rattle.bosh_base.specs.declared.reply.Reply.TheVariants as replies;
+ghost use Rattle.bosh_due.specs.UnderWay.{FindsAsked};
+ghost use Rattle.bosh_due.specs.UnderWay.UnderWay.{changing, noting, working};
+ghost use Rattle.bosh_line_words.specs.declared.fault.LineFault.TheVariants as lines;
+ghost use Rattle.bosh_lines.specs.declared.command.Command.TheVariants as commands;
+ghost use Rattle.examples_histories.specs.Scenes.{config, prepared, upd_begin, write, written};
+ghost use Rattle.examples_histories.specs.Together.{together};
+ghost use Rattle.examples_histories.specs.Values.{web};
+ghost use Rattle.examples_replies.specs.Others.{AreToldSo, NeverTellsAfter, NeverTellsLine, TellsAfter, TellsLine, found, runs};
+ghost use Rattle.examples_replies.specs.Replies.{bare, naming};
+
+/// Tasks that ran together are told as they ended, and then those that have no end.
+pub fn tasks_are_told_by_end()
+    ensures order { AreToldSo (runs 5 1 ∷ runs 6 2 ∷ []) together (runs 6 2 ∷ runs 5 1 ∷ []) }
+    ensures left { AreToldSo (runs 4 9 ∷ runs 5 1 ∷ runs 6 8 ∷ []) together (runs 5 1 ∷ runs 4 9 ∷ runs 6 8 ∷ []) }
+{}
+
+/// A director without room opens no task, and a line that is no command is told first.
+pub fn lines_and_room_are_told()
+    ensures full { TellsAfter 1000000 prepared commands.CleanUp (bare (codes "book") (codes "Full")) }
+    ensures not_full { NeverTellsAfter 999999 prepared commands.CleanUp (bare (codes "book") (codes "Full")) }
+    ensures named_first { TellsAfter 1000000 prepared (commands.DeleteDeployment (codes "dep"))
+        (naming (codes "book") (codes "NoDeployment") (codes "dep")) }
+    ensures no_command { TellsLine prepared lines.UnknownCommand (bare (codes "lines") (codes "UnknownCommand")) }
+    ensures no_other { NeverTellsLine prepared lines.UnknownCommand replies.Nothing }
+    ensures no_memory { NeverTellsLine prepared lines.Memory (bare (codes "lines") (codes "Memory")) }
+{}
+
+/// A stop finds only what was under way.
+pub fn stops_find_what_was_asked()
+    ensures wrote { FindsAsked (changing (written (web 0) (codes "hello")))
+        (found None (Some (write 1 (codes "hello")))) }
+    ensures other_text { FindsAsked (changing (written (web 0) (codes "hello")))
+        (found None (Some (write 1 (codes "world")))) → ⊥ }
+    ensures kept { FindsAsked (noting config) (found (Some config) None) }
+    ensures not_written { FindsAsked (noting config) (found None (Some (write 1 (codes "hello")))) → ⊥ }
+    ensures work { FindsAsked (working (1 ∷ [])) (found (Some (upd_begin 1 (web 0))) None) }
+    ensures other_task { FindsAsked (working (1 ∷ [])) (found (Some (upd_begin 2 (web 0))) None) → ⊥ }
+    ensures not_work { FindsAsked (working (1 ∷ [])) (found (Some config) None) → ⊥ }
+{}
