@@ -34,6 +34,7 @@ use Rattle.bosh_rows.specs.CallOf.{call_of, next_call}
 use Rattle.bosh_rows.specs.Disks.{is_detached}
 use Rattle.bosh_rows.specs.NextStep.{plain}
 use Rattle.bosh_rows.specs.Tied.{as_done, has_facts, is_spoiled, is_tied_to, is_tied_to_lost, number_of, without_doubt}
+use Rattle.laws_kept_facts.proofs.NeededLemmas.{unlost_without}
 
 -- a call that leaves a doubt is of a row that has none, or is the deletion of a lost machine
 abbrev pub BeginsSo : Row → Call → Type 0
@@ -129,14 +130,7 @@ other_make xs row make facts known none = record {
     created = created_parts xs row facts.created
 
     found : row.lost ≡ false
-    found =
-        by_lost row.lost
-        (and_parts (implies row.lost false) _ (sym (ap (λ o. implies row.lost (is_some o)
-        && (is_some o || list_all (λ d. not d.attached && not d.mounted) row.disks)) none) ∙ facts.has_machine)).0
-      where
-        by_lost : (b : Bool) → implies b false ≡ true → b ≡ false
-        by_lost true is = sym is
-        by_lost false is = refl
+    found = unlost_without row facts.has_machine none
 
     tied : IsTiedTo xs row
     tied = tied-known xs row facts.tied found (λ i. is_spoiled xs (record row { vm = none i })) known

@@ -24,7 +24,7 @@ use Rattle.laws_rows.specs.SoundDisks.{is_recorded}
 use Rattle.bosh_rows.specs.After.{attach, begun_row, changing, let_go, without_machine}
 use Rattle.bosh_rows.specs.Tied.{as_done, number_of, without_doubt}
 use Rattle.laws_answered_rows.proofs.AgreedLemmas.{agreed_attach, agreed_detach}
-use Rattle.laws_answered_rows.proofs.HeldLemmas.{held_from, is_agreed, is_agreed_there, known_held}
+use Rattle.laws_answered_rows.proofs.HeldLemmas.{held_as, held_from, is_agreed, is_agreed_there, known_held}
 use Rattle.laws_answered_rows.proofs.KeepsLemmas.{KeptBy, kept_by_change}
 use Rattle.laws_answered_rows.proofs.MadeHeldLemmas.{agreed_made, agreed_more, agreed_none, made_free, new_holds_none}
 
@@ -35,19 +35,14 @@ Holds xs row = holds_its_disks xs row ≡ true
 pub held_done : (ys : List Entry) (row : Row) →
     ((it : Vm) → row.vm ≡ Some it → is_agreed_there ys (as_done ys row).disks it.vm ≡ true) → Holds ys row
 held_done ys row each =
-    or_right row.lost (list_all (is_held_as_settled ys row) (number_of row.vm)) (by_vm row.vm refl)
+    held_as ys row
+    (λ it has. by_truth (is_vm_there ys it.vm) (holds_what_is_attached ys (without_doubt row) it.vm)
+    (holds_what_is_attached ys (as_done ys row) it.vm) (each it has))
   where
     by_truth : (t a b : Bool) → (not t || b) ≡ true → (not t || (a || b)) ≡ true
     by_truth true true b is = refl
     by_truth true false b is = is
     by_truth false a b is = refl
-
-    by_vm : (o : Option Vm) → row.vm ≡ o → list_all (is_held_as_settled ys row) (number_of o) ≡ true
-    by_vm (Some it) has =
-        and_from (is_held_as_settled ys row it.vm) true
-        (by_truth (is_vm_there ys it.vm) (holds_what_is_attached ys (without_doubt row) it.vm)
-        (holds_what_is_attached ys (as_done ys row) it.vm) (each it has)) refl
-    by_vm None has = refl
 
 -- what holds of its machine holds of whatever it has as its machine
 pub of_vm : (xs : List Entry) (o : Option Vm) (it : Vm) (ds : List DiskRow) → o ≡ Some it →

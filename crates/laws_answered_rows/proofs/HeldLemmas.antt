@@ -35,23 +35,28 @@ is_agreed xs ds v =
 abbrev pub is_agreed_there : List Entry → List DiskRow → ℕ → Bool
 is_agreed_there xs ds v = not (is_vm_there xs v) || is_agreed xs ds v
 
+-- where its machine is there, it holds what is recorded, with the doubt or without it
+pub held_as : (ys : List Entry) (row : Row) →
+    ((it : Vm) → row.vm ≡ Some it → is_held_as_settled ys row it.vm ≡ true) → holds_its_disks ys row ≡ true
+held_as ys row each =
+    or_right row.lost (list_all (is_held_as_settled ys row) (number_of row.vm)) (by_vm row.vm refl)
+  where
+    by_vm : (o : Option Vm) → row.vm ≡ o → list_all (is_held_as_settled ys row) (number_of o) ≡ true
+    by_vm (Some it) has = and_from (is_held_as_settled ys row it.vm) true (each it has) refl
+    by_vm None has = refl
+
 -- it does, from what holds without the doubt
 pub held_from : (ys : List Entry) (row : Row) →
     ((it : Vm) → row.vm ≡ Some it → is_agreed_there ys row.disks it.vm ≡ true) → holds_its_disks ys row ≡ true
 held_from ys row each =
-    or_right row.lost (list_all (is_held_as_settled ys row) (number_of row.vm)) (by_vm row.vm refl)
+    held_as ys row
+    (λ it has. by_truth (is_vm_there ys it.vm) (holds_what_is_attached ys (without_doubt row) it.vm)
+    (holds_what_is_attached ys (as_done ys row) it.vm) (each it has))
   where
     by_truth : (t a b : Bool) → (not t || a) ≡ true → (not t || (a || b)) ≡ true
     by_truth true true b is = refl
     by_truth true false b is = absurd cc
     by_truth false a b is = refl
-
-    by_vm : (o : Option Vm) → row.vm ≡ o → list_all (is_held_as_settled ys row) (number_of o) ≡ true
-    by_vm (Some it) has =
-        and_from (is_held_as_settled ys row it.vm) true
-        (by_truth (is_vm_there ys it.vm) (holds_what_is_attached ys (without_doubt row) it.vm)
-        (holds_what_is_attached ys (as_done ys row) it.vm) (each it has)) refl
-    by_vm None has = refl
 
 -- .. and what it says where nothing is in doubt
 pub known_held : (xs : List Entry) (row : Row) (it : Vm) → row.lost ≡ false → row.vm ≡ Some it → row.doubt ≡ None →

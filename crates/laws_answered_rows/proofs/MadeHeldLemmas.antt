@@ -22,7 +22,7 @@ use Rattle.laws_rows.proofs.DiskTieLemmas.{holder-after}
 use Rattle.laws_rows.proofs.FilterLemmas.{filter_more, numbers-more}
 use Rattle.laws_rows.proofs.ListLemmas.{all_from}
 use Rattle.laws_rows.proofs.MakeTieLemmas.{all_more, filter_none, others_more, places-made}
-use Rattle.laws_rows.proofs.NumberLemmas.{kept_number, kept_passes}
+use Rattle.laws_rows.proofs.NumberLemmas.{all_kept, kept_number, kept_passes}
 use Rattle.laws_rows.proofs.SteadyLemmas.{IsTiedTo}
 use Rattle.laws_rows.proofs.TieLemmas.{is_held_by, of_row, with_call}
 use Rattle.laws_rows.proofs.WholeTieLemmas.{placed-so, truth-same}
@@ -61,8 +61,8 @@ agreed_more xs v ds new off free agreed =
     (others_more (is_holder xs v) (is_on ds) (is_on (ds ++ new ∷ [])) (numbers_to (disks_created xs))
     (λ k is. on_more ds new k is) parts.1)
 
--- a disk that is not recorded is on no machine that holds just what is recorded
-on_recorded : (ds : List DiskRow) (k : ℕ) → is_on ds k ≡ true → is_recorded ds k ≡ true
+-- a disk that is on is recorded
+pub on_recorded : (ds : List DiskRow) (k : ℕ) → is_on ds k ≡ true → is_recorded ds k ≡ true
 on_recorded [] k is = absurd cc
 on_recorded (d ∷ ds) k is = by_first (on_recorded ds k) (d.disk == k) d.attached is
   where
@@ -71,18 +71,7 @@ on_recorded (d ∷ ds) k is = by_first (on_recorded ds k) (d.disk == k) d.attach
     by_first others true on is = refl
     by_first others false on is = others is
 
-listed_holds : (r : ℕ → Bool) (ks : List ℕ) (k : ℕ) → list_all r ks ≡ true → list_any (λ j. j == k) ks ≡ true →
-    r k ≡ true
-listed_holds r [] k all is = absurd cc
-listed_holds r (j ∷ ks) k all is =
-    let parts : (r j ≡ true) × (list_all r ks ≡ true) = and_parts (r j) (list_all r ks) all in
-    by_first (j == k) refl parts.0 (listed_holds r ks k parts.1) is
-  where
-    by_first : (b : Bool) → (j == k) ≡ b → r j ≡ true → (list_any (λ j. j == k) ks ≡ true → r k ≡ true) →
-        (b || list_any (λ j. j == k) ks) ≡ true → r k ≡ true
-    by_first true same holds others is = ap r (sym (eqb-true j k same)) ∙ holds
-    by_first false other holds others is = others is
-
+-- a disk that is not recorded is on no machine that holds just what is recorded
 pub unheld : (xs : List Entry) (v : ℕ) (ds : List DiskRow) (k : ℕ) → is_agreed xs ds v ≡ true →
     is_disk_there xs k ≡ true → is_recorded ds k ≡ false → is_holder xs v k ≡ false
 unheld xs v ds k agreed there fresh = by_truth (is_holder xs v k) refl
@@ -97,7 +86,7 @@ unheld xs v ds k agreed there fresh = by_truth (is_holder xs v k) refl
         (and_parts (list_all (λ d. same_truth (is_holder xs v d.disk) d.attached) ds)
         (list_all (is_on ds) (attached_to xs v)) agreed).1 in
         let on : is_on ds k ≡ true =
-        listed_holds (is_on ds) (attached_to xs v) k all
+        all_kept (is_on ds) (attached_to xs v) k all
         (kept_number (is_holder xs v) (disks_created xs) k within.first within.last is) in
         let recorded : is_recorded ds k ≡ true = on_recorded ds k on in cc)
 

@@ -8,40 +8,33 @@ use Rattle.bosh_base.specs.declared.call.Call.{Call}
 use Rattle.bosh_base.specs.declared.goal.GoalRow.{GoalRow}
 use Rattle.bosh_base.specs.declared.row.Row.{Row}
 use Rattle.laws_rows.proofs.ListLemmas.{least_none}
-use Rattle.laws_rows.proofs.StepCases.{Cases}
+use Rattle.laws_rows.proofs.StepCases.{Cases, is_tending, telling_cases}
 use Rattle.bosh_rows.specs.After.{after, begun_row}
 use Rattle.bosh_rows.specs.CallOf.{next_call}
 use Rattle.laws_kept_facts.proofs.BareLemmas.{LeavesBare, after_bare}
 use Rattle.laws_kept_facts.proofs.CallCases.{AllCases, by_all}
 use Rattle.laws_row_facts.specs.Rows.{is_deleted_bare}
+use Rattle.bosh_base.specs.declared.call.Call.TheVariants as calls
 
 -- each call of a known row
 known_bare : (want : Option GoalRow) (row : Row) (n : ℕ) → row.doubt ≡ None →
     Cases (λ call. LeavesBare n call row) want row
-known_bare want row n known = record {
-  remove_drain = λ it has away runs off. tt;
-  remove_stop = λ it has away runs off. tt;
-  remove_unmount = λ it d has away rests first. tt;
-  remove_detach = λ it d has away rests none first. tt;
-  remove_delete = λ it has away rests none too.
-      or_right row.lost (list_all (λ d. not d.attached) row.disks) (least_none (λ d. d.attached) row.disks too);
-  create = λ w wants none here. tt;
-  tend_drain = λ w it wants has stays runs halts off. tt;
-  tend_stop = λ w it wants has stays runs halts off. tt;
-  clear_unmount = λ w it d wants tended first. tt;
-  clear_detach = λ w it d wants tended none first. tt;
-  release_unmount = λ w it d wants cleared nothing first. tt;
-  release_detach = λ w it d wants cleared nothing none first. tt;
-  provide = λ w it wanted wants cleared disk none. tt;
-  place_attach = λ w it wanted old wants cleared disk was off. tt;
-  place_mount = λ w it wanted old wants cleared disk was on off. tt;
-  replace_create = λ w it wanted old wants replaced none. tt;
-  replace_attach = λ w it wanted old new wants replaced comes off. tt;
-  replace_mount = λ w it wanted old new wants replaced comes on off. tt;
-  replace_migrate = λ w it wanted old new wants replaced comes on up. known;
-  apply = λ w it wants cleared differs. tt;
-  start = λ w it wants cleared disks spec runs rests. tt;
-}
+known_bare want row n known =
+    telling_cases (λ call. LeavesBare n call row) want row tends
+    (λ it has off. or_right row.lost (list_all (λ d. not d.attached) row.disks) (least_none (λ d. d.attached) row.disks off))
+    (λ w wants none. tt) (λ v old new. known)
+  where
+    tends : (call : Call) → is_tending call ≡ true → LeavesBare n call row
+    tends (calls.CreateDisk wanted v) is = tt
+    tends (calls.AttachDisk v d) is = tt
+    tends (calls.DetachDisk v d) is = tt
+    tends (calls.Apply v spec) is = tt
+    tends (calls.Start v) is = tt
+    tends (calls.Drain v) is = tt
+    tends (calls.Stop v) is = tt
+    tends (calls.MountDisk v d) is = tt
+    tends (calls.UnmountDisk v d) is = tt
+    tends call is = absurd cc
 
 -- each call of a row
 all_bare : (want : Option GoalRow) (row : Row) (n : ℕ) → is_deleted_bare row ≡ true →

@@ -1,7 +1,8 @@
 -- A row has a machine where it is lost, and no disk is attached where it has none, after each call.
-use Rattle.std.proofs.Common.{◌≡◌, ℕ, Bool, true, false, Option, Some, None, List, [], ◌∷◌, ◌++◌, refl, ap}
+use Rattle.std.proofs.Common.{◌≡◌, ◌∙◌, ℕ, Bool, true, false, Option, Some, None, List, [], ◌∷◌, ◌++◌, refl, sym, ap}
 use Rattle.std.specs.Prelude.{◌&&◌, ◌||◌, not, is_some, map, if◌then◌else◌}
 use Rattle.std.specs.List.{list_all}
+use Rattle.std.proofs.lemmas.Bool.{and_parts}
 use Rattle.bosh_base.specs.declared.answer.Answer.{Answer}
 use Rattle.bosh_base.specs.declared.answer.Answer.TheVariants as answers
 use Rattle.bosh_base.specs.declared.call.Call.{Call}
@@ -35,6 +36,17 @@ more_off (x ∷ xs) new off all = by_first (more_off xs new off) (is_off x) all
         (b && list_all is_off xs) ≡ true → (b && list_all is_off (xs ++ new ∷ [])) ≡ true
     by_first others true all = others all
     by_first others false all = absurd cc
+
+-- a row without a machine is not lost
+pub unlost_without : (row : Row) → has_machine_as_needed row ≡ true → row.vm ≡ None → row.lost ≡ false
+unlost_without row needed none =
+    by_lost row.lost
+    (and_parts (implies row.lost false) _ (sym (ap (λ o. implies row.lost (is_some o)
+    && (is_some o || list_all is_off row.disks)) none) ∙ needed)).0
+  where
+    by_lost : (b : Bool) → implies b false ≡ true → b ≡ false
+    by_lost true is = sym is
+    by_lost false is = refl
 
 -- with a machine nothing is asked
 served : (lost some rest : Bool) → some ≡ true → (implies lost some && (some || rest)) ≡ true

@@ -22,21 +22,9 @@ use Rattle.bosh_rows.specs.Standing.{same_truth}
 use Rattle.bosh_rows.specs.Tied.{as_done, number_of, without_doubt}
 use Rattle.laws_kept_facts.proofs.CallCases.{Doubts}
 use Rattle.laws_kept_facts.proofs.RoomyLemmas.{held, held_attached, held_changing}
+use Rattle.laws_rows.proofs.NumberLemmas.{any_passes}
 
 -- ---- the disks that a machine tells of
-
-any_passes : (p : ℕ → Bool) (k : ℕ) (ks : List ℕ) → list_any (λ j. j == k) (filter p ks) ≡ true → p k ≡ true
-any_passes p k [] is = absurd cc
-any_passes p k (x ∷ xs) is = by_test (any_passes p k xs) (p x) refl is
-  where
-    by_test : (list_any (λ j. j == k) (filter p xs) ≡ true → p k ≡ true) → (b : Bool) → p x ≡ b →
-        list_any (λ j. j == k) (if b then x ∷ filter p xs else filter p xs) ≡ true → p k ≡ true
-    by_test others true passes is = by_first (x == k) refl is
-      where
-        by_first : (b : Bool) → (x == k) ≡ b → (b || list_any (λ j. j == k) (filter p xs)) ≡ true → p k ≡ true
-        by_first true same is = ap p (sym (eqb-true x k same)) ∙ passes
-        by_first false other is = others is
-    by_test others false passes is = others is
 
 -- no more are attached than as another change has it
 held_maps : (f g : DiskRow → DiskRow) (xs : List DiskRow) →

@@ -7,7 +7,7 @@ use Rattle.bosh_base.specs.declared.entry.Entry.{Entry}
 use Rattle.bosh_base.specs.declared.entry.Entry.TheVariants.{Lost}
 use Rattle.bosh_base.specs.declared.row.Role.TheVariants.{Active}
 use Rattle.bosh_base.specs.declared.row.Row.{Row}
-use Rattle.laws_rows.specs.RowExample.{for_web, web}
+use Rattle.laws_rows.specs.RowExample.{attaching, for_web}
 
 -- machine 1 and disk 1 were made, the disk was never attached, and the agent of the machine does not answer any more
 abbrev pub silenced : List Entry
@@ -19,16 +19,7 @@ silenced =
 
 -- the machine is silent, which nobody noticed, its deletion is in doubt, and the disk is recorded as attached to it
 abbrev pub deleting : Row
-deleting = record {
-  inst = web;
-  make = Some small;
-  vm = Some (record { vm = 1; agent = 1 });
-  spec = None;
-  running = false;
-  drained = false;
-  disks =
-      record { disk = 1; tag = 2; want = ten; role = Active; attached = true; mounted = false }
-      ∷ [];
+deleting = record attaching {
+  disks = record { disk = 1; tag = 2; want = ten; role = Active; attached = true; mounted = false } ∷ [];
   doubt = Some (record { n = 3; call = DeleteVm 1 });
-  lost = false;
 }

@@ -19,8 +19,9 @@ start_cloud = record {
   held_by_own = λ d v is. absurd cc;
 }
 
-pub start_row : (i : Inst) → RowFacts [] (bare i)
-start_row i = record {
+-- a bare row has the facts where it is tied
+pub bare_row : (xs : List Entry) (i : Inst) → is_tied_row xs (bare i) ≡ true → RowFacts xs (bare i)
+bare_row xs i tied = record {
   doubt_fits = refl;
   has_machine = refl;
   sound_disks = refl;
@@ -28,10 +29,13 @@ start_row i = record {
   deleted_bare = refl;
   in_order = refl;
   created = refl;
-  tied = refl;
+  tied = tied;
   holds_disks = refl;
   lost_silent = refl;
 }
+
+pub start_row : (i : Inst) → RowFacts [] (bare i)
+start_row i = bare_row [] i refl
 
 -- what meets the tests has the facts
 pub tested_row : (xs : List Entry) (row : Row) → are_row_facts xs row ≡ true → RowFacts xs row

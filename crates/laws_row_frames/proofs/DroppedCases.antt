@@ -34,6 +34,7 @@ use Rattle.laws_row_frames.proofs.FrameLemmas.{disk_of}
 use Rattle.laws_row_frames.proofs.LeavingLemmas.{goes_off, off_none}
 use Rattle.laws_row_frames.proofs.OthersLemmas.{made_by, owner_of}
 use Rattle.laws_row_frames.specs.Updates.{is_let_go_of}
+use Rattle.laws_row_facts.proofs.StartLemmas.{bare_row}
 
 -- ---- a disk that is not attached
 
@@ -130,20 +131,10 @@ dropped_free xs row facts held none =
 
 pub dropped_kept : (xs : List Entry) (row : Row) → RowFacts xs row → next_step None row ≡ None →
     RowFacts xs (bare row.inst)
-dropped_kept xs row facts none = record {
-  doubt_fits = refl;
-  has_machine = refl;
-  sound_disks = refl;
-  has_room = refl;
-  deleted_bare = refl;
-  in_order = refl;
-  created = refl;
-  tied =
-      tied-whole xs (bare row.inst) refl
-      (record { machines = machines; facts = refl; kept = refl; placed = refl; others = refl });
-  holds_disks = refl;
-  lost_silent = refl;
-}
+dropped_kept xs row facts none =
+    bare_row xs row.inst
+    (tied-whole xs (bare row.inst) refl
+    (record { machines = machines; facts = refl; kept = refl; placed = refl; others = refl }))
   where
     it : IsQuiet None row
     it = quiet None row none

@@ -34,6 +34,25 @@ use Rattle.bosh_rows.specs.Same.{same_owner, same_spec}
 use Rattle.bosh_rows.specs.Standing.{same_truth}
 use Rattle.bosh_rows.specs.Tied.{as_done, has_facts, has_no_other_disk, IsTiedRow, is_disk_kept, is_disk_placed, is_made_for, is_named_lost, is_spoiled, is_tied_to, is_tied_to_lost, number_of, vms_of, was_made, was_provided, without_doubt}
 
+-- the facts of a row, of which those that the cloud has a part in are shown anew
+pub facts_after : (xs ys : List Entry) (row : Row) → RowFacts xs row → is_found_last ys row ≡ true → IsCreated ys row →
+    IsTiedRow ys row → holds_its_disks ys row ≡ true →
+    implies row.lost (list_all (λ v. not (has_agent ys v)) (number_of row.vm)) ≡ true → RowFacts ys row
+facts_after xs ys row facts last created tied holds silent = record {
+  doubt_fits = facts.doubt_fits;
+  has_machine = facts.has_machine;
+  sound_disks = facts.sound_disks;
+  has_room = facts.has_room;
+  deleted_bare = facts.deleted_bare;
+  in_order =
+      and_from (are_ascending nat_cmp (numbers row.disks)) (is_found_last ys row)
+      (and_parts (are_ascending nat_cmp (numbers row.disks)) _ facts.in_order).0 last;
+  created = created_from ys row created;
+  tied = tied;
+  holds_disks = holds;
+  lost_silent = silent;
+}
+
 -- ---- what was made for an instance
 
 abbrev pub IsOf : List Entry → Inst → ℕ → Type 0
@@ -285,32 +304,21 @@ module _ (xs ys : List Entry) (mine : ℕ → Bool) (row : Row) (facts : RowFact
             tied-doubted ys row is (spoiled_same ∙ whole) (by_tie (tied-ways xs row facts.tied is whole))
 
     pub facts_still : RowFacts ys row
-    facts_still = record {
-      doubt_fits = facts.doubt_fits;
-      has_machine = facts.has_machine;
-      sound_disks = facts.sound_disks;
-      has_room = facts.has_room;
-      deleted_bare = facts.deleted_bare;
-      in_order =
-          and_from (are_ascending nat_cmp (numbers row.disks)) (is_found_last ys row)
-          (and_parts (are_ascending nat_cmp (numbers row.disks)) _ facts.in_order).0 still_last;
-      created =
-          created_from ys row (record {
-            made = by_made row.vm refl created.made;
-            in_dep =
-                by_machine (λ v. is_made_in row.inst.dep (vm_creation xs v))
-                (λ v. is_made_in row.inst.dep (vm_creation ys v))
-                (λ v of. ap (is_made_in row.inst.dep) (frames.creation v of)) row.vm refl ∙ created.in_dep;
-            kept = still_kept;
-          });
-      tied = still_tied;
-      holds_disks = still_holds;
-      lost_silent =
-          ap (implies row.lost)
-          (by_machine (λ v. not (has_agent xs v)) (λ v. not (has_agent ys v))
-          (λ v of i. not (frames.there v of i && not (hears.silent v of i))) row.vm refl)
-          ∙ facts.lost_silent;
-    }
+    facts_still =
+        facts_after xs ys row facts still_last
+        (record {
+          made = by_made row.vm refl created.made;
+          in_dep =
+              by_machine (λ v. is_made_in row.inst.dep (vm_creation xs v))
+              (λ v. is_made_in row.inst.dep (vm_creation ys v))
+              (λ v of. ap (is_made_in row.inst.dep) (frames.creation v of)) row.vm refl ∙ created.in_dep;
+          kept = still_kept;
+        })
+        still_tied still_holds
+        (ap (implies row.lost)
+        (by_machine (λ v. not (has_agent xs v)) (λ v. not (has_agent ys v))
+        (λ v of i. not (frames.there v of i && not (hears.silent v of i))) row.vm refl)
+        ∙ facts.lost_silent)
       where
         by_made : (o : Option Vm) → row.vm ≡ o → is_made xs row o ≡ true → is_made ys row o ≡ true
         by_made (Some it) has made =

@@ -12,7 +12,7 @@ use Rattle.bosh_base.specs.declared.row.Row.{Row}
 use Rattle.bosh_base.specs.declared.row.Vm.{Vm}
 use Rattle.laws_row_facts.specs.Rows.{has_machine_as_needed}
 use Rattle.laws_rows.proofs.ListLemmas.{IsIn, active_none, all_in, least_none}
-use Rattle.laws_rows.proofs.StandLemmas.{quiet}
+use Rattle.laws_rows.proofs.StandLemmas.{always_removes, quiet}
 use Rattle.laws_rows.proofs.StepCases.{IsCleared, cleared_then, is_spare_attached, rests_then}
 use Rattle.laws_rows.proofs.StopLemmas.{IsSettled, only_active, settled_then}
 use Rattle.laws_rows.proofs.WorkLemmas.{spare_beside_none}
@@ -20,21 +20,6 @@ use Rattle.laws_rows.specs.SoundDisks.{has_one_active}
 use Rattle.bosh_rows.specs.Disks.{active, is_active, is_detached, is_spare, is_spare_beside, least, meets, stays}
 use Rattle.bosh_rows.specs.NextStep.{applying, clearing, disk_step, first_of, has_to_go, is_disk_settled, machine_step, next_step, on, pausing, plain, removal, starting, tending}
 use Rattle.bosh_rows.specs.declared.step.Step.{Step}
-
-always_removes : (row : Row) → removal row ≡ None → ⊥
-always_removes row none =
-    by_found (row.running && not row.drained) row.running (least (λ d. d.mounted) row.disks)
-    (least (λ d. d.attached) row.disks) none
-  where
-    by_found : (drains runs : Bool) (m a : Option DiskRow) → first_of
-        (when drains (plain Drain) ∷ when runs (plain Stop) ∷ on UnmountDisk m ∷ on DetachDisk a ∷ Some (plain DeleteVm)
-        ∷ [])
-        ≡ None → ⊥
-    by_found true runs m a none = cc
-    by_found false true m a none = cc
-    by_found false false (Some d) a none = cc
-    by_found false false None (Some d) none = cc
-    by_found false false None None none = cc
 
 -- what is left where a machine is tended no more
 record IsTendedOut (w : GoalRow) (row : Row) (it : Vm) : Type 0 where

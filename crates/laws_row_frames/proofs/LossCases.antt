@@ -32,7 +32,7 @@ use Rattle.laws_rows.proofs.WholeTieLemmas.{tied-weak}
 use Rattle.laws_rows.specs.Rightful.{is_made}
 use Rattle.bosh_rows.specs.Tied.{as_done, IsTiedRow, is_disk_kept, is_made_for, is_named_lost, number_of, was_made, was_provided}
 use Rattle.laws_row_frames.proofs.EntryFrames.{created_of}
-use Rattle.laws_row_frames.proofs.FrameLemmas.{Finds, Frames, still_holds}
+use Rattle.laws_row_frames.proofs.FrameLemmas.{Finds, Frames, facts_after, still_holds}
 use Rattle.laws_row_frames.proofs.LossLemmas.{after_loss, disk_count, disk_found_still, disk_made, disk_there, lost_named, vm_count, vm_made}
 use Rattle.laws_row_frames.proofs.OtherCases.{all_true}
 use Rattle.laws_row_frames.proofs.PingCases.{lost_tied}
@@ -110,20 +110,8 @@ module _ (xs : List Entry) (loss : Loss) (row : Row) (facts : RowFacts xs row) w
   pub facts_from : IsTiedRow (after_loss xs loss) row → holds_its_disks (after_loss xs loss) row ≡ true →
       implies row.lost (list_all (λ v. not (has_agent (after_loss xs loss) v)) (number_of row.vm)) ≡ true →
       RowFacts (after_loss xs loss) row
-  facts_from tied holds silent = record {
-    doubt_fits = facts.doubt_fits;
-    has_machine = facts.has_machine;
-    sound_disks = facts.sound_disks;
-    has_room = facts.has_room;
-    deleted_bare = facts.deleted_bare;
-    in_order =
-        and_from (are_ascending nat_cmp (numbers row.disks)) (is_found_last (after_loss xs loss) row)
-        (and_parts (are_ascending nat_cmp (numbers row.disks)) _ facts.in_order).0 last_still;
-    created = created_from (after_loss xs loss) row created_still;
-    tied = tied;
-    holds_disks = holds;
-    lost_silent = silent;
-  }
+  facts_from tied holds silent =
+      facts_after xs (after_loss xs loss) row facts last_still created_still tied holds silent
 
 -- ---- an agent alone is lost
 

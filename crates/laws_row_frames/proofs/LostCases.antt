@@ -45,6 +45,7 @@ use Rattle.laws_row_frames.proofs.LossCases.{facts_from, finds_agent, frames_age
 use Rattle.laws_row_frames.proofs.LossLemmas.{after_loss, leaves_found, leaves_loss, vm_made}
 use Rattle.laws_row_frames.proofs.OtherCases.{all_true, numbered_disk, numbered_vm}
 use Rattle.laws_row_frames.proofs.PingCases.{lost_tied}
+use Rattle.laws_kept_facts.proofs.NeededLemmas.{unlost_without}
 
 -- a disk that is on this machine or on none, as it is recorded, is on none once that is gone
 let_go_free : (w vm : ℕ) → w ≡ vm → (h : Option ℕ) (att rest : Bool) →
@@ -168,14 +169,7 @@ module _ (built : KeyWork → List Digest → Digest) (xs : List Entry) (loss : 
     (facts : RowFacts xs row) (orderly : AreOrderly xs) (own : IsDoubtItsOwn xs row)
     (there : is_vm_there xs loss.vm ≡ true) (none : row.vm ≡ None) (mine : mine_in xs row loss.vm ≡ true) where
   found : row.lost ≡ false
-  found =
-      by_lost row.lost
-      (and_parts (implies row.lost false) _ (sym (ap (λ o. implies row.lost (is_some o)
-      && (is_some o || list_all (λ d. not d.attached && not d.mounted) row.disks)) none) ∙ facts.has_machine)).0
-    where
-      by_lost : (b : Bool) → implies b false ≡ true → b ≡ false
-      by_lost true is = sym is
-      by_lost false is = refl
+  found = unlost_without row facts.has_machine none
 
   unspoiled : (zs : List Entry) → is_spoiled zs row ≡ false
   unspoiled zs = λ i. is_spoiled zs (record row { vm = none i })

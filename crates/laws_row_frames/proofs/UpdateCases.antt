@@ -12,7 +12,7 @@ use Rattle.bosh_base.specs.declared.row.Row.{Row}
 use Rattle.bosh_base.specs.declared.row.Vm.{Vm}
 use Rattle.laws_answered_rows.proofs.AgreedLemmas.{is_on}
 use Rattle.laws_answered_rows.proofs.HeldLemmas.{held_from, is_agreed, is_agreed_there, known_held}
-use Rattle.laws_answered_rows.proofs.MadeHeldLemmas.{tied_agreed}
+use Rattle.laws_answered_rows.proofs.MadeHeldLemmas.{on_recorded, tied_agreed}
 use Rattle.laws_kept_facts.proofs.NumberedLemmas.{numbers}
 use Rattle.laws_answered_rows.proofs.OwnLemmas.{IsCreated, created_from, created_parts}
 use Rattle.laws_row_facts.specs.Rows.{RowFacts, is_found_last}
@@ -165,16 +165,6 @@ module _ (keep : DiskRow → Bool) where
       (all_of (λ d. same_truth (is_holder xs v d.disk) d.attached) ds parts.0)
       (others_more (is_holder xs v) (is_on ds) (is_on (filter keep ds)) (numbers_to (disks_created xs))
       (λ k is. on_some k ds off is) parts.1)
-
--- a disk that is on is recorded
-on_recorded : (ds : List DiskRow) (k : ℕ) → is_on ds k ≡ true → is_recorded ds k ≡ true
-on_recorded [] k is = absurd cc
-on_recorded (d ∷ ds) k is = by_first (on_recorded ds k) (d.disk == k) d.attached is
-  where
-    by_first : (is_on ds k ≡ true → is_recorded ds k ≡ true) → (b on : Bool) → ((b && on) || is_on ds k) ≡ true →
-        (b || is_recorded ds k) ≡ true
-    by_first others true on is = refl
-    by_first others false on is = others is
 
 -- ---- an update is done
 

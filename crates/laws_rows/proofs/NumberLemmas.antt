@@ -70,7 +70,8 @@ all_kept r (j ∷ ks) k all is =
     by_first others holds true same is = ap r (sym (eqb-true j k same)) ∙ holds
     by_first others holds false other is = others is
 
-any_passes : (p : ℕ → Bool) (k : ℕ) (ks : List ℕ) → list_any (λ j. j == k) (filter p ks) ≡ true → p k ≡ true
+-- what is left passes
+pub any_passes : (p : ℕ → Bool) (k : ℕ) (ks : List ℕ) → list_any (λ j. j == k) (filter p ks) ≡ true → p k ≡ true
 any_passes p k [] is = absurd cc
 any_passes p k (x ∷ xs) is = by_test (any_passes p k xs) (p x) refl is
   where

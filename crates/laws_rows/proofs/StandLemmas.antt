@@ -53,7 +53,8 @@ quiet want row none =
     by_doubt (Some d) is none = absurd cc
     by_doubt None is none = refl
 
-always_removes : (row : Row) → removal row ≡ None → ⊥
+-- the removal of a machine always has a next step
+pub always_removes : (row : Row) → removal row ≡ None → ⊥
 always_removes row none =
     by_found (row.running && not row.drained) row.running (least (λ d. d.mounted) row.disks)
     (least (λ d. d.attached) row.disks) none

@@ -133,6 +133,49 @@ pub record Cases (P : Call → Type 0) (want : Option GoalRow) (row : Row) : Typ
       (w : GoalRow) (it : vm.Vm) → want ≡ Some w → IsCleared w row it → disk_step w row w.disk ≡ None →
       spec_differs w row ≡ false → is_running w.state ≡ true → row.running ≡ false → P (calls.Start it.vm)
 
+-- the call tends a machine that stays
+abbrev pub is_tending : Call → Bool
+is_tending (calls.CreateDisk wanted v) = true
+is_tending (calls.AttachDisk v d) = true
+is_tending (calls.DetachDisk v d) = true
+is_tending (calls.Apply v spec) = true
+is_tending (calls.Start v) = true
+is_tending (calls.Drain v) = true
+is_tending (calls.Stop v) = true
+is_tending (calls.MountDisk v d) = true
+is_tending (calls.UnmountDisk v d) = true
+is_tending call = false
+
+-- what holds of each of them is to be shown of the others alone: a deletion, a creation and a migration
+pub telling_cases : (P : Call → Type 0) (want : Option GoalRow) (row : Row) →
+    ((call : Call) → is_tending call ≡ true → P call) →
+    ((it : vm.Vm) → row.vm ≡ Some it → least_of is_attached row ≡ None → P (calls.DeleteVm it.vm)) →
+    ((w : GoalRow) → want ≡ Some w → row.vm ≡ None → P (calls.CreateVm w.make (active_disks row.disks))) →
+    ((v old new : ℕ) → P (calls.MigrateDisk v old new)) → Cases P want row
+telling_cases P want row tends deletes creates migrates = record {
+  remove_drain = λ it has away runs off. tends (calls.Drain it.vm) refl;
+  remove_stop = λ it has away runs off. tends (calls.Stop it.vm) refl;
+  remove_unmount = λ it d has away rests first. tends (calls.UnmountDisk it.vm d.disk) refl;
+  remove_detach = λ it d has away rests none first. tends (calls.DetachDisk it.vm d.disk) refl;
+  remove_delete = λ it has away rests none too. deletes it has too;
+  create = λ w wants none here. creates w wants none;
+  tend_drain = λ w it wants has stays runs halts off. tends (calls.Drain it.vm) refl;
+  tend_stop = λ w it wants has stays runs halts off. tends (calls.Stop it.vm) refl;
+  clear_unmount = λ w it d wants tended first. tends (calls.UnmountDisk it.vm d.disk) refl;
+  clear_detach = λ w it d wants tended none first. tends (calls.DetachDisk it.vm d.disk) refl;
+  release_unmount = λ w it d wants cleared nothing first. tends (calls.UnmountDisk it.vm d.disk) refl;
+  release_detach = λ w it d wants cleared nothing none first. tends (calls.DetachDisk it.vm d.disk) refl;
+  provide = λ w it wanted wants cleared disk none. tends (calls.CreateDisk wanted it.vm) refl;
+  place_attach = λ w it wanted old wants cleared disk was off. tends (calls.AttachDisk it.vm old.disk) refl;
+  place_mount = λ w it wanted old wants cleared disk was on off. tends (calls.MountDisk it.vm old.disk) refl;
+  replace_create = λ w it wanted old wants replaced none. tends (calls.CreateDisk wanted it.vm) refl;
+  replace_attach = λ w it wanted old new wants replaced comes off. tends (calls.AttachDisk it.vm new.disk) refl;
+  replace_mount = λ w it wanted old new wants replaced comes on off. tends (calls.MountDisk it.vm new.disk) refl;
+  replace_migrate = λ w it wanted old new wants replaced comes on up. migrates it.vm old.disk new.disk;
+  apply = λ w it wants cleared differs. tends (calls.Apply it.vm w.spec) refl;
+  start = λ w it wants cleared disks spec runs rests. tends (calls.Start it.vm) refl;
+}
+
 -- the step of a row that is not lost and not in doubt is that of its machine
 pub step_known : (want : Option GoalRow) (row : Row) → row.lost ≡ false → row.doubt ≡ None →
     next_step want row ≡ machine_step want row row.vm

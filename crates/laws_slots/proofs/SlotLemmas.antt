@@ -20,7 +20,7 @@ use Rattle.laws_effects.specs.Orderly.{is_taken}
 use Rattle.laws_rows.proofs.FilterLemmas.{filter_more, filter_within, numbers-more, numbers_within}
 use Rattle.laws_rows.proofs.FoundLemmas.{unnumbered, vm-among}
 use Rattle.laws_rows.proofs.MakeTieLemmas.{filter_none}
-use Rattle.laws_rows.proofs.NumberLemmas.{kept_number}
+use Rattle.laws_rows.proofs.NumberLemmas.{any_passes, kept_number}
 use Rattle.bosh_rows.specs.Same.{same_owner}
 use Rattle.bosh_rows.specs.Tied.{is_made_for, vms_of}
 
@@ -41,19 +41,6 @@ pub listed : (xs : List Entry) (owner : Owner) (v : ℕ) → ours xs owner v ≡
 listed xs owner v is =
     let within : IsWithin (vms_created xs) v = (made xs).vms v (and_parts (is_vm_there xs v) _ is).0 in
     kept_number (ours xs owner) (vms_created xs) v within.first within.last is
-
-any_passes : (p : ℕ → Bool) (k : ℕ) (ks : List ℕ) → list_any (λ j. j == k) (filter p ks) ≡ true → p k ≡ true
-any_passes p k [] is = absurd cc
-any_passes p k (x ∷ xs) is = by_test (any_passes p k xs) (p x) refl is
-  where
-    by_test : (list_any (λ j. j == k) (filter p xs) ≡ true → p k ≡ true) → (b : Bool) → p x ≡ b →
-        list_any (λ j. j == k) (if b then x ∷ filter p xs else filter p xs) ≡ true → p k ≡ true
-    by_test others true holds is = by_first (x == k) refl is
-      where
-        by_first : (b : Bool) → (x == k) ≡ b → (b || list_any (λ j. j == k) (filter p xs)) ≡ true → p k ≡ true
-        by_first true same is = ap p (sym (eqb-true x k same)) ∙ holds
-        by_first false other is = others is
-    by_test others false holds is = others is
 
 -- .. and the only one that is listed is there
 pub only_there : (xs : List Entry) (owner : Owner) (v : ℕ) → vms_of xs owner ≡ v ∷ [] → ours xs owner v ≡ true
