@@ -1,11 +1,11 @@
--- Compiled keys: that those which are listed are those which have a digest is kept by each move.
+-- Compiled keys: that those which are listed are those which have a digest is kept by each entry.
 use Rattle.std.proofs.Common.{◌≡◌, ◌∙◌, ℕ, Bool, true, false, Option, Some, None, List, [], ◌∷◌, refl, ap, sym, arith}
-use Rattle.std.specs.Prelude.{◌||◌, is_some, if◌then◌else◌}
+use Rattle.std.specs.Prelude.{◌||◌, find, fold, is_some, map, if◌then◌else◌}
 use Rattle.std.specs.Cmp.Lexicographic.{slice_cmp}
 use Rattle.std.specs.List.{list_any}
+use Rattle.std.specs.Option.{option_map}
 use Rattle.std.specs.Ordering.{nat_cmp, ordering_then}
-use Rattle.std.specs.declared.cmp.Ordering.{Ordering}
-use Rattle.std.specs.declared.cmp.Ordering.TheVariants.{Less, Equal, Greater}
+use Rattle.std.specs.declared.cmp.Ordering.TheVariants.{Equal}
 use Rattle.std.proofs.lemmas.Map.Lookups.{exact_bytes}
 use Rattle.bosh_base.specs.declared.answer.Answer.{Answer}
 use Rattle.bosh_base.specs.declared.answer.Answer.TheVariants as answers
@@ -25,21 +25,23 @@ use Rattle.bosh_base.specs.declared.owner.Owner.TheVariants.{Instance, Compile, 
 use Rattle.bosh_base.specs.declared.snapshot.BuiltKey.{BuiltKey}
 use Rattle.bosh_base.specs.declared.task.TaskKind.{TaskKind}
 use Rattle.bosh_compile.specs.CompileOrder.{key_cmp}
-use Rattle.bosh_compile.specs.Readiness.{same_key}
+use Rattle.bosh_compile.specs.Readiness.{is_among, same_key}
 use Rattle.bosh_history.specs.Calls.{begins, call_ended, compiles, ends_of, orphan_after, slot_answered}
-use Rattle.bosh_history.specs.Known.{Known, Slot, dep_of_task, want_in}
-use Rattle.bosh_history.specs.Learn.{learn}
+use Rattle.bosh_history.specs.Known.{Known, Slot, dep_of_task, nothing_known, want_in}
+use Rattle.bosh_history.specs.Held.{compiled_keys, view}
+use Rattle.bosh_history.specs.Learn.{known_of, learn}
 use Rattle.bosh_history.specs.Moments.{Moment, later}
-use Rattle.bosh_history.specs.Notes.{MayNote, Outside}
+use Rattle.bosh_history.specs.Notes.{Outside}
 use Rattle.bosh_history.specs.Permitted.{IsPermitted}
-use Rattle.bosh_history.specs.Slots.{slot_after}
+use Rattle.bosh_history.specs.Slots.{is_compiled, slot_after}
 use Rattle.bosh_history.specs.Tasks.{settles}
 use Rattle.bosh_history.specs.Updates.{update_done}
-use Rattle.bosh_history.specs.Words.{by_order, inserted}
+use Rattle.bosh_history.specs.Words.{inserted}
 use Rattle.bosh_rows.specs.SoundSnapshot.{built_cmp}
 use Rattle.bosh_rows.specs.Standing.{same_truth}
 use Rattle.laws_facts.proofs.InstanceLemmas.{then_equal}
 use Rattle.laws_facts.proofs.MoveLemmas.{by_note}
+use Rattle.laws_facts.proofs.OrderLemmas.{any_all_inserted, any_inserted}
 use Rattle.laws_facts.specs.Facts.{Holds}
 use Rattle.laws_facts.specs.Kept.{AreBuiltListed}
 use Rattle.laws_facts.specs.Lists.{is_built_for}
@@ -66,29 +68,8 @@ built_equal a b is =
 
 built_inserted : (key : Key) (a : BuiltKey) (items : List BuiltKey)
     → list_any (is_built_for key) (inserted built_cmp a items) ≡ (is_built_for key a || list_any (is_built_for key) items)
-built_inserted key a [] = refl
-built_inserted key a (b ∷ items) = by (built_cmp a b) refl (built_inserted key a items)
-  where
-    by : (o : Ordering) → built_cmp a b ≡ o
-        → list_any (is_built_for key) (inserted built_cmp a items) ≡
-        (is_built_for key a || list_any (is_built_for key) items)
-        → list_any (is_built_for key) (by_order o (a ∷ b ∷ items) (a ∷ items) (b ∷ inserted built_cmp a items)) ≡
-        (is_built_for key a || (is_built_for key b || list_any (is_built_for key) items))
-    by Less is before = refl
-    by Equal is before =
-        let same : is_built_for key a ≡ is_built_for key b = ap (λ (k : Key). same_key k key) (built_equal a b is) in
-        either (is_built_for key a) (is_built_for key b) (list_any (is_built_for key) items) same
-      where
-        either : (x y z : Bool) → x ≡ y → (x || z) ≡ (x || (y || z))
-        either true y z same = refl
-        either false true z same = absurd cc
-        either false false z same = refl
-    by Greater is before = ap (λ (t : Bool). is_built_for key b || t) before ∙ turned (is_built_for key a) (is_built_for key b) (list_any (is_built_for key) items)
-      where
-        turned : (x y z : Bool) → (y || (x || z)) ≡ (x || (y || z))
-        turned true true z = refl
-        turned true false z = refl
-        turned false y z = refl
+built_inserted key =
+    any_inserted built_cmp (is_built_for key) (λ a b is. ap (λ (k : Key). same_key k key) (built_equal a b is))
 
 -- ---- what leaves the compiled keys as they are
 
@@ -101,7 +82,7 @@ listed_same : (old new : Known) → SameBuilt old new → AreBuiltListed old →
 listed_same old new same listed key =
     (λ i. same_truth (list_any (is_built_for key) (same.built i)) (is_some (same.digest i key))) ∙ listed key
 
-same_begun : (b : Begin) (owner : Owner) (k : Known) → SameBuilt k (begins b owner k)
+pub same_begun : (b : Begin) (owner : Owner) (k : Known) → SameBuilt k (begins b owner k)
 same_begun b (Instance i) k = record { built = refl; digest = refl }
 same_begun b (Compile t s) k = record { built = refl; digest = refl }
 same_begun b (Disk d) k = record { built = refl; digest = refl }
@@ -110,16 +91,16 @@ same_slot_answered : (t s : ℕ) (it : Option Slot) (k : Known) → SameBuilt k 
 same_slot_answered t s (Some it) k = record { built = refl; digest = refl }
 same_slot_answered t s None k = record { built = refl; digest = refl }
 
-same_answered : (b : Begin) (answer : Answer) (owner : Owner) (k : Known) → SameBuilt k (ends_of b answer owner k)
+pub same_answered : (b : Begin) (answer : Answer) (owner : Owner) (k : Known) → SameBuilt k (ends_of b answer owner k)
 same_answered b answer (Instance i) k = record { built = refl; digest = refl }
 same_answered b answer (Compile t s) k = same_slot_answered t s (slot_after b.n b.call answer (k.slot t s)) k
 same_answered b answer (Disk d) k = record { built = grind (arith); digest = grind (arith) }
 
-same_updated : (want : Option GoalRow) (i : Inst) (k : Known) → SameBuilt k (update_done want i k)
+pub same_updated : (want : Option GoalRow) (i : Inst) (k : Known) → SameBuilt k (update_done want i k)
 same_updated (Some want) i k = record { built = refl; digest = refl }
 same_updated None i k = record { built = refl; digest = refl }
 
-same_settled : (kind : TaskKind) (goal : Option Goal) (dep : List ℕ) (k : Known) → SameBuilt k (settles kind goal dep k)
+pub same_settled : (kind : TaskKind) (goal : Option Goal) (dep : List ℕ) (k : Known) → SameBuilt k (settles kind goal dep k)
 same_settled kind goal dep k = record { built = grind (arith); digest = grind (arith) }
 
 -- ---- a package is compiled
@@ -150,25 +131,78 @@ listed_ended answer (Some b) k listed =
     (listed_same k (ends_of b answer b.owner k) (same_answered b answer b.owner k) listed)
 listed_ended answer None k listed = listed
 
--- ---- moves
+-- ---- a snapshot tells all that is compiled
 
-listed_note : (outside : Outside) (m : Moment) (e : Entry) → MayNote outside m e → AreBuiltListed m.known
-    → AreBuiltListed (learn m.known e)
-listed_note outside m (entries.Begin b) may listed =
-    listed_same m.known (begins b b.owner m.known) (same_begun b b.owner m.known) listed
-listed_note outside m (entries.End e) may listed = listed_ended e.answer (m.known.begun e.n) m.known listed
-listed_note outside m (entries.UpdDone u) may listed =
-    listed_same m.known (update_done (want_in (m.known.task u.task).goal u.inst) u.inst m.known)
-    (same_updated (want_in (m.known.task u.task).goal u.inst) u.inst m.known) listed
-listed_note outside m (entries.TaskDone t) may listed =
-    listed_same m.known (settles (m.known.task t).kind (m.known.task t).goal (dep_of_task m.known t) m.known)
-    (same_settled (m.known.task t).kind (m.known.task t).goal (dep_of_task m.known t) m.known) listed
-listed_note outside m (entries.Snapshot s) may listed = absurd may
-listed_note outside m entry may listed = listed
+listed_found : (key : Key) (items : List BuiltKey)
+    → same_truth (list_any (is_built_for key) items)
+    (is_some (option_map (λ (it : BuiltKey). it.digest) (find (is_built_for key) items)))
+    ≡ true
+listed_found key [] = refl
+listed_found key (it ∷ items) = by (is_built_for key it) (listed_found key items)
+  where
+    by : (b : Bool)
+        → same_truth (list_any (is_built_for key) items)
+        (is_some (option_map (λ (each : BuiltKey). each.digest) (find (is_built_for key) items)))
+        ≡ true
+        → same_truth (b || list_any (is_built_for key) items)
+        (is_some (option_map (λ (each : BuiltKey). each.digest)
+        (if b then Some it else find (is_built_for key) items)))
+        ≡ true
+    by true before = refl
+    by false before = before
+
+-- ---- one more entry
+
+listed_learned : (k : Known) (e : Entry) → AreBuiltListed k → AreBuiltListed (learn k e)
+listed_learned k (entries.Begin b) listed = listed_same k (begins b b.owner k) (same_begun b b.owner k) listed
+listed_learned k (entries.End e) listed = listed_ended e.answer (k.begun e.n) k listed
+listed_learned k (entries.UpdDone u) listed =
+    listed_same k (update_done (want_in (k.task u.task).goal u.inst) u.inst k)
+    (same_updated (want_in (k.task u.task).goal u.inst) u.inst k) listed
+listed_learned k (entries.TaskDone t) listed =
+    listed_same k (settles (k.task t).kind (k.task t).goal (dep_of_task k t) k)
+    (same_settled (k.task t).kind (k.task t).goal (dep_of_task k t) k) listed
+listed_learned k (entries.Snapshot s) listed = λ key. listed_found key s.built_keys
+listed_learned k entry listed = listed
 
 -- it is kept by each permitted move
 pub listed_kept : (outside : Outside) (m : Moment) (move : Move) → IsPermitted outside m move
     → Holds m → AreBuiltListed (later m move).known
 listed_kept outside m move may h =
-    by_note outside AreBuiltListed m (λ e also. listed_note outside m e also h.lists.key_listed)
-    h.lists.key_listed move may
+    by_note outside AreBuiltListed m (λ e also. listed_learned m.known e h.lists.key_listed) h.lists.key_listed move may
+
+-- ---- all that a list of entries tells
+
+listed_along : (entries : List Entry) (k : Known) → AreBuiltListed k → AreBuiltListed (fold learn k entries)
+listed_along [] k listed = listed
+listed_along (e ∷ entries) k listed = listed_along entries (learn k e) (listed_learned k e listed)
+
+pub listed_of : (entries : List Entry) → AreBuiltListed (known_of entries)
+listed_of entries = listed_along entries nothing_known (λ key. refl)
+
+any_of_keys : (key : Key) (items : List BuiltKey)
+    → list_any (λ each. same_key each key) (map (λ (built : BuiltKey). built.key) items)
+    ≡ list_any (is_built_for key) items
+any_of_keys key [] = refl
+any_of_keys key (it ∷ items) = ap (λ (b : Bool). is_built_for key it || b) (any_of_keys key items)
+
+-- a view lists the keys that are listed
+viewed_listed : (k : Known) (key : Key) → AreBuiltListed k
+    → is_among key (compiled_keys k) ≡ is_compiled k key
+viewed_listed k key listed =
+    any_all_inserted key_cmp (λ each. same_key each key) (λ a b is. ap (λ (k : Key). same_key k key) (key_equal a b is))
+    (map (λ (built : BuiltKey). built.key) k.built) []
+    ∙ (or_nothing (list_any (λ each. same_key each key) (map (λ (built : BuiltKey). built.key) k.built))
+    ∙ (any_of_keys key k.built ∙ same (list_any (is_built_for key) k.built) (is_compiled k key) (listed key)))
+  where
+    or_nothing : (b : Bool) → (b || false) ≡ b
+    or_nothing true = refl
+    or_nothing false = refl
+
+    same : (a b : Bool) → same_truth a b ≡ true → a ≡ b
+    same true b is = grind (arith, is)
+    same false b is = grind (arith, is)
+
+pub viewed_of : (entries : List Entry) (dep : List ℕ) (key : Key)
+    → is_among key (view (known_of entries) dep).compiled ≡ is_compiled (known_of entries) key
+viewed_of entries dep key = viewed_listed (known_of entries) key (listed_of entries)

@@ -1,6 +1,13 @@
+ghost use Rattle.std.specs.Prelude.{◌≡◌, ℕ, List};
+ghost use Rattle.bosh_base.specs.declared.entry.Entry.{Entry};
+ghost use Rattle.bosh_base.specs.declared.key.Key.{Key};
+ghost use Rattle.bosh_compile.specs.Readiness.{is_among};
+ghost use Rattle.bosh_history.specs.Held.{view};
+ghost use Rattle.bosh_history.specs.Learn.{known_of};
+ghost use Rattle.bosh_history.specs.Slots.{is_compiled};
 ghost use Rattle.laws_facts.specs.Lists.{ListFacts};
 ghost use Rattle.laws_facts.specs.Kept.{AreInstancesInOrder, AreMachinesInOrder, AreMachinesListed, AreOthersBare, HaveOwnRows};
-ghost use Rattle.laws_facts.specs.Kept.{AreCurrent, AreMadeInTheirDeployments, AreTiesKept};
+ghost use Rattle.laws_facts.specs.Kept.{AreBuiltListed, AreCurrent, AreMadeInTheirDeployments, AreTiesKept};
 ghost use Rattle.laws_facts.specs.Kept.{AreOfTheirTasks, AreRowsPast, HaveBegun, HaveOwnLocks};
 ghost use Rattle.laws_facts.specs.Kept.{AreBegun, AreDoubtsPast, AreDeploymentsApart, AreDeploymentsListed, AreGoalsSound};
 ghost use Rattle.laws_facts.specs.Kept.{AreOrphansInOrder, AreOrphansListed};
@@ -83,4 +90,13 @@ pub fn links_are_kept()
 /// A machine is made for an instance, or for a compile machine of a task that was opened, in the deployment of that.
 pub fn machines_are_made_in_their_deployments()
     ensures { IsKept AreMadeInTheirDeployments }
+{}
+
+/// Whatever entries tell, the compiled keys that are listed are those that have a digest, and the view of each
+/// deployment lists them.
+#[tactic(auto, using(crate::proofs::BuiltLemmas::listed_of))]
+pub fn each_history_lists_its_keys()
+    ensures listed { (entries : List Entry) → AreBuiltListed (known_of entries) }
+    ensures viewed { (entries : List Entry) (dep : List ℕ) (key : Key) →
+        is_among key (view (known_of entries) dep).compiled ≡ is_compiled (known_of entries) key }
 {}
