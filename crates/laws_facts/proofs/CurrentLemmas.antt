@@ -82,10 +82,10 @@ goal_stays outside m entry may none t = refl
 -- ---- a task that works now worked before
 
 -- a task that works is open
-works_open : (m : Moment) (t : ℕ) → works m t ≡ true → is_open_task m.known t ≡ true
+pub works_open : (m : Moment) (t : ℕ) → works m t ≡ true → is_open_task m.known t ≡ true
 works_open m t is = grind (arith, is)
 
-worked : (m : Moment) (e : Entry) (t : ℕ) → StaysOpen m.known (learn m.known e) t → works (noting m e) t ≡ true
+pub worked : (m : Moment) (e : Entry) (t : ℕ) → StaysOpen m.known (learn m.known e) t → works (noting m e) t ≡ true
     → works m t ≡ true
 worked m e t stays is = grind (arith, is, stays.was (works_open (noting m e) t is))
 
@@ -239,7 +239,7 @@ current_note outside m h (entries.Snapshot s) follows may t dep is of_it = absur
 current_note outside m h entry follows may t dep is of_it = current_same outside m h entry may refl t dep refl is of_it
 
 -- after a stop no task works
-none_works : (m : Moment) (s : stop.Stop) (t : ℕ) → works (later m (moves.Stop s)) t ≡ false
+pub none_works : (m : Moment) (s : stop.Stop) (t : ℕ) → works (later m (moves.Stop s)) t ≡ false
 none_works m s t = grind (arith)
 
 current_move : (outside : Outside) (m : Moment) (move : Move) → IsPermitted outside m move → Holds m

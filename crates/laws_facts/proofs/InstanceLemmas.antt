@@ -1,5 +1,5 @@
 -- Recorded instances: that they are listed, in order, is kept by each move.
-use Rattle.std.proofs.Common.{◌≡◌, ℕ, true, false, Option, Some, None, refl, ap, sym, ◌∙◌, inl, inr, arith}
+use Rattle.std.proofs.Common.{◌≡◌, ℕ, true, false, Option, Some, None, List, refl, ap, sym, ◌∙◌, inl, inr, arith}
 use Rattle.std.specs.Prelude.{◌⊎◌, ◌≢◌, if◌then◌else◌}
 use Rattle.std.specs.Cmp.{IsTotalOrder}
 use Rattle.std.specs.Cmp.Lexicographic.{slice_cmp}
@@ -26,9 +26,10 @@ use Rattle.bosh_base.specs.declared.task.TaskKind.TheVariants as kinds
 use Rattle.laws_facts.proofs.FrameLemmas.{compiled_instances, compiled_rows, slot_instances, slot_rows}
 use Rattle.laws_facts.proofs.ListLemmas.{among_without}
 use Rattle.laws_facts.proofs.MoveLemmas.{by_note}
-use Rattle.laws_facts.proofs.OrderLemmas.{among_inserted, ascending_inserted, ascending_without}
+use Rattle.laws_facts.proofs.OrderLemmas.{among_inserted, ascending_inserted, ascending_without, distinct_ascending}
 use Rattle.laws_facts.specs.Facts.{Holds}
 use Rattle.laws_facts.specs.Kept.{AreInstancesInOrder, AreOthersBare, HaveOwnRows}
+use Rattle.bosh_rows.specs.SoundSnapshot.{are_distinct}
 use Rattle.laws_row_facts.specs.Words.{are_ascending}
 use Rattle.bosh_history.specs.Calls.{begins, call_ended, ends_of}
 use Rattle.bosh_history.specs.Known.{Known, dep_of_task, want_in}
@@ -69,6 +70,11 @@ inst_equal a b is =
     let group : a.group ≡ b.group = exact_bytes a.group b.group more.0 in
     let index : a.index ≡ b.index = exact_unsigned a.index b.index more.1 in
     λ i. record { dep = dep i; group = group i; index = index i }
+
+-- no recorded instance stands twice
+pub instances_apart : (instances : List Inst) → are_ascending inst_cmp instances ≡ true
+    → are_distinct same_inst instances ≡ true
+instances_apart = distinct_ascending inst_cmp inst_total same_inst same_inst_tells inst_equal
 
 -- ---- own rows
 

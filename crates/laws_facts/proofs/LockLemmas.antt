@@ -32,7 +32,7 @@ use Rattle.bosh_history.specs.Updates.{update_done}
 
 -- ---- a lock that is free
 
-locks_equal : (a b : Option (List ℕ)) → option_eq bytes_eq a b ≡ true → a ≡ b
+pub locks_equal : (a b : Option (List ℕ)) → option_eq bytes_eq a b ≡ true → a ≡ b
 locks_equal (Some a) (Some b) is = grind (arith, is, bytes_tells a b)
 locks_equal (Some a) None is = absurd cc
 locks_equal None (Some b) is = absurd cc
