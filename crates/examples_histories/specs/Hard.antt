@@ -10,7 +10,7 @@ use Rattle.bosh_base.specs.declared.state.State.TheVariants.{Running, Detached}
 use Rattle.bosh_base.specs.declared.task.TaskKind.TheVariants as kinds
 use Rattle.examples_histories.specs.Scenes.{History, sourced, opening, beginning_of, upd_begin, upd_done, did, said, called, part}
 use Rattle.examples_histories.specs.Values.{web, z1, plain, no_jobs, disk, row, group, goal}
-use Rattle.examples_histories.specs.Migrated.{migrated}
+use Rattle.examples_histories.specs.Migrated.{machine_deleted, migrated}
 
 abbrev pub hard_g1 : Goal
 hard_g1 =
@@ -29,11 +29,7 @@ hard built =
     (Note (opening 2 (kinds.Stop (web 0)) (Some (codes "dep")) (Some hard_g2) ((web 0) ∷ []) [] [] None)
     ∷ Note (upd_begin 2 (web 0))
     ∷ [])
-    ++ called 7 2 0 (Instance (web 0)) (calls.Drain 1) true answers.Done
-    ++ called 8 2 0 (Instance (web 0)) (calls.Stop 1) true answers.Done
-    ++ called 9 2 0 (Instance (web 0)) (calls.UnmountDisk 1 1) true answers.Done
-    ++ called 10 2 0 (Instance (web 0)) (calls.DetachDisk 1 1) true answers.Done
-    ++ called 11 2 0 (Instance (web 0)) (calls.DeleteVm 1) true answers.Done
+    ++ machine_deleted
     ++
     (Note (upd_done 2 (web 0))
     ∷ Note (entries.TaskDone 2)

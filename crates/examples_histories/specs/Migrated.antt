@@ -1,11 +1,12 @@
 -- A disk that grows, and a stop after the migration.
-use Rattle.std.specs.Prelude.{true, codes, Some, None, [], ◌∷◌, ◌++◌}
+use Rattle.std.specs.Prelude.{true, codes, Some, None, List, [], ◌∷◌, ◌++◌}
 use Rattle.bosh_base.specs.declared.answer.Answer.TheVariants as answers
 use Rattle.bosh_base.specs.declared.call.Call.TheVariants as calls
 use Rattle.bosh_base.specs.declared.entry.Entry.TheVariants as entries
 use Rattle.bosh_base.specs.declared.failure.Failure.TheVariants as failures
 use Rattle.bosh_base.specs.declared.goal.Goal.{Goal}
 use Rattle.bosh_base.specs.declared.moves.Cause.TheVariants as causes
+use Rattle.bosh_base.specs.declared.moves.Move.{Move}
 use Rattle.bosh_base.specs.declared.moves.Move.TheVariants.{Note, Halt}
 use Rattle.bosh_base.specs.declared.owner.Owner.TheVariants.{Instance, Disk}
 use Rattle.bosh_base.specs.declared.state.State.TheVariants.{Running}
@@ -74,6 +75,18 @@ migrated built =
     ++ called 20 3 0 (Instance (web 0)) (calls.DetachDisk 1 1) true answers.Done
     ++ called 21 3 0 (Instance (web 0)) (calls.Start 1) true answers.Done
     ++ (Note (upd_done 3 (web 0)) ∷ Note (entries.TaskDone 3) ∷ said 8 ∷ [])
+
+-- A second task stops the jobs and lets go of the disk ..
+abbrev pub disk_let_go : List Move
+disk_let_go =
+    called 7 2 0 (Instance (web 0)) (calls.Drain 1) true answers.Done
+    ++ called 8 2 0 (Instance (web 0)) (calls.Stop 1) true answers.Done
+    ++ called 9 2 0 (Instance (web 0)) (calls.UnmountDisk 1 1) true answers.Done
+    ++ called 10 2 0 (Instance (web 0)) (calls.DetachDisk 1 1) true answers.Done
+
+-- .. and deletes the machine.
+abbrev pub machine_deleted : List Move
+machine_deleted = disk_let_go ++ called 11 2 0 (Instance (web 0)) (calls.DeleteVm 1) true answers.Done
 
 -- The old disk deleted after the migration.
 abbrev pub deletes_old_disk : History

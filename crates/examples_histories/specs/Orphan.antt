@@ -12,7 +12,7 @@ use Rattle.bosh_base.specs.declared.state.State.TheVariants.{Running}
 use Rattle.bosh_base.specs.declared.task.TaskKind.TheVariants as kinds
 use Rattle.examples_histories.specs.Scenes.{History, sourced, opening, beginning_of, gone, task_error, stop, said, called, part}
 use Rattle.examples_histories.specs.Values.{web, z1, plain, no_jobs, disk, row, group, goal}
-use Rattle.examples_histories.specs.Migrated.{migrated}
+use Rattle.examples_histories.specs.Migrated.{machine_deleted, migrated}
 
 abbrev pub orphan_g1 : Goal
 orphan_g1 =
@@ -27,11 +27,7 @@ abbrev pub orphan : History
 orphan built =
     part 1 23 (migrated built)
     ++ (Note (opening 2 kinds.Deploy (Some (codes "dep")) (Some orphan_g2) [] ((web 0) ∷ []) [] sourced) ∷ [])
-    ++ called 7 2 0 (Instance (web 0)) (calls.Drain 1) true answers.Done
-    ++ called 8 2 0 (Instance (web 0)) (calls.Stop 1) true answers.Done
-    ++ called 9 2 0 (Instance (web 0)) (calls.UnmountDisk 1 1) true answers.Done
-    ++ called 10 2 0 (Instance (web 0)) (calls.DetachDisk 1 1) true answers.Done
-    ++ called 11 2 0 (Instance (web 0)) (calls.DeleteVm 1) true answers.Done
+    ++ machine_deleted
     ++
     (Note (gone 2 (web 0))
     ∷ Note (entries.TaskDone 2)

@@ -11,7 +11,7 @@ use Rattle.bosh_base.specs.declared.task.TaskKind.TheVariants as kinds
 use Rattle.bosh_history.specs.Exact.{is_exact}
 use Rattle.bosh_history.specs.Known.{with_task}
 use Rattle.bosh_history.specs.Moments.{Moment}
-use Rattle.examples_histories.specs.Migrated.{migrated}
+use Rattle.examples_histories.specs.Migrated.{disk_let_go, machine_deleted, migrated}
 use Rattle.examples_histories.specs.Scenes.{Builder, History, called, gone, opening, part, sourced, upd_begin, upd_done}
 use Rattle.examples_histories.specs.Values.{disk, goal, group, no_jobs, plain, row, web, z1}
 use Rattle.examples_histories.specs.Verdicts.{after}
@@ -29,10 +29,7 @@ unwanted built =
     (Note (opening 2 kinds.Deploy (Some (codes "dep")) (Some unwanted_goal) (web 0 ∷ []) [] [] sourced)
     ∷ Note (upd_begin 2 (web 0))
     ∷ [])
-    ++ called 7 2 0 (Instance (web 0)) (calls.Drain 1) true answers.Done
-    ++ called 8 2 0 (Instance (web 0)) (calls.Stop 1) true answers.Done
-    ++ called 9 2 0 (Instance (web 0)) (calls.UnmountDisk 1 1) true answers.Done
-    ++ called 10 2 0 (Instance (web 0)) (calls.DetachDisk 1 1) true answers.Done
+    ++ disk_let_go
     ++ called 11 2 0 (Instance (web 0)) (calls.Start 1) true answers.Done
     ++ (Note (upd_done 2 (web 0)) ∷ Note (entries.TaskDone 2) ∷ [])
 
@@ -52,11 +49,7 @@ abbrev pub deleted : History
 deleted built =
     part 1 23 (migrated built)
     ++ (Note (opening 2 kinds.DeleteDeployment (Some (codes "dep")) (Some no_goal) [] (web 0 ∷ []) [] None) ∷ [])
-    ++ called 7 2 0 (Instance (web 0)) (calls.Drain 1) true answers.Done
-    ++ called 8 2 0 (Instance (web 0)) (calls.Stop 1) true answers.Done
-    ++ called 9 2 0 (Instance (web 0)) (calls.UnmountDisk 1 1) true answers.Done
-    ++ called 10 2 0 (Instance (web 0)) (calls.DetachDisk 1 1) true answers.Done
-    ++ called 11 2 0 (Instance (web 0)) (calls.DeleteVm 1) true answers.Done
+    ++ machine_deleted
     ++ (Note (gone 2 (web 0)) ∷ Note (entries.TaskDone 2) ∷ [])
 
 abbrev pub detached_goal : Goal
@@ -72,9 +65,5 @@ detached built =
     (Note (opening 2 kinds.Deploy (Some (codes "dep")) (Some detached_goal) (web 0 ∷ []) [] [] sourced)
     ∷ Note (upd_begin 2 (web 0))
     ∷ [])
-    ++ called 7 2 0 (Instance (web 0)) (calls.Drain 1) true answers.Done
-    ++ called 8 2 0 (Instance (web 0)) (calls.Stop 1) true answers.Done
-    ++ called 9 2 0 (Instance (web 0)) (calls.UnmountDisk 1 1) true answers.Done
-    ++ called 10 2 0 (Instance (web 0)) (calls.DetachDisk 1 1) true answers.Done
-    ++ called 11 2 0 (Instance (web 0)) (calls.DeleteVm 1) true answers.Done
+    ++ machine_deleted
     ++ (Note (upd_done 2 (web 0)) ∷ Note (entries.TaskDone 2) ∷ [])
