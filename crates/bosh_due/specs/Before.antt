@@ -1,8 +1,6 @@
 -- What a reply is judged by: what was known and done before its command, and what its own moves made of that (this
 -- project's profile).
-use Rattle.std.specs.Prelude.{ℕ, ◌+◌, Bool, ◌||◌, Option, Some, None, is_some, List, fold, nat_le, if◌then◌else◌}
-use Rattle.std.specs.List.{list_any}
-use Rattle.bosh_base.specs.Cloud.{numbers_to}
+use Rattle.std.specs.Prelude.{ℕ, ◌+◌, Bool, ◌||◌, Option, Some, None, List, fold, nat_le, if◌then◌else◌}
 use Rattle.bosh_base.specs.declared.moves.Cause.{Cause}
 use Rattle.bosh_base.specs.declared.moves.Move.{Move}
 use Rattle.bosh_base.specs.declared.moves.Move.TheVariants as moves
@@ -45,7 +43,3 @@ after b more = record {
 -- 1,000,000 entries were noted since the director started, or 2 ^ 62 calls were made: no more are
 abbrev pub is_full : Before → Bool
 is_full b = nat_le 1000000 b.noted || nat_le 4611686018427387904 b.moment.known.last_call
-
--- a call is open
-abbrev pub has_open_call : Moment → Bool
-has_open_call m = list_any (λ n. is_some (m.calls n)) (numbers_to m.known.last_call)

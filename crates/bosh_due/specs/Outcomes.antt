@@ -1,5 +1,5 @@
 -- What may come of a command: of each kind the moves that it makes, and what it is then told (this project's profile).
-use Rattle.std.specs.Prelude.{◌≡◌, ◌||◌, ℕ, Bool, true, false, eqb, Option, Some, None, List, [], ◌∷◌, codes, decimal, find}
+use Rattle.std.specs.Prelude.{◌≡◌, ◌||◌, ℕ, Bool, true, false, eqb, Option, Some, None, List, [], ◌∷◌, codes}
 use Rattle.std.specs.Prelude.{if◌then◌else◌}
 use Rattle.std.specs.List.{list_all}
 use Rattle.std.specs.Option.{unwrap_or}
@@ -15,10 +15,10 @@ use Rattle.bosh_base.specs.declared.reply.Refusal.{Refusal}
 use Rattle.bosh_base.specs.declared.reply.Reply.{Reply}
 use Rattle.bosh_base.specs.declared.reply.Reply.TheVariants.{Refused}
 use Rattle.bosh_base.specs.declared.task.TaskEnd.{TaskEnd}
-use Rattle.bosh_due.specs.Before.{Before, has_open_call, is_full}
+use Rattle.bosh_due.specs.Before.{Before, is_full}
 use Rattle.bosh_history.specs.Held.{is_open}
 use Rattle.bosh_history.specs.Words.{is_among}
-use Rattle.bosh_refusals.specs.Refused.{bare_refusal, refusal_with}
+use Rattle.bosh_refusals.specs.Refused.{bare_refusal}
 
 pub data Outcome : Type 0 where
   -- it is refused, and nothing is done; a refusal that is not told is want of memory, after which no reply comes
@@ -79,38 +79,28 @@ is_work_move tasks move = false
 abbrev pub full_reply : Reply
 full_reply = Refused (bare_refusal (codes "book") (codes "Full"))
 
-abbrev pub locked_reply : ℕ → Reply
-locked_reply task = Refused (refusal_with (codes "book") (codes "Locked") (decimal task))
-
--- the first of the tasks that has no end waits for the calls of others
-abbrev pub waiting_reply : List ℕ → Before → Reply
-waiting_reply tasks now = locked_reply (unwrap_or (find (is_open now.moment.known) tasks) 0)
-
--- a task without an end: the director halted in the run, or there was no room, or calls of others are open
-abbrev pub left_reply : List ℕ → Before → Reply
-left_reply tasks now =
-    if now.moment.halted then told_halt (unwrap_or now.last_halt causes.Stop)
-    else if is_full now then full_reply else waiting_reply tasks now
+-- a task without an end: the director halted in the run, or there was no room
+abbrev pub left_reply : Before → Reply
+left_reply now = if now.moment.halted then told_halt (unwrap_or now.last_halt causes.Stop) else full_reply
 
 -- how a task of several ended that ran together, or why it has no end
-abbrev pub told_by : Option TaskEnd → List ℕ → Before → ℕ → Reply
-told_by (Some end) tasks now task = told_end task end
-told_by None tasks now task = left_reply tasks now
+abbrev pub told_by : Option TaskEnd → Before → ℕ → Reply
+told_by (Some end) now task = told_end task end
+told_by None now task = left_reply now
 
-abbrev pub task_reply : List ℕ → Before → ℕ → Reply
-task_reply tasks now task = told_by (now.moment.known.task task).end tasks now task
+abbrev pub task_reply : Before → ℕ → Reply
+task_reply now task = told_by (now.moment.known.task task).end now task
 
--- that a task is left waits for a call that is open
+-- a task is left without an end only where the director halted or there was no room
 abbrev pub may_be_left : Before → ℕ → Bool
-may_be_left now task =
-    if is_open now.moment.known task then now.moment.halted || (is_full now || has_open_call now.moment) else true
+may_be_left now task = if is_open now.moment.known task then now.moment.halted || is_full now else true
 
 -- the task that was to open has opened, and its work alone was done since; its end is told
 pub record CarriesOut (due opened : TaskOpen) (run : List Move) (now : Before) (reply : Reply) : Type 0 where
   pub is_due : opened ≡ due
   pub is_its_work : list_all (is_work_move (due.task ∷ [])) run ≡ true
   pub may_end : may_be_left now due.task ≡ true
-  pub told : reply ≡ task_reply (due.task ∷ []) now due.task
+  pub told : reply ≡ task_reply now due.task
 
 abbrev pub CarriesFrom : TaskOpen → Before → Move → List Move → Reply → Type 0
 CarriesFrom due now (moves.Note (entries.TaskOpen opened)) run reply = CarriesOut due opened run now reply

@@ -35,7 +35,7 @@ pub record OpensTask {F : Type 0} (o : Opening) (was : List Move) (request : Req
   pub opens : IfOk result (OpensAs o was request files more)
   pub only : MakesOnly request (before_of o was) files more
 
--- tasks that are open are carried to their ends; one is left where the director halts, has no room, or waits for others
+-- tasks that are open are carried to their ends; one is left where the director halts or has no room
 pub record CarriesOut {T F : Type 0} (o : Opening) (was : List Move) (tasks : List ℕ)
     (result : Result T F) (now : List Move) : Type 0 where
   pub run : List Move
@@ -44,5 +44,5 @@ pub record CarriesOut {T F : Type 0} (o : Opening) (was : List Move) (tasks : Li
   pub left : OnOk result (list_all (may_be_left (before_of o now)) tasks ≡ true)
 
 -- how one of them is told
-abbrev pub IsTold : Opening → List Move → List ℕ → ℕ → Reply → Type 0
-IsTold o now tasks task reply = reply ≡ task_reply tasks (before_of o now) task
+abbrev pub IsTold : Opening → List Move → ℕ → Reply → Type 0
+IsTold o now task reply = reply ≡ task_reply (before_of o now) task

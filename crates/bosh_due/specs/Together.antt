@@ -1,6 +1,6 @@
 -- Commands that are carried out at once: their tasks open in order, then run together, and are told as they end (this
 -- project's profile).
-use Rattle.std.specs.Prelude.{◌≡◌, ℕ, Bool, true, false, not, List, [], ◌∷◌, ◌++◌, filter, find, map, Option, Some, None, option_map}
+use Rattle.std.specs.Prelude.{◌≡◌, ◌⊎◌, ℕ, Bool, true, false, not, List, [], ◌∷◌, ◌++◌, filter, find, map, Option, Some, None, option_map}
 use Rattle.std.specs.Prelude.{eqb, Result, Ok, Err, if◌then◌else◌}
 use Rattle.std.specs.List.{filter_map, list_all, list_any}
 use Rattle.bosh_answers.specs.Ends.{told_halt}
@@ -138,8 +138,8 @@ is_left run it = not (list_any (λ move. ends move it) run)
 abbrev pub by_end : List Running → List Move → List Running
 by_end all run = filter_map (ended_at all) run ++ filter (is_left run) all
 
-abbrev pub said_at_end : List Running → Before → Running → Move
-said_at_end all now it = said it.number (task_reply (tasks_of all) now it.task)
+abbrev pub said_at_end : Before → Running → Move
+said_at_end now it = said it.number (task_reply now it.task)
 
 -- ---- all
 
@@ -155,7 +155,7 @@ pub record IsTogether
     pub may_end : list_all (may_be_left (after b (openings ++ run))) (tasks_of running) ≡ true
     pub is :
         segment ≡ said number replies.Nothing
-        ∷ (openings ++ (run ++ map (said_at_end running (after b (openings ++ run))) (by_end running run)))
+        ∷ (openings ++ (run ++ map (said_at_end (after b (openings ++ run))) (by_end running run)))
 
 -- ---- up to an event
 
@@ -189,6 +189,8 @@ pub record IsCutRun
     pub ends_left : List Move
     pub opened : AreOpened files b others openings running
     pub is_its_run : is_run (after b openings).moment.halted (tasks_of running) run ≡ true
+    pub may_end :
+        (ends_told ≡ []) ⊎ (list_all (may_be_left (after b (openings ++ run))) (tasks_of running) ≡ true)
     pub ends :
-        map (said_at_end running (after b (openings ++ run))) (by_end running run) ≡ ends_told ++ ends_left
+        map (said_at_end (after b (openings ++ run))) (by_end running run) ≡ ends_told ++ ends_left
     pub is : segment ≡ said number replies.Nothing ∷ (openings ++ (run ++ ends_told))

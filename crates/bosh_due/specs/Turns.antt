@@ -56,7 +56,7 @@ pub data IsCutOff
     (segment : List Move) : Type 0
   where
     told : IsTurn b files number asked others segment → IsCutOff b files number asked others segment
-    untold : MakesAt b files asked segment → IsCutOff b files number asked others segment
+    untold : others ≡ [] → MakesAt b files asked segment → IsCutOff b files number asked others segment
     in_openings :
         TakesAlong asked others → IsCutOpening b files number others segment →
         IsCutOff b files number asked others segment
