@@ -1,5 +1,5 @@
 -- What may come of a command: of each kind the moves that it makes, and what it is then told (this project's profile).
-use Rattle.std.specs.Prelude.{◌≡◌, ◌||◌, ℕ, Bool, true, false, eqb, Option, Some, None, List, [], ◌∷◌, codes}
+use Rattle.std.specs.Prelude.{◌≡◌, ◌&&◌, ◌||◌, ℕ, Bool, true, false, eqb, Option, Some, None, is_some, List, [], ◌∷◌, codes}
 use Rattle.std.specs.Prelude.{if◌then◌else◌}
 use Rattle.std.specs.List.{list_all}
 use Rattle.std.specs.Option.{unwrap_or}
@@ -100,6 +100,8 @@ pub record CarriesOut (due opened : TaskOpen) (run : List Move) (now : Before) (
   pub is_due : opened ≡ due
   pub is_its_work : list_all (is_work_move (due.task ∷ [])) run ≡ true
   pub may_end : may_be_left now due.task ≡ true
+  -- no halt comes after its end
+  pub ends_last : (now.moment.halted && is_some (now.moment.known.task due.task).end) ≡ false
   pub told : reply ≡ task_reply now due.task
 
 abbrev pub CarriesFrom : TaskOpen → Before → Move → List Move → Reply → Type 0
