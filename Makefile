@@ -28,7 +28,7 @@ trials:
 	@bash trials/run.sh $(CRATE)
 
 tables:
-	@for tables in bosh_tables bosh_rule_tables bosh_config_tables bosh_manifest_tables bosh_release_tables bosh_entry_tables bosh_row_tables bosh_cloud_tables bosh_line_tables cpi_proc_tables bosh_cck_tables bosh_goal_tables bosh_book_tables bosh_world_tables; do \
+	@for tables in cases_texts cases_goals bosh_book_tables bosh_world_tables; do \
 		(cd crates/$$tables && rt run -- data/*.cases) || exit 1; \
 	done
 
@@ -36,14 +36,10 @@ sessions:
 	@bash sessions/run.sh
 
 bench: build
-	@cd crates/bosh_compile_bench && rt run < /dev/null > /dev/null
-	@cd crates/bosh_yaml_bench && rt run < /dev/null > /dev/null
-	@cd crates/bosh_entry_bench && rt run < /dev/null > /dev/null
-	@cd crates/bosh_release_bench && rt run < /dev/null > /dev/null
-	@cd crates/bosh_config_bench && rt run < /dev/null > /dev/null
-	@cd crates/bosh_cloud_bench && rt run < /dev/null > /dev/null
-	@cd crates/bosh_goal_bench && rt run < /dev/null > /dev/null
-	@cd crates/bosh_lock_bench && rt run < /dev/null > /dev/null
+	@for cases in cases_texts cases_goals; do \
+		(cd crates/$$cases && rt run -- data/*.cases > /dev/null) || exit 1; \
+	done
+	@cd crates/cases_crowds && rt run < /dev/null > /dev/null
 	@cd crates/bosh_book_bench && rt run < /dev/null > /dev/null
 	@cd crates/bosh_crew_bench && rt run < /dev/null > /dev/null
 	@cd crates/bosh_keep_bench && rt run < /dev/null > /dev/null

@@ -5,29 +5,25 @@
 # a mapping; and to read a MiB of each form, beside other readers. Then how fast the body of a large entry is written
 # and read, beside a plain copy of its bytes; and how long it takes to collect releases of 64, 128 and 256 packages,
 # each of which needs all before it. And how long it takes to check cloud configs of 8 and 16 networks, and to assign
-# 512 addresses of which none, 16,384 and 32,768 are held; and the goals of 64, 256 and 512 instances, each of one
+# 512 addresses of which none, 4,096 and 8,192 are held; and the goals of 64, 256 and 512 instances, each of one
 # job, and of 64 jobs with 200 properties each. And how long ten calls take on each of 5,000 and 10,000 machines of a
 # cloud, and a load of what they leave; and to enter a lock and leave it 1,000,000 times, in one thread alone and in
-# each of two, beside a mutex. And how long a deploy of 64, 256 and 512 instances takes from its opening to its end by
-# claims and ends of calls, each of which is done at once, and the fold of its entries; and how long it takes where
-# each call is performed by a cloud. Each time is the least of five runs; only the ratios within one run say
-# something.
+# each of two, beside a mutex. And how long a deploy of 64, 256 and 512 instances takes by claims and ends of calls on a
+# book, and the fold of its entries; and how long it takes on a site. Each time is the least of five runs; only the ratios within one run say
+# something. What the works are given is made by inputs.py.
 set -u
 here=$(cd "$(dirname "$0")" && pwd)
 top=$(dirname "$here")
 program=$top/crates/boshd/out/boshd
-levels=$top/crates/bosh_compile_bench/out/bosh_compile_bench
-reader=$top/crates/bosh_yaml_bench/out/bosh_yaml_bench
-codec=$top/crates/bosh_entry_bench/out/bosh_entry_bench
-releases=$top/crates/bosh_release_bench/out/bosh_release_bench
-config=$top/crates/bosh_config_bench/out/bosh_config_bench
-cloud=$top/crates/bosh_cloud_bench/out/bosh_cloud_bench
-lock=$top/crates/bosh_lock_bench/out/bosh_lock_bench
-goals=$top/crates/bosh_goal_bench/out/bosh_goal_bench
+texts=$top/crates/cases_texts/out/cases_texts
+goals=$top/crates/cases_goals/out/cases_goals
 book=$top/crates/bosh_book_bench/out/bosh_book_bench
 crew=$top/crates/bosh_crew_bench/out/bosh_crew_bench
+crowds=$top/crates/cases_crowds/out/cases_crowds
 folder=$(mktemp -d)
 trap 'rm -rf "$folder"' EXIT
+mkdir "$folder/given"
+python3 "$here/inputs.py" "$folder/given" || exit 1
 
 # So many MiB of comment lines, each of 64 bytes.
 comments() {
@@ -79,13 +75,14 @@ table() {
     done
 }
 
-# One line for each size that a program is run on, with the ratio to the time of `the first` or of `the one before`.
+# One line for each size that a work is done on, with the ratio to the time of `the first` or of `the one before`. The
+# words are the program, the work, its file without the size and with `%` in its place, the unit, and the sizes.
 table_of() {
-    local program=$1 form=$2 unit=$3 against=$4 other=
-    shift 4
+    local program=$1 work=$2 file=$3 unit=$4 against=$5 other=
+    shift 5
     for size in "$@"; do
         local time
-        time=$(least_told "$program" "$form" "$size" ${work:-})
+        time=$(least_told "$program" bench "$work" "$folder/given/${file/\%/$size}")
         line "$size" "$unit" "$time" "${other:-$time}" "$against"
         if [ -z "$other" ] || [ "$against" = "the one before" ]; then
             other=$time
@@ -93,68 +90,71 @@ table_of() {
     done
 }
 
+# One line for deploys of 64, 256 and 512 instances. The words are the program, the work and the unit.
+deploys_of() {
+    local program=$1 work=$2 unit=$3 first=
+    for size in 64 256 512; do
+        local time
+        time=$(least_told "$program" "$work" "$size")
+        line "$size" "$unit" "$time" "${first:=$time}" "the first"
+    done
+}
+
 # How long the reader takes for a MiB of each form, beside the loader of libyaml, where that is installed with its header;
 # and for a MiB of JSON beside the JSON reader that it stands on.
 readers() {
-    local loader=$folder/load form
+    local loader=$folder/load form text
     if cc -O2 -o "$loader" "$here/load.c" -lyaml 2> /dev/null; then
         for form in manifest mappings sequences literals quoted plain integers comments blanks; do
-            "$reader" "$form" 1024 print > "$folder/text"
-            line 1024 "KiB of YAML, $form" "$(least_told "$reader" "$form" 1024 read)" \
-                "$(least_told "$loader" "$folder/text")" "libyaml's"
+            text=$folder/given/$form.1024
+            line 1024 "KiB of YAML, $form" "$(least_told "$texts" bench yaml.read "$text")" \
+                "$(least_told "$loader" "$text")" "libyaml's"
         done
     else
         echo "no times beside libyaml, since cc or the library with its header is not here"
     fi
-    line 1024 "KiB of JSON" "$(least_told "$reader" json 1024 read)" \
-        "$(least_told "$reader" json 1024 parse)" "serde_json's"
+    text=$folder/given/json.1024
+    line 1024 "KiB of JSON" "$(least_told "$texts" bench yaml.read "$text")" \
+        "$(least_told "$texts" bench yaml.parse "$text")" "serde_json's"
 }
 
-# How many MiB a second a work on the opening of a task of 512 instances gets through, and how many times as long as a
-# copy it takes: each work, and in how many rounds it is timed. What comes before the rounds is measured by a run without
-# any, and left out.
-speeds() {
-    local before
-    before=$(least /dev/null "$codec" copy 0)
-    while [ $# -gt 0 ]; do
-        echo "$("$codec" "$1" 0) $2 $(($(least /dev/null "$codec" "$1" "$2") - before))"
-        shift 2
-    done | awk '
-        { time = ($5 > 0 ? $5 : 1) / $4 }
-        NR == 1 { copied = time }
-        { printf "%-6s of an entry %10.1f MiB/s  %8.2f times a copy\n", $1, $2 / 1.048576 / time, time / copied }'
+# How long a work on the opening of a task of 512 instances takes, and how many times as long as a copy of its bytes.
+entries() {
+    local copied work
+    copied=$(least_told "$texts" bench entry.copy "$folder/given/entry.cases" 20000)
+    for work in write read; do
+        line 100 "times $work of an entry" "$(least_told "$texts" bench "entry.$work" "$folder/given/entry.cases" 100)" \
+            "$((copied / 200 > 0 ? copied / 200 : 1))" "a copy's"
+    done
 }
 
 # How long it takes to enter a lock and leave it so many thousand times, beside a mutex of the standard library.
 doors() {
     local crowd
     for crowd in alone beside; do
-        line "$1" "thousand times in and out, $crowd" "$(least_told "$lock" lock "$crowd" "${1}000")" \
-            "$(least_told "$lock" mutex "$crowd" "${1}000")" "a mutex's"
+        line "$1" "thousand times in and out, $crowd" "$(least_told "$crowds" bench "lock.$crowd" "${1}000")" \
+            "$(least_told "$crowds" bench "mutex.$crowd" "${1}000")" "a mutex's"
     done
 }
 
 table "MiB of comment lines" comments 1 4 8
-table_of "$levels" chain "works, each on the one before" "the first" 64 128 256
-table_of "$levels" all "works, each on all before" "the first" 64 128 256
-work=read table_of "$reader" mappings "KiB of block mappings" "the one before" 64 256 1024
-work=read table_of "$reader" sequences "KiB of flow sequences" "the one before" 64 256 1024
-work=read table_of "$reader" literals "KiB of a literal" "the one before" 64 256 1024
-work=find table_of "$reader" mappings "KiB of a mapping, each key found" "the one before" 64 256 1024
-readers
-speeds copy 20000 write 500 read 200
-for size in 64 128 256; do
-    time=$(least_told "$releases" "$size")
-    line "$size" "packages of a release" "$time" "${first:=$time}" "the first"
+table_of "$texts" compile.levels chain.%.cases "works, each on the one before" "the first" 64 128 256
+table_of "$texts" compile.levels all.%.cases "works, each on all before" "the first" 64 128 256
+for form in mappings sequences literals; do
+    table_of "$texts" yaml.read "$form.%" "KiB of $form" "the one before" 64 256 1024
 done
-table_of "$config" check "networks of 16 subnets, checked" "the first" 8 16
-table_of "$config" assign "held, 512 addresses assigned" "the first" 0
-table_of "$config" assign "held, 512 addresses assigned" "the first" 16384 32768
-table_of "$cloud" calls "machines with ten calls each" "the first" 5000 10000
-table_of "$cloud" load "machines with ten calls, loaded" "the first" 5000 10000
+table_of "$texts" yaml.find mappings.% "KiB of a mapping, each key found" "the one before" 64 256 1024
+readers
+entries
+table_of "$texts" cloud.calls cloud.%.cases "machines with ten calls each" "the first" 5000 10000
+table_of "$texts" cloud.load cloud.%.cases "machines with ten calls, loaded" "the first" 5000 10000
+table_of "$goals" release.collect release.%.cases "packages of a release" "the first" 64 128 256
+table_of "$goals" config.check config.% "networks of 16 subnets, checked" "the first" 8 16
+table_of "$goals" pool.assign pool.%.cases "held, 512 addresses assigned" "the first" 0
+table_of "$goals" pool.assign pool.%.cases "held, 512 addresses assigned" "the first" 4096 8192
+table_of "$goals" goal.of plain.%.cases "instances of one job, their goal" "the first" 64 256 512
+table_of "$goals" goal.of full.%.cases "instances of 64 jobs, their goal" "the first" 64 256 512
 doors 1000
-table_of "$book" drive "instances, by claims and ends of calls" "the first" 64 256 512
-table_of "$book" fold "instances, their entries folded" "the first" 64 256 512
-table_of "$crew" drive "instances, driven on a site" "the first" 64 256 512
-table_of "$goals" plain "instances of one job, their goal" "the first" 64 256 512
-table_of "$goals" full "instances of 64 jobs, their goal" "the first" 64 256 512
+deploys_of "$book" drive "instances, by claims and ends of calls"
+deploys_of "$book" fold "instances, their entries folded"
+deploys_of "$crew" drive "instances, driven on a site"

@@ -1,5 +1,0 @@
-use Rattle.std.proofs.Common.{◌≡◌}
-use Rattle.bosh_lock_bench.proofs.rounds.lock_alone.Given as goal
-
-abbrev pub invariant-loop : goal.invariant-loop
-invariant-loop g l = (l.pass.lock ≡ l.lock) × (l.pass.share ≡ l.initial.pass.share)

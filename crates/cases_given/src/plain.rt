@@ -1,0 +1,5 @@
+//! Plain types, as cases give them.
+mod keys;
+mod names;
+mod owners;
+mod properties;
