@@ -1,8 +1,15 @@
 -- The files that a command reads: those that blocks keep stand before those of the shelf (this project's profile).
-use Rattle.std.specs.Prelude.{◌≡◌, ℕ, Bool, true, List, [], ◌∷◌, length, nat_lt, Option, Some, None, Result, Ok, Err, if◌then◌else◌}
-use Rattle.bosh_answers.specs.Files.{has_path, text_at}
+use Rattle.std.specs.Prelude.{◌≡◌, ◌≤◌, ℕ, Bool, true, false, List, [], ◌∷◌, ◌++◌, find, is_none, length, nat_le, nat_lt}
+use Rattle.std.specs.Prelude.{◌&&◌, codes, Option, Some, None, Result, Ok, Err, if◌then◌else◌}
+use Rattle.std.specs.List.{list_all}
+use Rattle.std.specs.Str.{bytes_eq}
+use Rattle.bosh_answers.specs.Files.{has_path, kept_below, text_at}
 use Rattle.bosh_answers.specs.Folder.{folder_of}
 use Rattle.bosh_answers.specs.declared.files.KeptFile.{KeptFile}
+use Rattle.bosh_base.specs.declared.moves.Move.{Move}
+use Rattle.bosh_base.specs.declared.moves.Move.TheVariants as moves
+use Rattle.bosh_base.specs.declared.reply.Reply.{Reply}
+use Rattle.bosh_base.specs.declared.reply.Reply.TheVariants.{Refused}
 use Rattle.bosh_ports.specs.Shelf.{file_at}
 use Rattle.bosh_ports.specs.declared.shelf.ShelfFault.{ShelfFault}
 use Rattle.bosh_ports.specs.declared.shelf.ShelfFault.TheVariants.{Absent, Failed, TooLarge}
@@ -12,41 +19,82 @@ use Rattle.bosh_release_files.specs.declared.folder.File.{File}
 abbrev pub Shelved : Type 0
 Shelved = List (List ℕ × List ℕ)
 
+-- what there is to read
 pub record FilesRead : Type 0 where
   -- what blocks kept before the command
   pub kept : List KeptFile
   -- what the shelf has, where it tells it
   pub shelf : Option Shelved
-  -- the count of the shelf's faults rose in the command
-  pub has_failed : Bool
+  -- by how much the count of the shelf's faults rose meanwhile
+  pub failures : ℕ
 
 -- ---- what is read
 
-abbrev pub IsTold : {A : Type 0} → Option Shelved → (Shelved → Result A ShelfFault) → Result A ShelfFault → Type 0
-IsTold (Some there) read answer = answer ≡ read there
-IsTold None read answer = Unit {0}
+-- A shelf that tells its files answers what is defined over them. What another one answers is free, but that what it
+-- gives has this form: a file that it lists may be gone as it is read.
+abbrev pub AnswersAs : {A : Type 0} → Option Shelved → (Shelved → Result A ShelfFault) → (A → Type 0) →
+    Result A ShelfFault → Type 0
+AnswersAs (Some there) read Fits answer = answer ≡ read there
+AnswersAs None read Fits (Ok value) = Fits value
+AnswersAs None read Fits (Err fault) = Unit {0}
 
--- what a shelf that tells its files answers is what is defined over them, unless it failed
-abbrev pub IsRead : {A : Type 0} → FilesRead → (Shelved → Result A ShelfFault) → Result A ShelfFault → Type 0
-IsRead files read (Err Failed) = files.has_failed ≡ true
-IsRead files read answer = IsTold files.shelf read answer
+-- .. unless it failed
+abbrev pub AnswersOrFails : {A : Type 0} → FilesRead → (Shelved → Result A ShelfFault) → (A → Type 0) →
+    Result A ShelfFault → Type 0
+AnswersOrFails files read Fits (Err Failed) = 1 ≤ files.failures
+AnswersOrFails files read Fits answer = AnswersAs files.shelf read Fits answer
 
 -- a file of 1,048,576 bytes at most
+abbrev pub HasFileSize : List ℕ → Type 0
+HasFileSize bytes = length bytes ≤ 1048576
+
+-- what a shelf answers of a file that it has, or has not
 abbrev pub shelf_file : Option (List ℕ) → Result (List ℕ) ShelfFault
 shelf_file None = Err Absent
 shelf_file (Some bytes) = if nat_lt 1048576 (length bytes) then Err TooLarge else Ok bytes
 
+-- a file that a block keeps, or else one of the shelf
 abbrev pub IsKeptOr : Option (List ℕ) → FilesRead → List ℕ → Result (List ℕ) ShelfFault → Type 0
 IsKeptOr (Some text) files path answer = answer ≡ Ok text
-IsKeptOr None files path answer = IsRead files (λ there. shelf_file (file_at there path)) answer
+IsKeptOr None files path answer = AnswersOrFails files (λ there. shelf_file (file_at there path)) HasFileSize answer
 
 -- the answer about the file of a path
 abbrev pub IsFile : FilesRead → List ℕ → Result (List ℕ) ShelfFault → Type 0
 IsFile files path answer = IsKeptOr (text_at files.kept path) files path answer
 
+-- a file of a folder, whose path no block keeps
+abbrev pub is_unkept : List KeptFile → List ℕ → File → Bool
+is_unkept kept folder file = is_none (find (has_path (folder ++ 47 ∷ file.path)) kept)
+
+-- .. of a size that is read
+abbrev pub has_file_size : File → Bool
+has_file_size file = nat_le (length file.bytes) 1048576
+
+-- Files of a folder, some and not too many: first those of the shelf that no block keeps, and then those that blocks
+-- keep.
+pub record AreOfFolder (kept : List KeptFile) (folder : List ℕ) (found : List File) : Type 0 where
+  pub shelved : List File
+  pub is : found ≡ shelved ++ kept_below folder kept
+  pub unkept : list_all (is_unkept kept folder) shelved ≡ true
+  pub sizes : list_all has_file_size shelved ≡ true
+  pub few : (nat_le 1 (length found) && nat_le (length found) 4096) ≡ true
+
 -- the answer about the files of a folder
 abbrev pub IsFolder : FilesRead → List ℕ → Result (List File) ShelfFault → Type 0
-IsFolder files folder answer = IsRead files (folder_of folder files.kept) answer
+IsFolder files folder answer =
+    AnswersOrFails files (folder_of folder files.kept) (AreOfFolder files.kept folder) answer
+
+-- ---- what is told of the shelf
+
+-- that the shelf failed
+abbrev pub is_shelf_failure : Reply → Bool
+is_shelf_failure (Refused it) = bytes_eq it.word (codes "shelf") && bytes_eq it.variant (codes "Failed")
+is_shelf_failure reply = false
+
+-- a reply tells that the shelf failed
+abbrev pub tells_shelf_failure : Move → Bool
+tells_shelf_failure (moves.Said said) = is_shelf_failure said.reply
+tells_shelf_failure move = false
 
 -- ---- what is kept
 

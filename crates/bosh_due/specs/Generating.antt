@@ -1,117 +1,115 @@
 -- A deployment that is made from a number: four commands, one after the other, and a last line (this project's
 -- profile).
-use Rattle.std.specs.Prelude.{◌≡◌, ℕ, Bool, true, false, List, [], ◌∷◌, ◌++◌, codes, count_by, min}
+use Rattle.std.specs.Prelude.{◌≡◌, ◌⊎◌, ℕ, Bool, true, false, List, [], ◌∷◌, ◌++◌, codes, count_by, min}
 use Rattle.bosh_answers.specs.declared.deploy.How.{How}
 use Rattle.bosh_base.specs.declared.moves.Move.{Move}
 use Rattle.bosh_base.specs.declared.moves.Move.TheVariants as moves
 use Rattle.bosh_base.specs.declared.reply.Reply.{Reply}
 use Rattle.bosh_base.specs.declared.reply.Reply.TheVariants as replies
 use Rattle.bosh_base.specs.declared.stemcell.Stemcell.{Stemcell}
-use Rattle.bosh_due.specs.Before.{Before, after}
-use Rattle.bosh_due.specs.Ends.{Makes, Meets}
+use Rattle.bosh_due.specs.Before.{Before}
+use Rattle.bosh_due.specs.Ends.{EndsIn, Makes, after_command}
 use Rattle.bosh_due.specs.Openings.{DeploysText}
 use Rattle.bosh_due.specs.Outcomes.{Outcome, unless_halted}
+use Rattle.bosh_due.specs.UnderWay.{UnderWay}
 use Rattle.bosh_due.specs.Uploads.{UploadsFiles, config_outcome, stemcell_outcome}
 use Rattle.bosh_generator.specs.Manifest.{cloud_config_text, groups, manifest_text}
 use Rattle.bosh_generator.specs.Release.{release_files}
 
 -- a command of a number is answered
-abbrev pub said : ℕ → Reply → Move
-said number reply = moves.Said (record { command = number; reply = reply })
+abbrev pub said_reply : ℕ → Reply → Move
+said_reply number reply = moves.Said (record { command = number; reply = reply })
 
 -- ---- the four commands
 
-abbrev pub gen : List ℕ
-gen = codes "gen"
+-- the name of the stemcell, of the release and of the deployment
+abbrev pub generated_name : List ℕ
+generated_name = codes "gen"
 
-abbrev pub one : List ℕ
-one = codes "1"
+-- .. and the version of the first two
+abbrev pub generated_version : List ℕ
+generated_version = codes "1"
 
-abbrev pub stemcell : Stemcell
-stemcell = record { os = gen; version = one }
+-- the stemcell that is uploaded
+abbrev pub generated_stemcell : Stemcell
+generated_stemcell = record { os = generated_name; version = generated_version }
 
+-- it is deployed without an option
 abbrev pub plainly : How
 plainly = record { recreate = false; fix = false }
 
 -- 512 instances at most
-abbrev pub made : ℕ → ℕ
-made instances = min instances 512
+abbrev pub made_instances : ℕ → ℕ
+made_instances instances = min instances 512
 
-abbrev pub AddsStemcell : Before → Outcome → Type 0
-AddsStemcell b outcome = outcome ≡ unless_halted b (stemcell_outcome b stemcell)
+-- one of the four
+pub data GeneratedCommand : Type 0 where
+  upload_stemcell : GeneratedCommand
+  upload_release : GeneratedCommand
+  set_config : GeneratedCommand
+  -- so many instances
+  deploy_all : ℕ → GeneratedCommand
 
-abbrev pub AddsRelease : Before → Outcome → Type 0
-AddsRelease b = UploadsFiles b one release_files
+-- in their order
+abbrev pub generated_commands : ℕ → List GeneratedCommand
+generated_commands instances = upload_stemcell ∷ upload_release ∷ set_config ∷ deploy_all instances ∷ []
 
-abbrev pub SetsConfig : Before → Outcome → Type 0
-SetsConfig b outcome = outcome ≡ config_outcome b cloud_config_text
-
-abbrev pub DeploysAll : Before → ℕ → Outcome → Type 0
-DeploysAll b instances = DeploysText b gen [] plainly (manifest_text (made instances))
-
--- one of them makes its moves and is answered
-pub record IsStep (Comes : Outcome → Type 0) (b : Before) (number : ℕ) (segment : List Move) : Type 0 where
-  pub more : List Move
-  pub reply : Reply
-  pub is : segment ≡ more ++ said number reply ∷ []
-  pub meets : Meets Comes b more reply
+-- what may come of one
+abbrev pub ComesOf : GeneratedCommand → Before → Outcome → Type 0
+ComesOf upload_stemcell b outcome = outcome ≡ unless_halted b (stemcell_outcome b generated_stemcell)
+ComesOf upload_release b outcome = UploadsFiles b generated_version release_files outcome
+ComesOf set_config b outcome = outcome ≡ config_outcome b cloud_config_text
+ComesOf (deploy_all instances) b outcome =
+    DeploysText b generated_name [] plainly (manifest_text (made_instances instances)) outcome
 
 -- ---- all of them
 
-abbrev pub is_call : Move → Bool
-is_call (moves.Did did) = true
-is_call move = false
+-- one of them makes its moves and is answered, and the others go on from what it has left
+pub record AnswersNext
+    (Rest : Before → List Move → UnderWay → Type 0) (command : GeneratedCommand) (b : Before) (number : ℕ)
+    (segment : List Move) (now : UnderWay) : Type 0
+  where
+    pub outcome : Outcome
+    pub more : List Move
+    pub reply : Reply
+    pub rest : List Move
+    pub comes : ComesOf command b outcome
+    pub ends : EndsIn outcome b more reply
+    pub others : Rest (after_command outcome b more) rest now
+    pub is : segment ≡ more ++ (said_reply number reply ∷ rest)
+
+-- one after the other
+abbrev pub AreCarriedOut : List GeneratedCommand → Before → ℕ → List Move → UnderWay → Type 0
+AreCarriedOut [] b number segment now = (segment ≡ []) × (now ≡ b.under_way)
+AreCarriedOut (command ∷ left) b number segment now =
+    AnswersNext (λ next rest end. AreCarriedOut left next number rest end) command b number segment now
+
+-- .. up to one that has no reply
+abbrev pub AreCarriedUpTo : List GeneratedCommand → Before → ℕ → List Move → UnderWay → Type 0
+AreCarriedUpTo [] b number segment now = (segment ≡ []) × (now ≡ b.under_way)
+AreCarriedUpTo (command ∷ left) b number segment now =
+    Makes (ComesOf command b) b segment now
+    ⊎ AnswersNext (λ next rest end. AreCarriedUpTo left next number rest end) command b number segment now
+
+-- a call was performed
+abbrev pub is_performed : Move → Bool
+is_performed (moves.Did did) = true
+is_performed move = false
 
 -- the last line: how many instances and groups there are, and how many calls were performed
 abbrev pub generated_reply : ℕ → List Move → Reply
 generated_reply instances more = replies.Generated (record {
-  instances = made instances;
-  groups = groups (made instances);
-  calls = count_by is_call more;
+  instances = made_instances instances;
+  groups = groups (made_instances instances);
+  calls = count_by is_performed more;
 })
 
--- what the first two and the first three of them have left
-abbrev pub after_two : Before → List Move → List Move → Before
-after_two b first second = after b (first ++ second)
-
-abbrev pub after_three : Before → List Move → List Move → List Move → Before
-after_three b first second third = after b (first ++ (second ++ third))
-
--- each goes on from what the ones before have left
-pub record AreCarriedOut (b : Before) (number instances : ℕ) (more : List Move) : Type 0 where
-  pub first : List Move
-  pub second : List Move
-  pub third : List Move
-  pub fourth : List Move
-  pub is : more ≡ first ++ (second ++ (third ++ fourth))
-  pub stemcell : IsStep (AddsStemcell b) b number first
-  pub release : IsStep (AddsRelease (after b first)) (after b first) number second
-  pub config : IsStep (SetsConfig (after_two b first second)) (after_two b first second) number third
-  pub deploy :
-      IsStep (DeploysAll (after_three b first second third) instances) (after_three b first second third) number fourth
-
--- .. and then the last line is said
-pub record IsGenerated (b : Before) (number instances : ℕ) (segment : List Move) : Type 0 where
+-- the four are carried out, and then the last line is said
+pub record IsGenerated (b : Before) (number instances : ℕ) (segment : List Move) (now : UnderWay) : Type 0 where
   pub more : List Move
-  pub carried_out : AreCarriedOut b number instances more
-  pub is : segment ≡ more ++ said number (generated_reply instances more) ∷ []
+  pub carried_out : AreCarriedOut (generated_commands instances) b number more now
+  pub is : segment ≡ more ++ said_reply number (generated_reply instances more) ∷ []
 
--- up to one of the four, or up to its moves, where that has no reply
-pub data MakesGenerated (b : Before) (number instances : ℕ) (segment : List Move) : Type 0 where
-  at_first : Makes (AddsStemcell b) b segment → MakesGenerated b number instances segment
-  at_second :
-      (first more : List Move) → IsStep (AddsStemcell b) b number first →
-      Makes (AddsRelease (after b first)) (after b first) more → segment ≡ first ++ more →
-      MakesGenerated b number instances segment
-  at_third :
-      (first second more : List Move) → IsStep (AddsStemcell b) b number first →
-      IsStep (AddsRelease (after b first)) (after b first) number second →
-      Makes (SetsConfig (after_two b first second)) (after_two b first second) more →
-      segment ≡ first ++ (second ++ more) → MakesGenerated b number instances segment
-  at_fourth :
-      (first second third more : List Move) → IsStep (AddsStemcell b) b number first →
-      IsStep (AddsRelease (after b first)) (after b first) number second →
-      IsStep (SetsConfig (after_two b first second)) (after_two b first second) number third →
-      Makes (DeploysAll (after_three b first second third) instances) (after_three b first second third) more →
-      segment ≡ first ++ (second ++ (third ++ more)) → MakesGenerated b number instances segment
-  whole : AreCarriedOut b number instances segment → MakesGenerated b number instances segment
+-- .. up to an event
+pub record IsGeneratedUpTo (b : Before) (number instances : ℕ) (segment : List Move) (now : UnderWay) : Type 0 where
+  pub carried_up_to : AreCarriedUpTo (generated_commands instances) b number segment now

@@ -1,6 +1,7 @@
 -- What jobs write and what is shown of machines and disks (this project's profile).
 use Rattle.std.specs.Prelude.{ℕ, Bool, true, false, List, Option, Some, None, codes}
 use Rattle.bosh_answers.specs.Placed.{first_placed, shown_file}
+use Rattle.bosh_base.specs.declared.entry.Entry.TheVariants as entries
 use Rattle.bosh_base.specs.declared.inst.Inst.{Inst}
 use Rattle.bosh_base.specs.declared.moves.Move.TheVariants as moves
 use Rattle.bosh_base.specs.declared.reply.Refusal.{Refusal}
@@ -23,37 +24,46 @@ row_at b inst = Some (b.moment.known.row inst)
 abbrev pub not_running : Inst → Option Refusal
 not_running inst = Some (refusal_with (codes "world") (codes "NotRunning") (inst_text inst))
 
+-- no machine of the instance is there
 abbrev pub no_machine : Inst → Option Refusal
 no_machine inst = Some (refusal_with (codes "world") (codes "NoMachine") (inst_text inst))
 
 -- a job writes to the active disk of its instance
-abbrev pub written : Option ℕ → Inst → List ℕ → Outcome
-written (Some disk) inst text = Changes (moves.Wrote (record { inst = inst; text = text })) replies.Written
-written None inst text = Refuses (not_running inst)
+abbrev pub written_outcome : Option ℕ → Inst → List ℕ → Outcome
+written_outcome (Some disk) inst text =
+    Changes (moves.Wrote (record { inst = inst; text = text })) (entries.Write (record { disk = disk; text = text }))
+    replies.Written
+written_outcome None inst text = Refuses (not_running inst)
 
+-- what comes of a write
 abbrev pub write_outcome : Before → Inst → List ℕ → Outcome
-write_outcome b inst text = written (written_disk_of (row_at b inst) b.moment.effects inst) inst text
+write_outcome b inst text = written_outcome (written_disk_of (row_at b inst) b.moment.effects inst) inst text
 
 -- its contents are shown
-abbrev pub held : Option (List ℕ) → Inst → Outcome
-held (Some contents) inst = Answers (replies.Contents contents)
-held None inst = Refuses (not_running inst)
+abbrev pub held_outcome : Option (List ℕ) → Inst → Outcome
+held_outcome (Some contents) inst = Answers (replies.Contents contents)
+held_outcome None inst = Refuses (not_running inst)
 
+-- what comes of reading
 abbrev pub read_outcome : Before → Inst → Outcome
-read_outcome b inst = held (read_disk_of (row_at b inst) b.moment.effects inst) inst
+read_outcome b inst = held_outcome (read_disk_of (row_at b inst) b.moment.effects inst) inst
 
 -- a file that was placed on a machine of the instance is shown
 abbrev pub show_outcome : Before → Inst → List ℕ → Outcome
 show_outcome b inst path = Answers (shown_file path (first_placed inst path (machines_in b.moment.effects)))
 
 -- the machine vanishes whole, or its agent falls silent
-abbrev pub is_whole : Lost → Bool
-is_whole losses.Vm = true
-is_whole losses.Agent = false
+abbrev pub loses_whole : Lost → Bool
+loses_whole losses.Vm = true
+loses_whole losses.Agent = false
 
-abbrev pub lost : Option ℕ → Inst → Lost → Outcome
-lost (Some vm) inst how = Changes (moves.Lost (record { vm = vm; whole = is_whole how })) replies.Lost
-lost None inst how = Refuses (no_machine inst)
+-- this machine is lost, or there is none
+abbrev pub lost_outcome : Option ℕ → Inst → Lost → Outcome
+lost_outcome (Some vm) inst how =
+    Changes (moves.Lost (record { vm = vm; whole = loses_whole how }))
+    (entries.Lost (record { vm = vm; whole = loses_whole how })) replies.Lost
+lost_outcome None inst how = Refuses (no_machine inst)
 
+-- what comes of a loss
 abbrev pub lose_outcome : Before → Inst → Lost → Outcome
-lose_outcome b inst how = lost (lost_vm_of (row_at b inst) b.moment.effects inst) inst how
+lose_outcome b inst how = lost_outcome (lost_vm_of (row_at b inst) b.moment.effects inst) inst how

@@ -4,6 +4,7 @@ pub mod Due
 pub mod Ends
 pub mod Files
 pub mod Generating
+pub mod InTurn
 pub mod Jobs
 pub mod Listed
 pub mod Openings
@@ -15,3 +16,4 @@ pub mod Together
 pub mod Turns
 pub mod UnderWay
 pub mod Uploads
+pub mod Work

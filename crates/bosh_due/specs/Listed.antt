@@ -35,6 +35,7 @@ rows_of k dep = map k.row (filter (λ i. bytes_eq i.dep dep) k.instances)
 abbrev pub orphans : Known → List Orphan
 orphans k = filter_map k.orphan k.orphans
 
+-- .. that were of a deployment
 abbrev pub orphans_of : Known → List ℕ → List Orphan
 orphans_of k dep = filter (λ it. bytes_eq it.inst.dep dep) (orphans k)
 
@@ -42,41 +43,52 @@ orphans_of k dep = filter (λ it. bytes_eq it.inst.dep dep) (orphans k)
 abbrev pub task_rows : Known → List TaskRow
 task_rows k = map (task_row k) (numbers_to k.tasks)
 
+-- a task, where it was opened
 abbrev pub task_at : Known → ℕ → Option TaskRow
 task_at k task = if nat_le 1 task && nat_le task k.tasks then Some (task_row k task) else None
 
 -- ---- what is there, by number
 
+-- the disks that are there
 abbrev pub disks_in : List Entry → List (Option Disk)
 disks_in effects = slots (disk_of effects) (disks_created effects)
 
 -- ---- what is told
 
+-- the instances of a deployment
 abbrev pub instances_reply : Known → List ℕ → Reply
 instances_reply k dep = replies.Instances (map instance_line (rows_of k dep))
 
+-- the orphaned disks
 abbrev pub orphans_reply : Known → Reply
 orphans_reply k = replies.Orphans (map orphan_line (orphans k))
 
+-- the tasks
 abbrev pub tasks_reply : Known → Reply
 tasks_reply k = replies.Tasks (map task_line (task_rows k))
 
-abbrev pub task_reply : Known → ℕ → Reply
-task_reply k task = shown_task task (task_at k task)
+-- one task
+abbrev pub shown_task_reply : Known → ℕ → Reply
+shown_task_reply k task = shown_task task (task_at k task)
 
+-- the releases, as they were uploaded
 abbrev pub releases_reply : Known → Reply
 releases_reply k = replies.Releases (map release_line k.releases)
 
+-- by name and key, the order in which they are known
 abbrev pub compiled_reply : Known → Reply
 compiled_reply k = replies.Compiled k.built
 
+-- the machines and disks that are there
 abbrev pub cloud_reply : List Entry → Reply
 cloud_reply effects = replies.Cloud (cloud_listing (machines_in effects) (disks_in effects))
 
+-- where the records of a deployment and the cloud differ
 abbrev pub problems_reply : Known → List Entry → List ℕ → Reply
 problems_reply k effects dep =
     replies.Problems (problems dep (rows_of k dep) (orphans_of k dep) (all_there (machines_in effects))
     (all_there (disks_in effects)))
 
+-- .. of a deployment that is recorded
 abbrev pub check_reply : Known → List Entry → List ℕ → Reply
 check_reply k effects dep = if is_some (k.goal dep) then problems_reply k effects dep else no_deployment dep

@@ -11,7 +11,7 @@ use Rattle.bosh_asks.specs.declared.ask.Deploy.{Deploy}
 use Rattle.bosh_asks.specs.declared.fault.BookFault.TheVariants as book
 use Rattle.bosh_base.specs.declared.entry.TaskOpen.{TaskOpen}
 use Rattle.bosh_base.specs.declared.goal.Goal.{Goal}
-use Rattle.bosh_due.specs.Before.{Before, is_full}
+use Rattle.bosh_due.specs.Before.{Before, is_out_of_room}
 use Rattle.bosh_due.specs.Files.{FilesRead, IsFile}
 use Rattle.bosh_due.specs.Outcomes.{Outcome, unless_halted}
 use Rattle.bosh_due.specs.Outcomes.Outcome.{Opens, Refuses}
@@ -46,7 +46,7 @@ opening_with k ask goal = record {
 abbrev pub planned : Before → Ask → Plan → Outcome
 planned b ask (Err fault) = Refuses (book_told fault)
 planned b ask (Ok goal) =
-    if is_full b then Refuses (book_told book.Full) else Opens (opening_with b.moment.known ask goal)
+    if is_out_of_room b then Refuses (book_told book.Full) else Opens (opening_with b.moment.known ask goal)
 
 -- .. and that the director has halted before them
 abbrev pub opening_outcome : Before → Ask → Plan → Outcome
@@ -57,7 +57,7 @@ opening_outcome b ask plan = unless_halted b (planned b ask plan)
 -- a deploy is asked of a director that may have halted
 pub data OpensDeploy (b : Before) (it : Deploy) (outcome : Outcome) : Type 0 where
   halted : b.moment.halted ≡ true → outcome ≡ Refuses (book_told book.Stopped) → OpensDeploy b it outcome
-  running :
+  going_on :
       (plan : Plan) → b.moment.halted ≡ false → PlansDeploy b.moment.known it plan →
       outcome ≡ planned b (asks.Deploy it) plan → OpensDeploy b it outcome
 
@@ -77,8 +77,10 @@ pub data DeploysText
         (ask : Ask) → deploy_of dep vars how text ≡ Ok ask → OpensAsked b ask outcome →
         DeploysText b dep vars how text outcome
 
+-- the options of a deploy
 abbrev pub how_of : deploying.Deploy → How
 how_of it = record { recreate = it.recreate; fix = it.fix }
 
+-- what comes of a deploy of a file
 abbrev pub DeploysFile : Before → FilesRead → deploying.Deploy → Outcome → Type 0
 DeploysFile b files it = FromFiles (IsFile files it.path) (DeploysText b it.dep it.vars (how_of it))

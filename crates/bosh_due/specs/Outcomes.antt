@@ -1,5 +1,5 @@
 -- What may come of a command: of each kind the moves that it makes, and what it is then told (this project's profile).
-use Rattle.std.specs.Prelude.{◌≡◌, ◌&&◌, ◌||◌, ℕ, Bool, true, false, eqb, Option, Some, None, is_some, List, [], ◌∷◌, codes}
+use Rattle.std.specs.Prelude.{◌≡◌, ◌&&◌, ◌||◌, ℕ, Bool, true, false, Option, Some, None, is_some, List, [], ◌∷◌, codes}
 use Rattle.std.specs.Prelude.{if◌then◌else◌}
 use Rattle.std.specs.List.{list_all}
 use Rattle.std.specs.Option.{unwrap_or}
@@ -15,11 +15,12 @@ use Rattle.bosh_base.specs.declared.reply.Refusal.{Refusal}
 use Rattle.bosh_base.specs.declared.reply.Reply.{Reply}
 use Rattle.bosh_base.specs.declared.reply.Reply.TheVariants.{Refused}
 use Rattle.bosh_base.specs.declared.task.TaskEnd.{TaskEnd}
-use Rattle.bosh_due.specs.Before.{Before, is_full}
+use Rattle.bosh_due.specs.Before.{Before, is_out_of_room}
+use Rattle.bosh_due.specs.Work.{is_work_move}
 use Rattle.bosh_history.specs.Held.{is_open}
-use Rattle.bosh_history.specs.Words.{is_among}
 use Rattle.bosh_refusals.specs.Refused.{bare_refusal}
 
+-- what may come of a command
 pub data Outcome : Type 0 where
   -- it is refused, and nothing is done; a refusal that is not told is want of memory, after which no reply comes
   Refuses : Option Refusal → Outcome
@@ -27,8 +28,8 @@ pub data Outcome : Type 0 where
   Answers : Reply → Outcome
   -- an entry is noted, and that is told
   Notes : Entry → Reply → Outcome
-  -- the cloud is changed, and that is told
-  Changes : Move → Reply → Outcome
+  -- the cloud is changed by a move, which is an entry of its store, and that is told
+  Changes : Move → Entry → Reply → Outcome
   -- a task opens and is carried to its end
   Opens : TaskOpen → Outcome
   -- the director starts anew
@@ -42,40 +43,23 @@ unless_halted b outcome =
 -- ---- halts
 
 -- the director's store failed, or a stop sprang in it
-abbrev pub is_directors : Cause → Bool
-is_directors causes.CloudStore = false
-is_directors cause = true
+abbrev pub is_directors_halt : Cause → Bool
+is_directors_halt causes.CloudStore = false
+is_directors_halt cause = true
 
 -- the cloud's store failed
-abbrev pub is_clouds : Cause → Bool
-is_clouds causes.CloudStore = true
-is_clouds cause = false
+abbrev pub is_clouds_halt : Cause → Bool
+is_clouds_halt causes.CloudStore = true
+is_clouds_halt cause = false
 
 -- One move is made, and the good reply given; or the store fails in it, which is told.
-abbrev pub Does : (Cause → Bool) → Move → Reply → List Move → Reply → Type 0
-Does halts move good (moves.Halt cause ∷ []) reply = (halts cause ≡ true) × (reply ≡ told_halt cause)
-Does halts move good more reply = (more ≡ move ∷ []) × (reply ≡ good)
+abbrev pub MakesMove : (Cause → Bool) → Move → Reply → List Move → Reply → Type 0
+MakesMove halts move good (moves.Halt cause ∷ []) reply = (halts cause ≡ true) × (reply ≡ told_halt cause)
+MakesMove halts move good more reply = (more ≡ move ∷ []) × (reply ≡ good)
 
 -- ---- tasks
 
--- the entry is work of one of the tasks; the end of a call names no task
-abbrev pub is_work : List ℕ → Entry → Bool
-is_work tasks (entries.Begin it) = is_among eqb it.task tasks
-is_work tasks (entries.End it) = true
-is_work tasks (entries.UpdBegin it) = is_among eqb it.task tasks
-is_work tasks (entries.UpdDone it) = is_among eqb it.task tasks
-is_work tasks (entries.Gone it) = is_among eqb it.task tasks
-is_work tasks (entries.TaskDone task) = is_among eqb task tasks
-is_work tasks (entries.TaskError it) = is_among eqb it.task tasks
-is_work tasks entry = false
-
--- .. noted, a call that is performed, or a halt
-abbrev pub is_work_move : List ℕ → Move → Bool
-is_work_move tasks (moves.Note entry) = is_work tasks entry
-is_work_move tasks (moves.Did did) = true
-is_work_move tasks (moves.Halt cause) = true
-is_work_move tasks move = false
-
+-- no more entries are noted
 abbrev pub full_reply : Reply
 full_reply = Refused (bare_refusal (codes "book") (codes "Full"))
 
@@ -88,28 +72,30 @@ abbrev pub told_by : Option TaskEnd → Before → ℕ → Reply
 told_by (Some end) now task = told_end task end
 told_by None now task = left_reply now
 
-abbrev pub task_reply : Before → ℕ → Reply
-task_reply now task = told_by (now.moment.known.task task).end now task
+-- how a task is told
+abbrev pub end_reply : Before → ℕ → Reply
+end_reply now task = told_by (now.moment.known.task task).end now task
 
 -- a task is left without an end only where the director halted or there was no room
 abbrev pub may_be_left : Before → ℕ → Bool
-may_be_left now task = if is_open now.moment.known task then now.moment.halted || is_full now else true
+may_be_left now task = if is_open now.moment.known task then now.moment.halted || is_out_of_room now else true
 
 -- the task that was to open has opened, and its work alone was done since; its end is told
-pub record CarriesOut (due opened : TaskOpen) (run : List Move) (now : Before) (reply : Reply) : Type 0 where
+pub record RunsTask (due opened : TaskOpen) (run : List Move) (now : Before) (reply : Reply) : Type 0 where
   pub is_due : opened ≡ due
   pub is_its_work : list_all (is_work_move (due.task ∷ [])) run ≡ true
   pub may_end : may_be_left now due.task ≡ true
   -- no halt comes after its end
   pub ends_last : (now.moment.halted && is_some (now.moment.known.task due.task).end) ≡ false
-  pub told : reply ≡ task_reply now due.task
+  pub told : reply ≡ end_reply now due.task
 
-abbrev pub CarriesFrom : TaskOpen → Before → Move → List Move → Reply → Type 0
-CarriesFrom due now (moves.Note (entries.TaskOpen opened)) run reply = CarriesOut due opened run now reply
-CarriesFrom due now move run reply = ⊥
+-- the first move opens it
+abbrev pub RunsTaskFrom : TaskOpen → Before → Move → List Move → Reply → Type 0
+RunsTaskFrom due now (moves.Note (entries.TaskOpen opened)) run reply = RunsTask due opened run now reply
+RunsTaskFrom due now move run reply = ⊥
 
 -- .. or the store failed as it was to open
-abbrev pub Carries : TaskOpen → Before → List Move → Reply → Type 0
-Carries due now [] reply = ⊥
-Carries due now (moves.Halt cause ∷ []) reply = (is_directors cause ≡ true) × (reply ≡ told_halt cause)
-Carries due now (move ∷ run) reply = CarriesFrom due now move run reply
+abbrev pub OpensAndRuns : TaskOpen → Before → List Move → Reply → Type 0
+OpensAndRuns due now [] reply = ⊥
+OpensAndRuns due now (moves.Halt cause ∷ []) reply = (is_directors_halt cause ≡ true) × (reply ≡ told_halt cause)
+OpensAndRuns due now (move ∷ run) reply = RunsTaskFrom due now move run reply

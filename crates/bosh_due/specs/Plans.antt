@@ -39,6 +39,7 @@ Plan = Result (Option Goal) BookFault
 abbrev pub lock_holder : Known → Option (List ℕ) → Option ℕ
 lock_holder k dep = find (λ t. is_open k t && option_eq bytes_eq (k.task t).dep dep) (numbers_to k.tasks)
 
+-- there is no such task
 abbrev pub unlocked : Option ℕ → Result Bool BookFault
 unlocked (Some task) = Err (book.Locked task)
 unlocked None = Ok true
@@ -47,6 +48,7 @@ unlocked None = Ok true
 abbrev pub free : Known → Option (List ℕ) → Result Bool BookFault
 free k dep = unlocked (lock_holder k dep)
 
+-- a deployment that has no goal is not recorded
 abbrev pub current : List ℕ → Option Goal → Result Goal BookFault
 current dep (Some goal) = Ok goal
 current dep None = Err (book.NoDeployment dep)
@@ -55,17 +57,19 @@ current dep None = Err (book.NoDeployment dep)
 abbrev pub goal_of : Known → List ℕ → Result Goal BookFault
 goal_of k dep = current dep (k.goal dep)
 
-abbrev pub wanting : Inst → Goal → Result Goal BookFault
-wanting inst goal = if is_in goal inst then Ok goal else Err (book.NoInstance inst)
+-- the goal, where it has the instance
+abbrev pub having_instance : Inst → Goal → Result Goal BookFault
+having_instance inst goal = if is_in goal inst then Ok goal else Err (book.NoInstance inst)
 
 -- what is recorded of the deployments, in their order
 abbrev pub dep_rows : Known → List (List ℕ × Option DepRow)
 dep_rows k = map (λ dep. (dep, dep_row k dep)) k.deployments
 
 -- the first consumer, of another deployment, of a link that the goal withdraws
-abbrev pub consumer : Known → Goal → Option Joint
-consumer k goal = first_consumer goal (dep_rows k)
+abbrev pub first_consumer_of : Known → Goal → Option Joint
+first_consumer_of k goal = first_consumer goal (dep_rows k)
 
+-- there is no such consumer
 abbrev pub unconsumed : Option Joint → Result Bool BookFault
 unconsumed (Some by) = Err (book.Consumed by)
 unconsumed None = Ok true
@@ -78,6 +82,7 @@ lacks_room k dep = is_none (k.goal dep) && is_full (dep_rows k)
 abbrev pub is_owned : Known → ℕ → Bool
 is_owned k disk = list_any (λ i. list_any (λ it. it.disk == disk) (k.row i).disks) k.instances
 
+-- the disk belongs to no instance
 abbrev pub orphaned : Known → ℕ → Result Bool BookFault
 orphaned k disk =
     if is_among eqb disk k.orphans then Ok true
@@ -86,31 +91,32 @@ orphaned k disk =
 -- ---- goals
 
 -- the current goal of its deployment with an instance changed
-abbrev pub altered : Known → Inst → Change → Plan
-altered k inst change = do
+abbrev pub alteration_plan : Known → Inst → Change → Plan
+alteration_plan k inst change = do
   whole ← goal_of k inst.dep
-  goal ← wanting inst whole
+  goal ← having_instance inst whole
   unheld ← free k (Some inst.dep)
   made ← answered (anew inst change (recorded_config k.config) (view k inst.dep) goal)
   Ok (Some made)
 
 -- nothing is wanted of a deployment that is deleted
-abbrev pub deleted : Known → List ℕ → Plan
-deleted k dep = do
+abbrev pub deletion_plan : Known → List ℕ → Plan
+deletion_plan k dep = do
   whole ← goal_of k dep
   unheld ← free k (Some dep)
-  unused ← unconsumed (consumer k (nothing dep))
+  unused ← unconsumed (first_consumer_of k (nothing dep))
   Ok (Some (nothing dep))
 
 -- an orphaned disk is deleted, or all of them
-abbrev pub disk_deleted : Known → ℕ → Plan
-disk_deleted k disk = do
+abbrev pub disk_deletion_plan : Known → ℕ → Plan
+disk_deletion_plan k disk = do
   there ← orphaned k disk
   unheld ← free k None
   Ok None
 
-abbrev pub cleaned_up : Known → Plan
-cleaned_up k = do
+-- all orphaned disks are deleted
+abbrev pub clean_up_plan : Known → Plan
+clean_up_plan k = do
   unheld ← free k None
   Ok None
 
@@ -123,12 +129,13 @@ unsound (r ∷ []) = book.Differs (name_and_version r.name r.version)
 unsound (r ∷ rs) = unsound rs
 
 -- the goal of the manifest over what is recorded, or why there is none
-pub record Gives (k : Known) (it : Deploy) (answer : Result Goal GoalFault) : Type 0 where
+pub record AnswersGoal (k : Known) (it : Deploy) (answer : Result Goal GoalFault) : Type 0 where
   pub is_free : lock_holder k (Some it.manifest.name) ≡ None
   pub sound : AreSound k.releases
   pub goal :
       IsGoal it.manifest (recorded_config k.config) k.releases k.stemcells (view k it.manifest.name) it.recreate answer
 
+-- what comes of the goal of a manifest, the first that applies
 pub data PlansDeploy (k : Known) (it : Deploy) (plan : Plan) : Type 0 where
   locked :
       (task : ℕ) → lock_holder k (Some it.manifest.name) ≡ Some task → plan ≡ Err (book.Locked task) →
@@ -136,13 +143,13 @@ pub data PlansDeploy (k : Known) (it : Deploy) (plan : Plan) : Type 0 where
   differs :
       lock_holder k (Some it.manifest.name) ≡ None → ¬ AreSound k.releases → plan ≡ Err (unsound k.releases) →
       PlansDeploy k it plan
-  no_goal : (fault : GoalFault) → Gives k it (Err fault) → plan ≡ Err (of_goal fault) → PlansDeploy k it plan
+  no_goal : (fault : GoalFault) → AnswersGoal k it (Err fault) → plan ≡ Err (of_goal fault) → PlansDeploy k it plan
   consumed :
-      (goal : Goal) (by : Joint) → Gives k it (Ok goal) → consumer k goal ≡ Some by → plan ≡ Err (book.Consumed by) →
-      PlansDeploy k it plan
+      (goal : Goal) (by : Joint) → AnswersGoal k it (Ok goal) → first_consumer_of k goal ≡ Some by →
+      plan ≡ Err (book.Consumed by) → PlansDeploy k it plan
   too_many :
-      (goal : Goal) → Gives k it (Ok goal) → consumer k goal ≡ None → lacks_room k it.manifest.name ≡ true →
-      plan ≡ Err book.Limit → PlansDeploy k it plan
+      (goal : Goal) → AnswersGoal k it (Ok goal) → first_consumer_of k goal ≡ None →
+      lacks_room k it.manifest.name ≡ true → plan ≡ Err book.Limit → PlansDeploy k it plan
   planned :
-      (goal : Goal) → Gives k it (Ok goal) → consumer k goal ≡ None → lacks_room k it.manifest.name ≡ false →
-      plan ≡ Ok (Some goal) → PlansDeploy k it plan
+      (goal : Goal) → AnswersGoal k it (Ok goal) → first_consumer_of k goal ≡ None →
+      lacks_room k it.manifest.name ≡ false → plan ≡ Ok (Some goal) → PlansDeploy k it plan

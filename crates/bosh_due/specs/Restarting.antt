@@ -1,25 +1,30 @@
--- What a restart makes and is told (this project's profile).
-use Rattle.std.specs.Prelude.{◌≡◌, ◌⊎◌, ℕ, Bool, true, false, Option, Some, None, List, [], ◌∷◌, codes, decimal, filter, map}
-use Rattle.bosh_answers.specs.Ends.{stopped_reply, told_halt}
+-- What a restart makes and is told (this project's profile). The stores are those that a permitted session left, or
+-- that were empty: no body of them is damaged, and none is told to be.
+use Rattle.std.specs.Prelude.{◌≡◌, ◌⊎◌, ℕ, Bool, true, false, Option, Some, None, List, [], ◌∷◌, filter, map}
+use Rattle.bosh_answers.specs.Ends.{told_halt}
 use Rattle.bosh_base.specs.Cloud.{numbers_to}
+use Rattle.bosh_base.specs.declared.entry.Entry.{Entry}
 use Rattle.bosh_base.specs.declared.entry.Entry.TheVariants as entries
 use Rattle.bosh_base.specs.declared.failure.Failure.TheVariants.{Interrupted}
-use Rattle.bosh_base.specs.declared.moves.Cause.{Cause}
 use Rattle.bosh_base.specs.declared.moves.Cause.TheVariants as causes
 use Rattle.bosh_base.specs.declared.moves.Move.{Move}
 use Rattle.bosh_base.specs.declared.moves.Move.TheVariants as moves
 use Rattle.bosh_base.specs.declared.reply.Reply.{Reply}
-use Rattle.bosh_base.specs.declared.reply.Reply.TheVariants.{Refused, Restarted}
+use Rattle.bosh_base.specs.declared.reply.Reply.TheVariants.{Restarted}
+use Rattle.bosh_due.specs.Before.{Before}
+use Rattle.bosh_due.specs.Outcomes.{is_directors_halt}
+use Rattle.bosh_due.specs.UnderWay.{FindsAsked, UnderWay}
+use Rattle.bosh_due.specs.UnderWay.UnderWay.{idle, noting}
 use Rattle.bosh_history.specs.Held.{is_open}
 use Rattle.bosh_history.specs.Known.{Known}
-use Rattle.bosh_history.specs.Moments.{Moment, stopping}
-use Rattle.bosh_refusals.specs.Refused.{refusal_with}
+use Rattle.bosh_history.specs.Moments.{stopping}
 
 -- each open task is to end as interrupted, by number
-abbrev pub interruption : ℕ → Move
-interruption task = moves.Note (entries.TaskError (record { task = task; cause = Interrupted }))
+abbrev pub interruption : ℕ → Entry
+interruption task = entries.TaskError (record { task = task; cause = Interrupted })
 
-abbrev pub interruptions : Known → List Move
+-- all open tasks, by number
+abbrev pub interruptions : Known → List Entry
 interruptions k = map interruption (filter (is_open k) (numbers_to k.tasks))
 
 -- ---- the moves
@@ -32,43 +37,49 @@ after_halt false more = None
 
 -- ---- what is told
 
-abbrev pub damaged : List ℕ → List ℕ → ℕ → Reply
-damaged word variant place = Refused (refusal_with word variant (decimal place))
+-- a store was not read, since it failed
+abbrev pub IsStoreUnread : Reply → Type 0
+IsStoreUnread reply = (reply ≡ told_halt causes.Store) ⊎ (reply ≡ told_halt causes.CloudStore)
 
--- a store was not read: it failed, or a body of it is none that may stand there
-pub data IsUnread (reply : Reply) : Type 0 where
-  store : reply ≡ told_halt causes.Store → IsUnread reply
-  cloud_store : reply ≡ told_halt causes.CloudStore → IsUnread reply
-  entry : (place : ℕ) → reply ≡ damaged (codes "book") (codes "Damaged") place → IsUnread reply
-  effect : (place : ℕ) → reply ≡ damaged (codes "world") (codes "CloudDamaged") place → IsUnread reply
+-- All tasks that were open end as interrupted; or the director halts as one is to: its store fails, or a stop springs.
+abbrev pub EndsInterrupted : List Entry → List Move → Reply → Type 0
+EndsInterrupted [] [] reply = reply ≡ Restarted
+EndsInterrupted (end ∷ due) (moves.Halt cause ∷ []) reply = (is_directors_halt cause ≡ true) × (reply ≡ told_halt cause)
+EndsInterrupted (end ∷ due) (move ∷ more) reply = (move ≡ moves.Note end) × EndsInterrupted due more reply
+EndsInterrupted due more reply = ⊥
 
--- the stores were read, and the director halted again: its store failed, or a stop sprang, or an entry may not stand
-abbrev pub IsHalted : Cause → Reply → Type 0
-IsHalted causes.Stop reply =
-    (reply ≡ stopped_reply) ⊎ ((place : ℕ) × (reply ≡ damaged (codes "book") (codes "Damaged") place))
-IsHalted causes.Store reply = reply ≡ told_halt causes.Store
-IsHalted causes.CloudStore reply = ⊥
+-- the stores are not read; or the stop finds nothing but what was under way, and open tasks end
+abbrev pub StartsAt : Before → Option (List Move) → Reply → Type 0
+StartsAt b (Some []) reply = IsStoreUnread reply
+StartsAt b (Some (moves.Stop stop ∷ more)) reply =
+    FindsAsked b.under_way b.last_halt stop × EndsInterrupted (interruptions (stopping b.moment stop).known) more reply
+StartsAt b more reply = ⊥
 
--- all tasks that were open end as interrupted; a halt may come before
-abbrev pub Mends : List Move → List Move → Reply → Type 0
-Mends [] [] reply = reply ≡ Restarted
-Mends due (moves.Halt cause ∷ []) reply = IsHalted cause reply
-Mends (end ∷ due) (move ∷ more) reply = (move ≡ end) × Mends due more reply
-Mends due more reply = ⊥
+-- .. whether or not a reply comes: for want of memory it stops also behind all of them
+abbrev pub MayEndInterrupted : List Entry → List Move → Type 0
+MayEndInterrupted [] [] = Unit {0}
+MayEndInterrupted [] (moves.Halt causes.Stop ∷ []) = Unit {0}
+MayEndInterrupted (end ∷ due) (moves.Halt cause ∷ []) = is_directors_halt cause ≡ true
+MayEndInterrupted (end ∷ due) (move ∷ more) = (move ≡ moves.Note end) × MayEndInterrupted due more
+MayEndInterrupted due more = ⊥
 
-abbrev pub StartsAt : Moment → Option (List Move) → Reply → Type 0
-StartsAt m (Some []) reply = IsUnread reply
-StartsAt m (Some (moves.Stop stop ∷ more)) reply = Mends (interruptions (stopping m stop).known) more reply
-StartsAt m more reply = ⊥
+-- a start, as far as it came
+abbrev pub MayStartAt : Before → Option (List Move) → Type 0
+MayStartAt b (Some []) = Unit {0}
+MayStartAt b (Some (moves.Stop stop ∷ more)) =
+    FindsAsked b.under_way b.last_halt stop × MayEndInterrupted (interruptions (stopping b.moment stop).known) more
+MayStartAt b more = ⊥
 
--- .. whether or not a reply comes
-abbrev pub MayMend : List Move → List Move → Type 0
-MayMend [] [] = Unit {0}
-MayMend due (moves.Halt cause ∷ []) = Unit {0}
-MayMend (end ∷ due) (move ∷ more) = (move ≡ end) × MayMend due more
-MayMend due more = ⊥
+-- ---- what is under way
 
-abbrev pub MayStartAt : Moment → Option (List Move) → Type 0
-MayStartAt m (Some []) = Unit {0}
-MayStartAt m (Some (moves.Stop stop ∷ more)) = MayMend (interruptions (stopping m stop).known) more
-MayStartAt m more = ⊥
+-- the next task was to end as the director halted
+abbrev pub next_interruption : List Entry → List Move → UnderWay
+next_interruption (end ∷ due) (moves.Halt cause ∷ []) = noting end
+next_interruption (end ∷ due) (move ∷ more) = next_interruption due more
+next_interruption due more = idle
+
+-- what a start leaves under way
+abbrev pub start_under_way : Before → Option (List Move) → UnderWay
+start_under_way b (Some (moves.Stop stop ∷ more)) =
+    next_interruption (interruptions (stopping b.moment stop).known) more
+start_under_way b more = idle

@@ -1,48 +1,68 @@
 -- What a director does with a command, whatever it is over: it answers it; it opens its task; it carries tasks to their
--- ends. The moves `was` are those before, and `now` those after (this project's profile).
-use Rattle.std.specs.Prelude.{◌≡◌, ◌++◌, true, ℕ, List, IfOk, Result, OnOk}
+-- ends (this project's profile). The moves `was` are those before, and `now` those after; `under` is what was under way
+-- before, and `left` what is after.
+use Rattle.std.specs.Prelude.{◌≡◌, ◌++◌, true, false, ℕ, List, [], IfOk, OnErr, OnOk, Result}
 use Rattle.std.specs.List.{list_all}
 use Rattle.bosh_base.specs.declared.moves.Move.{Move}
 use Rattle.bosh_base.specs.declared.reply.Reply.{Reply}
-use Rattle.bosh_due.specs.Before.{before_of}
-use Rattle.bosh_due.specs.Due.{Due, MakesOnly}
+use Rattle.bosh_due.specs.Before.{Before, before_of}
+use Rattle.bosh_due.specs.Commands.{asks_alone}
+use Rattle.bosh_due.specs.Due.{Due, MakesNone, MakesOnly}
+use Rattle.bosh_due.specs.Ends.{Makes, Meets, leaves_under_way}
 use Rattle.bosh_due.specs.Files.{FilesRead}
-use Rattle.bosh_due.specs.Outcomes.{Outcome, may_be_left, task_reply}
-use Rattle.bosh_due.specs.Together.{Came, ComesAt, IsOpened, is_run}
+use Rattle.bosh_due.specs.Outcomes.{Outcome, end_reply, may_be_left}
+use Rattle.bosh_due.specs.Together.{Came, ComesAt, OpensAtMost, OpensOrTells, is_run, run_leaves}
+use Rattle.bosh_due.specs.UnderWay.{UnderWay}
 use Rattle.bosh_history.specs.Moments.{Opening}
 use Rattle.bosh_input.specs.declared.request.Request.{Request}
 
--- a command is carried out and answered; for want of memory no reply comes, and nothing is done but what it asks for
-pub record Answers {F : Type 0} (o : Opening) (was : List Move) (request : Request) (files : FilesRead)
-    (result : Result Reply F) (now : List Move) : Type 0 where
+-- A command is carried out and answered; for want of memory no reply comes, and nothing is done but what it asks for.
+-- One that takes others along or stands for others is left to the session.
+pub record AnswersCommand {F : Type 0} (o : Opening) (was : List Move) (under : UnderWay) (request : Request)
+    (files : FilesRead) (result : Result Reply F) (now : List Move) (left : UnderWay) : Type 0 where
   pub more : List Move
   pub comes : now ≡ was ++ more
-  pub due : IfOk result (λ reply. Due o was request files more reply)
-  pub only : MakesOnly request (before_of o was) files more
+  pub due :
+      asks_alone request.asked ≡ true → IfOk result (λ reply. Due o was under request files more reply left)
+  pub only : asks_alone request.asked ≡ true → OnErr result (MakesOnly o was under request files more left)
+  pub none : asks_alone request.asked ≡ false → MakesNone (before_of o was under) more left
+
+-- the same of what a command stands for
+pub record AnswersAsked {F : Type 0} (Comes : Before → Outcome → Type 0) (o : Opening) (was : List Move)
+    (under : UnderWay) (result : Result Reply F) (now : List Move) (left : UnderWay) : Type 0 where
+  pub more : List Move
+  pub comes : now ≡ was ++ more
+  pub due : IfOk result (λ reply. Meets (Comes (before_of o was under)) (before_of o was under) more reply left)
+  pub only : OnErr result (Makes (Comes (before_of o was under)) (before_of o was under) more left)
 
 -- the task of a command opens, or it is refused
 pub record OpensAs
-    (o : Opening) (was : List Move) (request : Request) (files : FilesRead) (more : List Move) (came : Came) : Type 0
+    (b : Before) (request : Request) (files : FilesRead) (more : List Move) (left : UnderWay) (came : Came) : Type 0
   where
     pub outcome : Outcome
-    pub comes : ComesAt (before_of o was) files request.asked outcome
-    pub opened : IsOpened outcome more came
+    pub comes : ComesAt b files request.asked outcome
+    pub opened : OpensOrTells outcome more came
+    pub is_left : left ≡ leaves_under_way outcome b more
 
-pub record OpensTask {F : Type 0} (o : Opening) (was : List Move) (request : Request) (files : FilesRead)
-    (result : Result Came F) (now : List Move) : Type 0 where
+-- .. or for want of memory nothing comes of it, and no work is done for its task
+pub record OpensTaskOf {F : Type 0} (o : Opening) (was : List Move) (under : UnderWay) (request : Request)
+    (files : FilesRead) (result : Result Came F) (now : List Move) (left : UnderWay) : Type 0 where
   pub more : List Move
   pub comes : now ≡ was ++ more
-  pub opens : IfOk result (OpensAs o was request files more)
-  pub only : MakesOnly request (before_of o was) files more
+  pub opens : IfOk result (OpensAs (before_of o was under) request files more left)
+  pub only :
+      OnErr result
+      (OpensAtMost (ComesAt (before_of o was under) files request.asked) (before_of o was under) more left)
 
 -- tasks that are open are carried to their ends; one is left where the director halts or has no room
-pub record CarriesOut {T F : Type 0} (o : Opening) (was : List Move) (tasks : List ℕ)
-    (result : Result T F) (now : List Move) : Type 0 where
+pub record CarriesTasksOut {T F : Type 0} (o : Opening) (was : List Move) (under : UnderWay) (tasks : List ℕ)
+    (result : Result T F) (now : List Move) (left : UnderWay) : Type 0 where
   pub run : List Move
   pub comes : now ≡ was ++ run
-  pub work : is_run (before_of o was).moment.halted tasks run ≡ true
-  pub left : OnOk result (list_all (may_be_left (before_of o now)) tasks ≡ true)
+  pub work : is_run (before_of o was under).moment.halted tasks run ≡ true
+  pub leaves : left ≡ run_leaves (before_of o was under) tasks run
+  pub may_end : OnOk result (list_all (may_be_left (before_of o now left)) tasks ≡ true)
 
 -- how one of them is told
-abbrev pub IsTold : Opening → List Move → ℕ → Reply → Type 0
-IsTold o now task reply = reply ≡ task_reply (before_of o now) task
+abbrev pub TellsEnd : Opening → List Move → UnderWay → ℕ → Reply → Type 0
+TellsEnd o now left task reply = reply ≡ end_reply (before_of o now left) task

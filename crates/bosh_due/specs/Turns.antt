@@ -1,68 +1,112 @@
--- The moves of one turn of a session, with its replies (this project's profile).
-use Rattle.std.specs.Prelude.{◌≡◌, ◌≤◌, ℕ, List, [], ◌∷◌, ◌++◌, length, Result, Ok, Err}
+-- The moves of one turn of a session, with its replies, and what it leaves under way (this project's profile).
+use Rattle.std.specs.Prelude.{◌≡◌, ◌⊎◌, ◌≤◌, ℕ, ◌+◌, Bool, true, List, [], ◌∷◌, ◌++◌, length, Result, Ok, Err}
 use Rattle.bosh_answers.specs.declared.files.KeptFile.{KeptFile}
 use Rattle.bosh_base.specs.declared.moves.Move.{Move}
 use Rattle.bosh_base.specs.declared.reply.Reply.{Reply}
+use Rattle.bosh_base.specs.declared.reply.Reply.TheVariants as replies
 use Rattle.bosh_due.specs.Before.{Before}
 use Rattle.bosh_due.specs.Due.{DueAt, MakesAt}
 use Rattle.bosh_due.specs.Files.{FilesRead, put}
-use Rattle.bosh_due.specs.Generating.{IsGenerated, said}
+use Rattle.bosh_due.specs.Generating.{IsGenerated, IsGeneratedUpTo, said_reply}
 use Rattle.bosh_due.specs.Together.{IsCutOpening, IsCutRun, IsTogether, Numbered}
+use Rattle.bosh_due.specs.UnderWay.{UnderWay}
 use Rattle.bosh_input.specs.declared.request.Request.{Request}
 use Rattle.bosh_line_words.specs.declared.fault.LineFault.{LineFault}
 use Rattle.bosh_lines.specs.declared.command.Command.{Command}
 use Rattle.bosh_lines.specs.declared.command.Command.TheVariants as commands
 
+-- ---- what a turn reads
+
+pub record TurnRead : Type 0 where
+  pub first : Numbered
+  -- the commands that are carried out at once with it
+  pub others : List Numbered
+  -- the input ended as these were read
+  pub is_end : Bool
+
+-- commands have the numbers from one on
+abbrev pub AreNumbered : ℕ → List Numbered → Type 0
+AreNumbered from [] = Unit {0}
+AreNumbered from (it ∷ others) = (it.number ≡ from) × AreNumbered (from + 1) others
+
+-- as many others are taken as the line says, at most
+pub record TakesSome (count : ℕ) (read : TurnRead) : Type 0 where
+  pub few : length read.others ≤ count
+  pub numbered : AreNumbered (read.first.number + 1) read.others
+
+-- .. or all that the input has left
+pub record TakesAll (count : ℕ) (read : TurnRead) : Type 0 where
+  pub some : TakesSome count read
+  pub full : (length read.others ≡ count) ⊎ (read.is_end ≡ true)
+
 -- ---- turns
 
 -- a command alone: its moves, and then its reply
-pub record IsAlone (b : Before) (files : FilesRead) (number : ℕ) (asked : Result Command LineFault)
-    (segment : List Move) : Type 0 where
-  pub more : List Move
-  pub reply : Reply
-  pub is : segment ≡ more ++ said number reply ∷ []
-  pub due : DueAt b files asked more reply
-  pub only : MakesAt b files asked more
+pub record IsAlone
+    (b : Before) (files : FilesRead) (number : ℕ) (asked : Result Command LineFault) (segment : List Move)
+    (now : UnderWay) : Type 0
+  where
+    pub more : List Move
+    pub reply : Reply
+    pub is : segment ≡ more ++ said_reply number reply ∷ []
+    pub due : DueAt b files asked more reply now
 
--- as many others are taken as the line says, at most
-pub record TakesOthers
-    (b : Before) (files : FilesRead) (number count : ℕ) (others : List Numbered) (segment : List Move) : Type 0 where
-  pub few : length others ≤ count
-  pub together : IsTogether b files number others segment
+-- a command with those that it takes along
+pub record IsAtOnce
+    (b : Before) (files : FilesRead) (count : ℕ) (read : TurnRead) (segment : List Move) (now : UnderWay) : Type 0
+  where
+    pub takes : TakesAll count read
+    pub together : IsTogether b files read.first.number read.others segment now
 
-abbrev pub IsTurnBy : Before → FilesRead → ℕ → Command → List Numbered → List Move → Type 0
-IsTurnBy b files number (commands.Together count) others segment = TakesOthers b files number count others segment
-IsTurnBy b files number (commands.Generate instances) others segment =
-    (others ≡ []) × IsGenerated b number instances segment
-IsTurnBy b files number command others segment = (others ≡ []) × IsAlone b files number (Ok command) segment
+-- .. by the command that it is
+abbrev pub MakesTurnBy : Before → FilesRead → Command → TurnRead → List Move → UnderWay → Type 0
+MakesTurnBy b files (commands.Together count) read segment now = IsAtOnce b files count read segment now
+MakesTurnBy b files (commands.Generate instances) read segment now =
+    (read.others ≡ []) × IsGenerated b read.first.number instances segment now
+MakesTurnBy b files command read segment now =
+    (read.others ≡ []) × IsAlone b files read.first.number (Ok command) segment now
 
--- a command of a number with those that it takes along
-abbrev pub IsTurn : Before → FilesRead → ℕ → Result Command LineFault → List Numbered → List Move → Type 0
-IsTurn b files number (Ok command) others segment = IsTurnBy b files number command others segment
-IsTurn b files number (Err fault) others segment = (others ≡ []) × IsAlone b files number (Err fault) segment
+-- .. or none
+abbrev pub MakesTurnAt : Before → FilesRead → Result Command LineFault → TurnRead → List Move → UnderWay → Type 0
+MakesTurnAt b files (Ok command) read segment now = MakesTurnBy b files command read segment now
+MakesTurnAt b files (Err fault) read segment now =
+    (read.others ≡ []) × IsAlone b files read.first.number (Err fault) segment now
+
+-- what a turn read is carried out
+abbrev pub MakesTurn : Before → FilesRead → TurnRead → List Move → UnderWay → Type 0
+MakesTurn b files read segment now = MakesTurnAt b files read.first.request.asked read segment now
 
 -- ---- up to an event
 
--- the line took others along, so many at most
-pub record TakesAlong (asked : Result Command LineFault) (others : List Numbered) : Type 0 where
-  pub count : ℕ
-  pub is : asked ≡ Ok (commands.Together count)
-  pub few : length others ≤ count
+-- a command that takes no others along: the moves that it may make
+abbrev pub MakesUpToBy : Before → FilesRead → ℕ → Command → List Move → UnderWay → Type 0
+MakesUpToBy b files number (commands.Generate instances) segment now = IsGeneratedUpTo b number instances segment now
+MakesUpToBy b files number command segment now = MakesAt b files (Ok command) segment now
 
--- a turn that an event cut off: it has all its moves and replies; or its command has no reply; or one of those that it
--- stands for, or takes along, has none
-pub data IsCutOff
-    (b : Before) (files : FilesRead) (number : ℕ) (asked : Result Command LineFault) (others : List Numbered)
-    (segment : List Move) : Type 0
+-- .. or a line that is no command
+abbrev pub MakesUpTo : Before → FilesRead → ℕ → Result Command LineFault → List Move → UnderWay → Type 0
+MakesUpTo b files number (Ok command) segment now = MakesUpToBy b files number command segment now
+MakesUpTo b files number (Err fault) segment now = MakesAt b files (Err fault) segment now
+
+-- A turn that an event cut off: it has all its moves and replies; or its command has no reply, or not all of its
+-- replies; or it was still reading those that it takes along; or one of these has no reply.
+pub data MakesTurnUpTo
+    (b : Before) (files : FilesRead) (read : TurnRead) (segment : List Move) (now : UnderWay) : Type 0
   where
-    told : IsTurn b files number asked others segment → IsCutOff b files number asked others segment
-    untold : others ≡ [] → MakesAt b files asked segment → IsCutOff b files number asked others segment
+    told : MakesTurn b files read segment now → MakesTurnUpTo b files read segment now
+    untold :
+        read.others ≡ [] → MakesUpTo b files read.first.number read.first.request.asked segment now →
+        MakesTurnUpTo b files read segment now
+    in_reading :
+        (count : ℕ) → read.first.request.asked ≡ Ok (commands.Together count) → TakesSome count read →
+        segment ≡ said_reply read.first.number replies.Nothing ∷ [] → now ≡ b.under_way →
+        MakesTurnUpTo b files read segment now
     in_openings :
-        TakesAlong asked others → IsCutOpening b files number others segment →
-        IsCutOff b files number asked others segment
+        (count : ℕ) → read.first.request.asked ≡ Ok (commands.Together count) → TakesAll count read →
+        IsCutOpening b files read.first.number read.others segment now → MakesTurnUpTo b files read segment now
     in_run :
-        TakesAlong asked others → IsCutRun b files number others segment →
-        IsCutOff b files number asked others segment
+        (count : ℕ) → read.first.request.asked ≡ Ok (commands.Together count) → TakesAll count read →
+        IsCutRun b files read.first.number read.others segment now → MakesTurnUpTo b files read segment now
 
 -- ---- the files that are kept
 

@@ -1,78 +1,54 @@
--- What a stop may find kept: only what was under way as a command's moves ended in a halt (this project's profile).
-use Rattle.std.specs.Prelude.{◌≡◌, ℕ, true, false, All, List, [], ◌∷◌, Option, Some, None}
+-- What is under way as the director halts, and what the next stop may then find of it: nothing that nobody asked for
+-- (this project's profile).
+use Rattle.std.specs.Prelude.{◌≡◌, ◌||◌, ℕ, Bool, true, false, List, [], ◌∷◌, Option, Some, None, is_none}
 use Rattle.bosh_base.specs.declared.entry.Entry.{Entry}
-use Rattle.bosh_base.specs.declared.entry.Entry.TheVariants as entries
-use Rattle.bosh_base.specs.declared.moves.Move.{Move}
-use Rattle.bosh_base.specs.declared.moves.Move.TheVariants as moves
+use Rattle.bosh_base.specs.declared.moves.Cause.{Cause}
+use Rattle.bosh_base.specs.declared.moves.Cause.TheVariants as causes
 use Rattle.bosh_base.specs.declared.moves.Stop as stop
-use Rattle.bosh_due.specs.Before.{Before, after}
-use Rattle.bosh_due.specs.Outcomes.{Outcome, is_work}
-use Rattle.bosh_due.specs.Outcomes.Outcome.{Changes, Notes, Opens, Restarts}
-use Rattle.bosh_history.specs.Recovered.{is_interruption}
+use Rattle.bosh_due.specs.Work.{is_work}
 
--- what was under way as a command's moves ended in a halt: nothing; an entry; work of tasks; a change of the cloud; or
--- the ends of the tasks that a start had found open
 pub data UnderWay : Type 0 where
-  nothing : UnderWay
+  -- nothing is, as long as the director goes on
+  idle : UnderWay
+  -- an entry is noted
   noting : Entry → UnderWay
+  -- a write or a loss is noted in the cloud
+  changing : Entry → UnderWay
+  -- tasks are worked on
   working : List ℕ → UnderWay
-  changing : Move → UnderWay
-  ending : UnderWay
 
-abbrev pub opening_under_way : Entry → List ℕ → List Move → UnderWay
-opening_under_way it tasks (moves.Halt cause ∷ []) = noting it
-opening_under_way it tasks more = working tasks
+-- the entry whose append was not answered
+abbrev pub MayBeKept : UnderWay → Option Entry → Type 0
+MayBeKept under None = Unit {0}
+MayBeKept (noting it) (Some kept) = kept ≡ it
+MayBeKept (working tasks) (Some kept) = is_work tasks kept ≡ true
+MayBeKept under (Some kept) = ⊥
 
--- of a command that came to an outcome
-abbrev pub under_way : Outcome → List Move → UnderWay
-under_way (Notes it good) more = noting it
-under_way (Changes move good) more = changing move
-under_way (Opens opening) more = opening_under_way (entries.TaskOpen opening) (opening.task ∷ []) more
-under_way Restarts more = ending
-under_way outcome more = nothing
+-- the write or loss whose append was not answered
+abbrev pub MayBeWritten : UnderWay → Option Entry → Type 0
+MayBeWritten under None = Unit {0}
+MayBeWritten (changing it) (Some wrote) = wrote ≡ it
+MayBeWritten under (Some wrote) = ⊥
 
-abbrev pub IsKept : UnderWay → Option Entry → Type 0
-IsKept under None = Unit {0}
-IsKept (noting it) (Some kept) = kept ≡ it
-IsKept (working tasks) (Some kept) = is_work tasks kept ≡ true
-IsKept ending (Some kept) = is_interruption kept ≡ true
-IsKept under (Some kept) = ⊥
+-- calls that had their effect
+abbrev pub MayBeTaken : UnderWay → List ℕ → Type 0
+MayBeTaken (working tasks) took = Unit {0}
+MayBeTaken under took = took ≡ []
 
--- the text of a write, and a loss, are those that were asked for
-abbrev pub IsChange : Move → Entry → Type 0
-IsChange (moves.Wrote wrote) (entries.Write it) = it.text ≡ wrote.text
-IsChange (moves.Lost loss) (entries.Lost it) = it ≡ loss
-IsChange move other = ⊥
+abbrev pub takes_none : List ℕ → Bool
+takes_none [] = true
+takes_none took = false
 
-abbrev pub IsWritten : UnderWay → Option Entry → Type 0
-IsWritten under None = Unit {0}
-IsWritten (changing move) (Some wrote) = IsChange move wrote
-IsWritten under (Some wrote) = ⊥
+-- It finds what was lost sight of in one store: in the cloud's, where that failed; in the director's, where that did;
+-- in either, where the director stopped.
+abbrev pub is_of_one_store : Option Cause → stop.Stop → Bool
+is_of_one_store (Some causes.CloudStore) found = is_none found.kept
+is_of_one_store (Some causes.Store) found = takes_none found.took
+is_of_one_store last_halt found = is_none found.kept || takes_none found.took
 
--- a stop finds nothing but what was under way as the director halted
-pub record FindsAsked (under : UnderWay) (found : stop.Stop) : Type 0 where
-  pub kept : IsKept under found.kept
-  pub wrote : IsWritten under found.wrote
-
--- ---- from command to command
-
-abbrev pub Finds : UnderWay → Move → Type 0
-Finds under (moves.Stop found) = FindsAsked under found
-Finds under move = Unit {0}
-
--- what is under way once a command has made its moves: nothing where the director goes on; what was, where it had
--- halted before and is not started; or what the command was about as it halted
-pub data Leaves
-    (Comes : Outcome → Type 0) (b : Before) (was : UnderWay) (more : List Move) (now : UnderWay) : Type 0
-  where
-    goes_on : (after b more).moment.halted ≡ false → now ≡ nothing → Leaves Comes b was more now
-    stays : b.moment.halted ≡ true → more ≡ [] → now ≡ was → Leaves Comes b was more now
-    halts :
-        (outcome : Outcome) → Comes outcome → (after b more).moment.halted ≡ true → now ≡ under_way outcome more →
-        Leaves Comes b was more now
-
--- a command that may come to such outcomes finds only what was asked, and leaves what is under way
-pub record Passes
-    (Comes : Outcome → Type 0) (b : Before) (was : UnderWay) (more : List Move) (now : UnderWay) : Type 0 where
-  pub found : All (Finds was) more
-  pub leaves : Leaves Comes b was more now
+-- a stop finds nothing but what was under way as the director halted, for this cause
+pub record FindsAsked (under : UnderWay) (last_halt : Option Cause) (found : stop.Stop) : Type 0 where
+  pub kept : MayBeKept under found.kept
+  pub took : MayBeTaken under found.took
+  pub wrote : MayBeWritten under found.wrote
+  pub one_store : is_of_one_store last_halt found ≡ true

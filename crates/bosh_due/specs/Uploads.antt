@@ -46,12 +46,12 @@ pub data FromFiles {A : Type 0}
 -- ---- releases
 
 -- another one stands under a name and a version, or what is uploaded does not go with what is recorded
-abbrev pub differs : List ℕ → List ℕ → Outcome
-differs name version = Refuses (book_told (book.Differs (name_and_version name version)))
+abbrev pub differing_outcome : List ℕ → List ℕ → Outcome
+differing_outcome name version = Refuses (book_told (book.Differs (name_and_version name version)))
 
 -- the recorded release of the name and the version of another
-abbrev pub recorded : List Release → Release → Option Release
-recorded releases r = find (λ it. bytes_eq it.name r.name && same_version it.version r.version) releases
+abbrev pub recorded_release : List Release → Release → Option Release
+recorded_release releases r = find (λ it. bytes_eq it.name r.name && same_version it.version r.version) releases
 
 abbrev pub AreSame : Release → Release → Type 0
 AreSame there r = (there.jobs ≡ r.jobs) × (there.packages ≡ r.packages)
@@ -70,20 +70,22 @@ abbrev pub there_already : Release → ReleaseThere
 there_already r = record { name = r.name; version = r.version }
 
 -- a release is recorded
-pub data Uploads (b : Before) (r : Release) (outcome : Outcome) : Type 0 where
-  halted : b.moment.halted ≡ true → outcome ≡ Refuses (book_told book.Stopped) → Uploads b r outcome
+pub data RecordsRelease (b : Before) (r : Release) (outcome : Outcome) : Type 0 where
+  halted : b.moment.halted ≡ true → outcome ≡ Refuses (book_told book.Stopped) → RecordsRelease b r outcome
   same :
-      (there : Release) → b.moment.halted ≡ false → recorded b.moment.known.releases r ≡ Some there →
-      AreSame there r → outcome ≡ Answers (replies.ReleaseThere (there_already r)) → Uploads b r outcome
+      (there : Release) → b.moment.halted ≡ false → recorded_release b.moment.known.releases r ≡ Some there →
+      AreSame there r → outcome ≡ Answers (replies.ReleaseThere (there_already r)) → RecordsRelease b r outcome
   other :
-      (there : Release) → b.moment.halted ≡ false → recorded b.moment.known.releases r ≡ Some there →
-      ¬ AreSame there r → outcome ≡ differs r.name r.version → Uploads b r outcome
+      (there : Release) → b.moment.halted ≡ false → recorded_release b.moment.known.releases r ≡ Some there →
+      ¬ AreSame there r → outcome ≡ differing_outcome r.name r.version → RecordsRelease b r outcome
   new :
-      b.moment.halted ≡ false → recorded b.moment.known.releases r ≡ None → GoesWith b.moment.known.releases r →
-      outcome ≡ Notes (entries.Release r) (replies.ReleaseAdded (added r)) → Uploads b r outcome
+      b.moment.halted ≡ false → recorded_release b.moment.known.releases r ≡ None →
+      GoesWith b.moment.known.releases r →
+      outcome ≡ Notes (entries.Release r) (replies.ReleaseAdded (added r)) → RecordsRelease b r outcome
   unfit :
-      b.moment.halted ≡ false → recorded b.moment.known.releases r ≡ None → ¬ GoesWith b.moment.known.releases r →
-      outcome ≡ differs r.name r.version → Uploads b r outcome
+      b.moment.halted ≡ false → recorded_release b.moment.known.releases r ≡ None →
+      ¬ GoesWith b.moment.known.releases r →
+      outcome ≡ differing_outcome r.name r.version → RecordsRelease b r outcome
 
 -- the release that files spell, or their first fault
 pub data UploadsFiles (b : Before) (version : List ℕ) (files : List File) (outcome : Outcome) : Type 0 where
@@ -91,7 +93,7 @@ pub data UploadsFiles (b : Before) (version : List ℕ) (files : List File) (out
       (fault : ReleaseFault) → Collects files version (Err fault) → outcome ≡ Refuses (release_told fault) →
       UploadsFiles b version files outcome
   whole :
-      (r : Release) → Collects files version (Ok r) → Uploads b r outcome → UploadsFiles b version files outcome
+      (r : Release) → Collects files version (Ok r) → RecordsRelease b r outcome → UploadsFiles b version files outcome
 
 abbrev pub UploadsFolder : Before → FilesRead → List ℕ → List ℕ → Outcome → Type 0
 UploadsFolder b files folder version = FromFiles (IsFolder files folder) (UploadsFiles b version)
@@ -101,13 +103,13 @@ UploadsFolder b files folder version = FromFiles (IsFolder files folder) (Upload
 abbrev pub has_stemcell : List Stemcell → Stemcell → Bool
 has_stemcell stemcells s = list_any (λ it. bytes_eq it.os s.os && same_version it.version s.version) stemcells
 
-abbrev pub stemcell_added : Before → Stemcell → Outcome
-stemcell_added b s =
+abbrev pub stemcell_added_outcome : Before → Stemcell → Outcome
+stemcell_added_outcome b s =
     if has_stemcell b.moment.known.stemcells s then Answers (replies.StemcellThere s)
     else Notes (entries.Stemcell s) (replies.StemcellAdded s)
 
 abbrev pub stemcell_outcome : Before → Stemcell → Outcome
-stemcell_outcome b s = if is_version s.version then stemcell_added b s else differs s.os s.version
+stemcell_outcome b s = if is_version s.version then stemcell_added_outcome b s else differing_outcome s.os s.version
 
 -- ---- the cloud config
 

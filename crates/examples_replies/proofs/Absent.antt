@@ -13,9 +13,9 @@ use Rattle.bosh_refusals.specs.Refused.{bare_refusal}
 use Rattle.examples_replies.specs.Replies.{bare}
 
 pub absent : {A : Type 0} (Reads : Result A ShelfFault → Type 0) (Next : A → Outcome → Type 0) (b : Before) →
-    Reads (Err Absent) → Meets (FromFiles Reads Next) b [] (bare (codes "shelf") (codes "Absent"))
+    Reads (Err Absent) → Meets (FromFiles Reads Next) b [] (bare (codes "shelf") (codes "Absent")) b.under_way
 absent Reads Next b is = record {
   outcome = Refuses (Some (bare_refusal (codes "shelf") (codes "Absent")));
   comes = unread Absent is refl;
-  ends = (refl, refl);
+  ends = record { ends = (refl, refl); is_left = refl };
 }

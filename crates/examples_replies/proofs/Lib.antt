@@ -1,2 +1,5 @@
 pub mod Absent
 pub mod Added
+pub mod Behind
+pub mod Numbers
+pub mod Untold

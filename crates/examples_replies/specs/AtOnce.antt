@@ -7,8 +7,9 @@ use Rattle.bosh_base.specs.declared.moves.Move.TheVariants.{Note}
 use Rattle.bosh_base.specs.declared.reply.Refusal.{Refusal}
 use Rattle.bosh_base.specs.declared.reply.Reply.{Reply}
 use Rattle.bosh_base.specs.declared.task.TaskKind.TheVariants.{CleanUp}
-use Rattle.bosh_due.specs.Generating.{said}
+use Rattle.bosh_due.specs.Generating.{said_reply}
 use Rattle.bosh_due.specs.Together.{AreOpened, Numbered, Running}
+use Rattle.bosh_due.specs.UnderWay.UnderWay.{idle}
 use Rattle.bosh_lines.specs.declared.command.Command.{Command}
 use Rattle.bosh_lines.specs.declared.command.Command.TheVariants as commands
 use Rattle.bosh_refusals.specs.Refused.{bare_refusal}
@@ -42,7 +43,7 @@ no_task = bare (codes "lines") (codes "BadTogether")
 
 -- the first opens its task, and the second is refused at once
 abbrev pub openings : List Move
-openings = Note (entries.TaskOpen clean_up) ∷ said 6 no_task ∷ []
+openings = Note (entries.TaskOpen clean_up) ∷ said_reply 6 no_task ∷ []
 
 abbrev pub AreOpenedSo : List Move → List Running → Type 0
-AreOpenedSo segment running = AreOpened no_files (start prepared 2) both segment running
+AreOpenedSo segment running = AreOpened no_files (start prepared 2) both segment running idle

@@ -1,9 +1,14 @@
 pub mod Asked
 pub mod AtOnce
+pub mod CutOff
+pub mod Halted
 pub mod Kept
+pub mod OneTurn
 pub mod Openings
 pub mod Others
 pub mod Releases
 pub mod Replies
 pub mod Scenes
+pub mod Shelves
 pub mod Stemcells
+pub mod Unasked

@@ -3,6 +3,8 @@ use Rattle.std.specs.Prelude.{◌≡◌, ℕ, List, []}
 use Rattle.bosh_base.specs.declared.reply.Reply.{Reply}
 use Rattle.bosh_due.specs.Due.{DueAt, DueBy}
 use Rattle.bosh_due.specs.Together.{Running, by_end}
+use Rattle.bosh_due.specs.UnderWay.{UnderWay}
+use Rattle.bosh_due.specs.UnderWay.UnderWay.{idle}
 use Rattle.bosh_history.specs.Moments.{Moment}
 use Rattle.bosh_line_words.specs.declared.fault.LineFault.{LineFault}
 use Rattle.bosh_lines.specs.declared.command.Command.{Command}
@@ -20,17 +22,17 @@ AreToldSo running history told = (built : Builder) → by_end running (history b
 
 -- a director that noted so many entries since it started answers so
 abbrev pub TellsAfter : ℕ → Moment → Command → Reply → Type 0
-TellsAfter noted m command reply = DueBy (start m noted) no_files command [] reply
+TellsAfter noted m command reply = DueBy (start m noted) no_files command [] reply idle
 
 abbrev pub NeverTellsAfter : ℕ → Moment → Command → Reply → Type 0
-NeverTellsAfter noted m command reply = DueBy (start m noted) no_files command [] reply → ⊥
+NeverTellsAfter noted m command reply = (now : UnderWay) → DueBy (start m noted) no_files command [] reply now → ⊥
 
 -- a line that is no command is answered so
 abbrev pub TellsLine : Moment → LineFault → Reply → Type 0
-TellsLine m fault reply = DueAt (start m 0) no_files (Err fault) [] reply
+TellsLine m fault reply = DueAt (start m 0) no_files (Err fault) [] reply idle
 
 abbrev pub NeverTellsLine : Moment → LineFault → Reply → Type 0
-NeverTellsLine m fault reply = DueAt (start m 0) no_files (Err fault) [] reply → ⊥
+NeverTellsLine m fault reply = (now : UnderWay) → DueAt (start m 0) no_files (Err fault) [] reply now → ⊥
 
-abbrev pub found : Option Entry → Option Entry → stop.Stop
-found kept wrote = record { kept = kept; took = []; wrote = wrote }
+abbrev pub found : Option Entry → List ℕ → Option Entry → stop.Stop
+found kept took wrote = record { kept = kept; took = took; wrote = wrote }

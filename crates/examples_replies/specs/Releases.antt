@@ -5,7 +5,7 @@ use Rattle.bosh_base.specs.declared.release.Release.{Release}
 use Rattle.bosh_base.specs.declared.reply.Reply.TheVariants as replies
 use Rattle.bosh_due.specs.Outcomes.{Outcome}
 use Rattle.bosh_due.specs.Outcomes.Outcome.{Answers, Notes}
-use Rattle.bosh_due.specs.Uploads.{Uploads, added, there_already}
+use Rattle.bosh_due.specs.Uploads.{RecordsRelease, added, there_already}
 use Rattle.examples_histories.specs.Scenes.{with_release}
 use Rattle.examples_replies.specs.Scenes.{start}
 
@@ -19,7 +19,7 @@ abbrev pub is_new : Release → Outcome
 is_new r = Notes (entries.Release r) (replies.ReleaseAdded (added r))
 
 abbrev pub ComesTo : Release → Outcome → Type 0
-ComesTo r outcome = Uploads (start with_release 3) r outcome
+ComesTo r outcome = RecordsRelease (start with_release 3) r outcome
 
 abbrev pub NeverComesTo : Release → Outcome → Type 0
-NeverComesTo r outcome = Uploads (start with_release 3) r outcome → ⊥
+NeverComesTo r outcome = RecordsRelease (start with_release 3) r outcome → ⊥

@@ -1,18 +1,19 @@
 ghost use Rattle.std.specs.Prelude.{[], codes};
 ghost use Rattle.bosh_base.specs.declared.reply.Reply.TheVariants as replies;
+ghost use Rattle.bosh_due.specs.UnderWay.UnderWay.{changing, idle};
 ghost use Rattle.bosh_fates.specs.declared.fate.Fate.TheVariants.{Lose};
 ghost use Rattle.bosh_report.specs.Owner.{inst_text};
 ghost use Rattle.bosh_lines.specs.declared.command.Command.TheVariants as commands;
 ghost use Rattle.bosh_lines.specs.declared.word.Lost.TheVariants as losses;
 ghost use Rattle.examples_histories.specs.Lost.{lost};
 ghost use Rattle.examples_histories.specs.Migrated.{migrated};
-ghost use Rattle.examples_histories.specs.Scenes.{prepared};
+ghost use Rattle.examples_histories.specs.Scenes.{prepared, write};
 ghost use Rattle.examples_histories.specs.Stopped.{stopped};
 ghost use Rattle.examples_histories.specs.Two.{two};
 ghost use Rattle.examples_histories.specs.Values.{web};
 ghost use Rattle.examples_histories.specs.Wrote.{wrote};
 ghost use Rattle.examples_replies.specs.Replies.{bare, naming, stopped_reply};
-ghost use Rattle.examples_replies.specs.Scenes.{Ends, NeverEnds, NeverTells, Tells};
+ghost use Rattle.examples_replies.specs.Scenes.{Ends, EndsFrom, NeverEnds, NeverTells, Tells};
 
 /// A job writes to its disk, and what that holds is read.
 pub fn disks_are_written_and_read()
@@ -22,8 +23,8 @@ pub fn disks_are_written_and_read()
     ensures other_instance { NeverEnds prepared 24 24 migrated (commands.Write (web 1) (codes "hello"))
         replies.Written }
     ensures not_written { NeverTells prepared 23 migrated (commands.Write (web 0) (codes "hello")) replies.Written }
-    ensures failed { Ends prepared 23 23 wrote (commands.Write (web 0) (codes "hello"))
-        (bare (codes "world") (codes "CloudStore")) }
+    ensures failed { EndsFrom idle prepared 23 23 wrote (commands.Write (web 0) (codes "hello"))
+        (bare (codes "world") (codes "CloudStore")) (changing (write 1 (codes "hello"))) }
     ensures not_so { NeverEnds prepared 23 23 wrote (commands.Write (web 0) (codes "hello")) replies.Written }
     ensures no_disk { Tells prepared 25 two (commands.Write (web 0) (codes "hello"))
         (naming (codes "world") (codes "NotRunning") (inst_text (web 0))) }

@@ -2,23 +2,32 @@
 #![tactic(auto)]
 
 mod asked;
+mod cut_off;
 mod files;
 mod jobs;
 mod listings;
+mod one_turn;
 mod others;
 mod releases;
 mod restarts;
+mod shelves;
 mod tasks;
 mod together;
 mod uploads;
 
 pub use asked::recreations_are_asked;
+pub use cut_off::{all_are_taken, lines_keep_their_number, openings_are_cut_off};
 pub use files::{configs_are_told, files_are_kept, files_are_looked_for_first};
 pub use jobs::{disks_are_written_and_read, machines_are_lost_and_shown};
 pub use listings::{instances_are_listed, records_are_listed, the_cloud_is_listed};
-pub use others::{lines_and_room_are_told, stops_find_what_was_asked, tasks_are_told_by_end};
+pub use one_turn::commands_are_numbered;
+pub use others::{
+    lines_and_room_are_told, stops_find_what_was_asked, tasks_are_told_by_end,
+    what_is_under_way_stays,
+};
 pub use releases::releases_are_told;
-pub use restarts::restarts_are_told;
+pub use restarts::{restarts_are_told, restarts_find_what_was_asked};
+pub use shelves::{failures_are_counted, kept_files_are_read};
 pub use tasks::{clean_ups_are_told, deploys_are_told, tasks_are_refused_in_order};
 pub use together::tasks_open_in_order;
 pub use uploads::stemcells_are_told;

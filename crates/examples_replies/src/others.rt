@@ -1,12 +1,14 @@
 ghost use Rattle.std.specs.Prelude.{◌∷◌, [], Some, None, codes};
+ghost use Rattle.bosh_base.specs.declared.moves.Cause.TheVariants as causes;
 ghost use Rattle.bosh_base.specs.declared.reply.Reply.TheVariants as replies;
 ghost use Rattle.bosh_due.specs.UnderWay.{FindsAsked};
-ghost use Rattle.bosh_due.specs.UnderWay.UnderWay.{changing, noting, working};
+ghost use Rattle.bosh_due.specs.UnderWay.UnderWay.{changing, idle, noting, working};
 ghost use Rattle.bosh_line_words.specs.declared.fault.LineFault.TheVariants as lines;
 ghost use Rattle.bosh_lines.specs.declared.command.Command.TheVariants as commands;
-ghost use Rattle.examples_histories.specs.Scenes.{config, prepared, upd_begin, write, written};
+ghost use Rattle.examples_histories.specs.Scenes.{config, prepared, upd_begin, write};
 ghost use Rattle.examples_histories.specs.Together.{together};
 ghost use Rattle.examples_histories.specs.Values.{web};
+ghost use Rattle.examples_replies.specs.Halted.{Stays};
 ghost use Rattle.examples_replies.specs.Others.{AreToldSo, NeverTellsAfter, NeverTellsLine, TellsAfter, TellsLine, found, runs};
 ghost use Rattle.examples_replies.specs.Replies.{bare, naming};
 
@@ -27,15 +29,32 @@ pub fn lines_and_room_are_told()
     ensures no_memory { NeverTellsLine prepared lines.Memory (bare (codes "lines") (codes "Memory")) }
 {}
 
-/// A stop finds only what was under way.
+/// What was under way as a director halted stays so, until it starts anew.
+pub fn what_is_under_way_stays()
+    ensures stays { Stays (noting config) }
+    ensures goes { Stays idle → ⊥ }
+{}
+
+/// A stop finds only what was under way, in the store in which it was lost sight of.
 pub fn stops_find_what_was_asked()
-    ensures wrote { FindsAsked (changing (written (web 0) (codes "hello")))
-        (found None (Some (write 1 (codes "hello")))) }
-    ensures other_text { FindsAsked (changing (written (web 0) (codes "hello")))
-        (found None (Some (write 1 (codes "world")))) → ⊥ }
-    ensures kept { FindsAsked (noting config) (found (Some config) None) }
-    ensures not_written { FindsAsked (noting config) (found None (Some (write 1 (codes "hello")))) → ⊥ }
-    ensures work { FindsAsked (working (1 ∷ [])) (found (Some (upd_begin 1 (web 0))) None) }
-    ensures other_task { FindsAsked (working (1 ∷ [])) (found (Some (upd_begin 2 (web 0))) None) → ⊥ }
-    ensures not_work { FindsAsked (working (1 ∷ [])) (found (Some config) None) → ⊥ }
+    ensures wrote { FindsAsked (changing (write 1 (codes "hello"))) (Some causes.CloudStore)
+        (found None [] (Some (write 1 (codes "hello")))) }
+    ensures other_text { FindsAsked (changing (write 1 (codes "hello"))) (Some causes.CloudStore)
+        (found None [] (Some (write 1 (codes "world")))) → ⊥ }
+    ensures other_disk { FindsAsked (changing (write 1 (codes "hello"))) (Some causes.CloudStore)
+        (found None [] (Some (write 2 (codes "hello")))) → ⊥ }
+    ensures kept { FindsAsked (noting config) (Some causes.Store) (found (Some config) [] None) }
+    ensures not_written { FindsAsked (noting config) (Some causes.Store)
+        (found None [] (Some (write 1 (codes "hello")))) → ⊥ }
+    ensures work { FindsAsked (working (1 ∷ [])) (Some causes.Stop) (found (Some (upd_begin 1 (web 0))) [] None) }
+    ensures other_task { FindsAsked (working (1 ∷ [])) (Some causes.Stop)
+        (found (Some (upd_begin 2 (web 0))) [] None) → ⊥ }
+    ensures not_work { FindsAsked (working (1 ∷ [])) (Some causes.Stop) (found (Some config) [] None) → ⊥ }
+    ensures took { FindsAsked (working (1 ∷ [])) (Some causes.CloudStore) (found None (1 ∷ []) None) }
+    ensures not_worked { FindsAsked (noting config) (Some causes.Stop) (found None (1 ∷ []) None) → ⊥ }
+    ensures not_the_directors { FindsAsked (working (1 ∷ [])) (Some causes.CloudStore)
+        (found (Some (upd_begin 1 (web 0))) [] None) → ⊥ }
+    ensures not_the_clouds { FindsAsked (working (1 ∷ [])) (Some causes.Store) (found None (1 ∷ []) None) → ⊥ }
+    ensures nothing { FindsAsked idle None (found None [] None) }
+    ensures unasked { FindsAsked idle None (found (Some config) [] None) → ⊥ }
 {}

@@ -1,6 +1,7 @@
 ghost use Rattle.std.specs.Prelude.{◌∷◌, [], true, codes, decimal};
 ghost use Rattle.bosh_base.specs.declared.method.Method.TheVariants as methods;
 ghost use Rattle.bosh_base.specs.declared.reply.Reply.TheVariants as replies;
+ghost use Rattle.bosh_due.specs.UnderWay.UnderWay.{idle, working};
 ghost use Rattle.bosh_lines.specs.declared.command.Command.TheVariants as commands;
 ghost use Rattle.bosh_report.specs.Owner.{disk_name, inst_text};
 ghost use Rattle.examples_histories.specs.Failed.{failed, failed_g1};
@@ -11,7 +12,7 @@ ghost use Rattle.examples_histories.specs.Two.{goal_of_nobody, two, two_g1};
 ghost use Rattle.examples_histories.specs.Values.{web};
 ghost use Rattle.examples_replies.specs.Openings.{deploys};
 ghost use Rattle.examples_replies.specs.Replies.{bare, failed_at, naming, stopped_reply};
-ghost use Rattle.examples_replies.specs.Scenes.{Comes, Ends, MayMake, NeverComes, NeverEnds, NeverMakes, NeverTells, Tells};
+ghost use Rattle.examples_replies.specs.Scenes.{Comes, Ends, EndsFrom, MayMakeTo, NeverComes, NeverEnds, NeverMakes, NeverTells, Tells};
 
 /// A deploy tells the end of the very task that opened.
 pub fn deploys_are_told()
@@ -39,11 +40,11 @@ pub fn deploys_are_told()
 pub fn clean_ups_are_told()
     ensures done { Ends prepared 51 55 orphan commands.CleanUp (replies.TaskFinished 4) }
     ensures other_task { NeverEnds prepared 51 55 orphan commands.CleanUp (replies.TaskFinished 3) }
-    ensures halted { Ends prepared 44 46 orphan commands.CleanUp stopped_reply }
+    ensures halted { EndsFrom idle prepared 44 46 orphan commands.CleanUp stopped_reply (working (3 ∷ [])) }
     ensures not_halted { NeverEnds prepared 44 46 orphan commands.CleanUp (replies.TaskFinished 3) }
     ensures of_less { NeverEnds prepared 44 45 clean_up_of_less commands.CleanUp (replies.TaskFinished 3) }
     ensures of_more { NeverMakes prepared 44 44 clean_up_of_more commands.CleanUp }
-    ensures asked { MayMake prepared 44 46 orphan commands.CleanUp }
+    ensures asked { MayMakeTo prepared 44 46 orphan commands.CleanUp (working (3 ∷ [])) }
     ensures of_another_command { NeverMakes prepared 44 46 orphan commands.Tasks }
     ensures of_one_disk { NeverMakes prepared 44 46 orphan (commands.DeleteDisk 1) }
     ensures no_disk { Tells prepared 43 orphan (commands.DeleteDisk 2)
@@ -68,6 +69,6 @@ pub fn tasks_are_refused_in_order()
         (naming (codes "book") (codes "Locked") (decimal 1)) }
     ensures not_locked { NeverTells prepared 25 two (commands.DeleteDeployment (codes "dep"))
         (naming (codes "book") (codes "Locked") (decimal 1)) }
-    ensures no_goal { Tells prepared 25 two (commands.Resolve (web 0)) (bare (codes "goal") (codes "NoConfig")) }
+    ensures nothing_wanted { Tells prepared 25 two (commands.Resolve (web 0)) (bare (codes "goal") (codes "NoConfig")) }
     ensures halted { Tells prepared 6 stopped (commands.Recreate (web 5)) stopped_reply }
 {}

@@ -1,6 +1,6 @@
 use Rattle.std.proofs.Common.{refl}
 use Rattle.std.specs.Prelude.{codes}
-use Rattle.bosh_due.specs.Uploads.Uploads.{same}
+use Rattle.bosh_due.specs.Uploads.RecordsRelease.{same}
 use Rattle.examples_histories.specs.Scenes.{with_release}
 use Rattle.examples_replies.proofs.Added.{not_added, not_there}
 use Rattle.examples_replies.specs.Releases.{of_version}

@@ -2,10 +2,10 @@ use Rattle.std.proofs.Common.{refl}
 use Rattle.std.specs.Prelude.{[], ◌∷◌}
 use Rattle.bosh_base.specs.declared.entry.Entry.TheVariants as entries
 use Rattle.bosh_base.specs.declared.moves.Move.TheVariants.{Note}
-use Rattle.bosh_due.specs.Generating.{said}
+use Rattle.bosh_due.specs.Generating.{said_reply}
 use Rattle.bosh_due.specs.Outcomes.Outcome.{Opens, Refuses}
 use Rattle.bosh_due.specs.Together.Came.{Runs, Told}
-use Rattle.bosh_due.specs.Together.IsOpened.{opened, refused}
+use Rattle.bosh_due.specs.Together.OpensOrTells.{opened, refused}
 use Rattle.examples_replies.specs.AtOnce.{clean_up, no_task, refusal}
 use Rattle.examples_replies.proofs.together.tasks_open_in_order.Goals as goal
 
@@ -14,7 +14,7 @@ returns c = record {
   outcome = Opens clean_up;
   came = Runs 1;
   first = Note (entries.TaskOpen clean_up) ∷ [];
-  rest = said 6 no_task ∷ [];
+  rest = said_reply 6 no_task ∷ [];
   others_running = [];
   comes = record { is = refl };
   opened = opened clean_up refl refl refl;
@@ -26,7 +26,7 @@ returns c = record {
     others_running = [];
     comes = record { is = refl };
     opened = refused refusal no_task refl refl refl refl;
-    others = (refl, refl);
+    others = (refl, refl, refl);
     is = refl;
     all_running = refl;
   };

@@ -1,0 +1,24 @@
+use Rattle.std.proofs.Common.{[], arith, refl}
+use Rattle.bosh_base.specs.declared.reply.Reply.TheVariants as replies
+use Rattle.bosh_due.specs.UnderWay.UnderWay.{idle}
+use Rattle.examples_replies.proofs.one_turn.commands_are_numbered.Goals as goal
+
+pub returns-clause-first : goal.returns-clause-first
+returns-clause-first c = record {
+  are = refl;
+  makes = record {
+    left = idle;
+    goes_on = record { is_open = refl; has_number = refl; has_kept = refl; has_shelf = refl };
+    makes = (refl, record {
+      more = [];
+      reply = replies.Tasks [];
+      is = refl;
+      due = record { ends = (refl, refl); is_left = refl };
+    });
+    others = tt;
+  };
+  failed = omega arith;
+}
+
+pub returns-clause-not_second : goal.returns-clause-not_second
+returns-clause-not_second c session = omega (arith, session.makes.goes_on.has_number)

@@ -1,0 +1,23 @@
+-- A session of one line.
+use Rattle.std.specs.Prelude.{ℕ, true, List, [], ◌∷◌, None, Some}
+use Rattle.bosh_base.specs.declared.moves.Move.{Move}
+use Rattle.bosh_base.specs.declared.reply.Reply.TheVariants as replies
+use Rattle.bosh_due.specs.Generating.{said_reply}
+use Rattle.bosh_due.specs.InTurn.{MakesSession, TurnMade}
+use Rattle.bosh_history.specs.Moments.{nothing}
+use Rattle.bosh_lines.specs.declared.command.Command.TheVariants as commands
+use Rattle.examples_replies.specs.AtOnce.{asks}
+use Rattle.examples_replies.specs.Scenes.{no_files}
+
+-- the tasks are asked for, by the command of a number, and none is told
+abbrev pub asks_for_tasks : ℕ → TurnMade
+asks_for_tasks number = record {
+  read = record { first = asks number commands.Tasks; others = []; is_end = true };
+  files = no_files;
+  segment = said_reply number (replies.Tasks []) ∷ [];
+}
+
+-- the session of a new director is this one line, under a number
+abbrev pub IsSessionOf : ℕ → Type 0
+IsSessionOf number =
+    MakesSession nothing [] (said_reply number (replies.Tasks []) ∷ []) (Some []) 0 (asks_for_tasks number ∷ []) None

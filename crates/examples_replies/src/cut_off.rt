@@ -1,0 +1,34 @@
+ghost use Rattle.std.specs.Prelude.{[], ◌∷◌, codes, false, true};
+ghost use Rattle.bosh_base.specs.declared.entry.Entry.TheVariants as entries;
+ghost use Rattle.bosh_base.specs.declared.moves.Cause.TheVariants as causes;
+ghost use Rattle.bosh_base.specs.declared.moves.Move.TheVariants.{Halt, Note};
+ghost use Rattle.bosh_due.specs.Turns.{TakesAll};
+ghost use Rattle.bosh_due.specs.UnderWay.{UnderWay};
+ghost use Rattle.bosh_due.specs.UnderWay.UnderWay.{idle, noting};
+ghost use Rattle.bosh_lines.specs.declared.command.Command.TheVariants as commands;
+ghost use Rattle.examples_replies.specs.AtOnce.{clean_up};
+ghost use Rattle.examples_replies.specs.CutOff.{IsRefusedUnder, OpensUntold, one_of_two, clean_up_opened};
+ghost use Rattle.examples_replies.specs.Stemcells.{jammy};
+
+/// A command that is carried out at once with others opens its task, and does no more.
+pub fn openings_are_cut_off()
+    ensures none { OpensUntold commands.CleanUp [] idle }
+    ensures opened { OpensUntold commands.CleanUp (clean_up_opened ∷ []) idle }
+    ensures halted { OpensUntold commands.CleanUp (Halt causes.Store ∷ []) (noting (entries.TaskOpen clean_up)) }
+    ensures run { (now : UnderWay) → OpensUntold commands.CleanUp (clean_up_opened ∷ Note (entries.TaskDone 1) ∷ []) now → ⊥ }
+    ensures no_task { (now : UnderWay) → OpensUntold (commands.UploadStemcell (jammy (codes "1.2")))
+        (Note (entries.Stemcell (jammy (codes "1.2"))) ∷ []) now → ⊥ }
+{}
+
+/// As many commands are taken as the line says, unless the input ends.
+pub fn all_are_taken()
+    ensures at_the_end { TakesAll 2 (one_of_two true) }
+    ensures too_few { TakesAll 2 (one_of_two false) → ⊥ }
+    ensures too_many { TakesAll 0 (one_of_two true) → ⊥ }
+{}
+
+/// What a deployment is made by is told under the number of its line.
+pub fn lines_keep_their_number()
+    ensures refused { IsRefusedUnder 5 idle }
+    ensures other_number { (now : UnderWay) → IsRefusedUnder 6 now → ⊥ }
+{}
