@@ -3,11 +3,14 @@
 use Rattle.std.specs.Prelude.{◌≡◌, ◌≤◌, ℕ, ◌+◌, Bool, false, List, [], ◌∷◌, ◌++◌, flat_map, length, map, sum, Option, Some, None}
 use Rattle.bosh_answers.specs.declared.files.KeptFile.{KeptFile}
 use Rattle.bosh_base.specs.declared.moves.Move.{Move}
+use Rattle.bosh_base.specs.declared.moves.Move.TheVariants as moves
 use Rattle.bosh_due.specs.Before.{before_of}
 use Rattle.bosh_due.specs.Files.{FilesRead, Shelved}
+use Rattle.bosh_due.specs.Restarting.{interruptions}
 use Rattle.bosh_due.specs.Turns.{MakesTurn, MakesTurnUpTo, TurnRead, kept_after}
 use Rattle.bosh_due.specs.UnderWay.{UnderWay}
 use Rattle.bosh_due.specs.UnderWay.UnderWay.{idle}
+use Rattle.bosh_history.specs.Learn.{known_of}
 use Rattle.bosh_history.specs.Moments.{Opening}
 
 -- what a turn read, the files that it found, and its moves
@@ -37,8 +40,8 @@ pub record GoesOnFrom (shelf : Option Shelved) (was : SessionSoFar) (turn : Turn
   pub has_shelf : turn.files.shelf ≡ shelf
 
 -- .. and once it is made
-abbrev pub standing_after : SessionSoFar → TurnMade → UnderWay → SessionSoFar
-standing_after was turn left = record {
+abbrev pub session_after : SessionSoFar → TurnMade → UnderWay → SessionSoFar
+session_after was turn left = record {
   said = was.said ++ turn.segment;
   under_way = left;
   kept = kept_after turn.read.first.request was.kept;
@@ -54,7 +57,7 @@ pub record MakesNextTurn
     pub left : UnderWay
     pub goes_on : GoesOnFrom shelf was turn
     pub makes : MakesTurn (before_of o was.said was.under_way) turn.files turn.read turn.segment left
-    pub others : Rest (standing_after was turn left)
+    pub others : Rest (session_after was turn left)
 
 -- .. or an event cuts it off
 pub record MakesLastTurn (o : Opening) (shelf : Option Shelved) (was : SessionSoFar) (turn : TurnMade) : Type 0 where
@@ -75,9 +78,13 @@ MakesTurns o shelf was (turn ∷ turns) cut =
 
 -- ---- a session
 
--- nothing is under way as a director was loaded, and its first moves were noted
-abbrev pub at_first : List Move → SessionSoFar
-at_first loaded = record { said = loaded; under_way = idle; kept = []; commands = 0; has_ended = false }
+-- a director that is loaded ends each task that it finds open
+abbrev pub loaded_moves : Opening → List Move
+loaded_moves o = map (λ end. moves.Note end) (interruptions (known_of o.entries))
+
+-- .. and then nothing is under way
+abbrev pub at_first : Opening → SessionSoFar
+at_first o = record { said = loaded_moves o; under_way = idle; kept = []; commands = 0; has_ended = false }
 
 -- the moves of turns
 abbrev pub segments_of : List TurnMade → List Move
@@ -93,12 +100,12 @@ abbrev pub last_failures : Option TurnMade → ℕ
 last_failures (Some turn) = turn.files.failures
 last_failures None = 0
 
--- The moves of a session on a director that was loaded with some moves: those of its turns, and of one that was cut
--- off, or none. The shelf is told to have failed as often as the count of its faults rose in the session, at most.
+-- The moves of a session from an opening pair on: those of its load, of its turns, and of one that was cut off, or none.
+-- The shelf is told to have failed as often as the count of its faults rose in the session, at most.
 pub record MakesSession
-    (o : Opening) (loaded moves : List Move) (shelf : Option Shelved) (failures : ℕ) (turns : List TurnMade)
+    (o : Opening) (moves : List Move) (shelf : Option Shelved) (failures : ℕ) (turns : List TurnMade)
     (cut : Option TurnMade) : Type 0
   where
-    pub are : moves ≡ loaded ++ (segments_of turns ++ last_segment cut)
-    pub makes : MakesTurns o shelf (at_first loaded) turns cut
+    pub are : moves ≡ loaded_moves o ++ (segments_of turns ++ last_segment cut)
+    pub makes : MakesTurns o shelf (at_first o) turns cut
     pub failed : sum (map (λ turn. turn.files.failures) turns) + last_failures cut ≤ failures

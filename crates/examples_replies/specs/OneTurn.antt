@@ -20,4 +20,4 @@ asks_for_tasks number = record {
 -- the session of a new director is this one line, under a number
 abbrev pub IsSessionOf : ℕ → Type 0
 IsSessionOf number =
-    MakesSession nothing [] (said_reply number (replies.Tasks []) ∷ []) (Some []) 0 (asks_for_tasks number ∷ []) None
+    MakesSession nothing (said_reply number (replies.Tasks []) ∷ []) (Some []) 0 (asks_for_tasks number ∷ []) None

@@ -9,12 +9,15 @@ returns-clause-first c = record {
   makes = record {
     left = idle;
     goes_on = record { is_open = refl; has_number = refl; has_kept = refl; has_shelf = refl };
-    makes = (refl, record {
-      more = [];
-      reply = replies.Tasks [];
-      is = refl;
-      due = record { ends = (refl, refl); is_left = refl };
-    });
+    makes = (
+      refl,
+      record {
+        more = [];
+        reply = replies.Tasks [];
+        is = refl;
+        due = record { ends = (refl, refl); is_left = refl };
+      },
+    );
     others = tt;
   };
   failed = omega arith;
