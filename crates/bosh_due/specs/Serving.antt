@@ -11,7 +11,7 @@ use Rattle.bosh_due.specs.Due.{Due, MakesNone, MakesOnly}
 use Rattle.bosh_due.specs.Ends.{Makes, Meets, leaves_under_way}
 use Rattle.bosh_due.specs.Files.{FilesRead}
 use Rattle.bosh_due.specs.Outcomes.{Outcome, end_reply, may_be_left}
-use Rattle.bosh_due.specs.Together.{Came, ComesAt, OpensAtMost, OpensOrTells, is_run, run_leaves}
+use Rattle.bosh_due.specs.Together.{Came, ComesAt, OpensAtMost, OpensOrTells, halts_in_work, is_run, run_leaves}
 use Rattle.bosh_due.specs.UnderWay.{UnderWay}
 use Rattle.bosh_history.specs.Moments.{Opening}
 use Rattle.bosh_input.specs.declared.request.Request.{Request}
@@ -62,6 +62,7 @@ pub record CarriesTasksOut {T F : Type 0} (o : Opening) (was : List Move) (under
   pub work : is_run (before_of o was under).moment.halted tasks run ≡ true
   pub leaves : left ≡ run_leaves (before_of o was under) tasks run
   pub may_end : OnOk result (list_all (may_be_left (before_of o now left)) tasks ≡ true)
+  pub ends_last : halts_in_work (before_of o now left) tasks run ≡ true
 
 -- how one of them is told
 abbrev pub TellsEnd : Opening → List Move → UnderWay → ℕ → Reply → Type 0

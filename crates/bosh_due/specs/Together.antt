@@ -1,6 +1,6 @@
 -- Commands that are carried out at once: their tasks open in order, then run together, and are told as they end (this
 -- project's profile).
-use Rattle.std.specs.Prelude.{◌≡◌, ◌⊎◌, ◌≤◌, ℕ, Bool, true, false, not, List, [], ◌∷◌, ◌++◌, count_by, filter, find, map}
+use Rattle.std.specs.Prelude.{◌≡◌, ◌&&◌, ◌⊎◌, ◌≤◌, ℕ, Bool, true, false, not, List, [], ◌∷◌, ◌++◌, count_by, filter, find, is_some, map}
 use Rattle.std.specs.Prelude.{Option, Some, None, option_map, eqb, Result, Ok, Err, if◌then◌else◌}
 use Rattle.std.specs.List.{filter_map, list_all, list_any}
 use Rattle.bosh_answers.specs.Ends.{told_halt}
@@ -134,6 +134,15 @@ is_run true tasks run = makes_no_move run
 is_run false [] run = makes_no_move run
 is_run false tasks run = list_all (is_work_move tasks) run
 
+-- the task has an end
+abbrev pub has_ended : Before → ℕ → Bool
+has_ended now task = is_some (now.moment.known.task task).end
+
+-- no halt comes after the last end: it came in a step of a task that has none
+abbrev pub halts_in_work : Before → List ℕ → List Move → Bool
+halts_in_work now tasks [] = true
+halts_in_work now tasks run = not (now.moment.halted && list_all (has_ended now) tasks)
+
 -- what the run leaves under way
 abbrev pub run_leaves : Before → List ℕ → List Move → UnderWay
 run_leaves b tasks run = left_under_way b (working tasks) run
@@ -181,6 +190,7 @@ pub record IsTogether
     pub is_its_run : is_run (with_moves b openings opened_under_way).moment.halted (tasks_of running) run ≡ true
     pub leaves : now ≡ run_leaves (with_moves b openings opened_under_way) (tasks_of running) run
     pub may_end : list_all (may_be_left (with_moves b (openings ++ run) now)) (tasks_of running) ≡ true
+    pub ends_last : halts_in_work (with_moves b (openings ++ run) now) (tasks_of running) run ≡ true
     pub is :
         segment ≡ said_reply number replies.Nothing
         ∷ (openings ++ (run ++ all_said (with_moves b (openings ++ run) now) running run))
@@ -241,5 +251,6 @@ pub record IsCutRun
     pub leaves : now ≡ run_leaves (with_moves b openings opened_under_way) (tasks_of running) run
     pub may_end :
         (ends_told ≡ []) ⊎ (list_all (may_be_left (with_moves b (openings ++ run) now)) (tasks_of running) ≡ true)
+    pub ends_last : halts_in_work (with_moves b (openings ++ run) now) (tasks_of running) run ≡ true
     pub ends : all_said (with_moves b (openings ++ run) now) running run ≡ ends_told ++ ends_left
     pub is : segment ≡ said_reply number replies.Nothing ∷ (openings ++ (run ++ ends_told))

@@ -1,8 +1,11 @@
 -- Tasks that ran together, a director without room, and what was under way.
-use Rattle.std.specs.Prelude.{◌≡◌, ℕ, List, []}
+use Rattle.std.specs.Prelude.{◌≡◌, ◌++◌, ℕ, Bool, List, [], ◌∷◌, take}
 use Rattle.bosh_base.specs.declared.reply.Reply.{Reply}
+use Rattle.bosh_base.specs.declared.moves.Cause.TheVariants.{Stop}
+use Rattle.bosh_base.specs.declared.moves.Move.TheVariants.{Halt}
+use Rattle.bosh_due.specs.Before.{with_moves}
 use Rattle.bosh_due.specs.Due.{DueAt, DueBy}
-use Rattle.bosh_due.specs.Together.{Running, by_end}
+use Rattle.bosh_due.specs.Together.{Running, by_end, halts_in_work}
 use Rattle.bosh_due.specs.UnderWay.{UnderWay}
 use Rattle.bosh_due.specs.UnderWay.UnderWay.{idle}
 use Rattle.bosh_history.specs.Moments.{Moment}
@@ -10,7 +13,8 @@ use Rattle.bosh_line_words.specs.declared.fault.LineFault.{LineFault}
 use Rattle.bosh_lines.specs.declared.command.Command.{Command}
 use Rattle.bosh_base.specs.declared.entry.Entry.{Entry}
 use Rattle.bosh_base.specs.declared.moves.Stop as stop
-use Rattle.examples_histories.specs.Scenes.{Builder, History}
+use Rattle.examples_histories.specs.Scenes.{Builder, History, prepared}
+use Rattle.examples_histories.specs.Two.{two}
 use Rattle.examples_replies.specs.Scenes.{no_files, start}
 use Rattle.std.specs.Prelude.{Option, Err}
 
@@ -19,6 +23,12 @@ runs number task = record { number = number; task = task }
 
 abbrev pub AreToldSo : List Running → History → List Running → Type 0
 AreToldSo running history told = (built : Builder) → by_end running (history built) ≡ told
+
+-- a deploy of two instances halts after so many moves
+abbrev pub halts_after : ℕ → Builder → Bool
+halts_after count built =
+    halts_in_work (with_moves (start prepared 2) (take count (two built) ++ Halt Stop ∷ []) idle) (1 ∷ [])
+    (take count (two built) ++ Halt Stop ∷ [])
 
 -- a director that noted so many entries since it started answers so
 abbrev pub TellsAfter : ℕ → Moment → Command → Reply → Type 0

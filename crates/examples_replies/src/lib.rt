@@ -22,8 +22,8 @@ pub use jobs::{disks_are_written_and_read, machines_are_lost_and_shown};
 pub use listings::{instances_are_listed, records_are_listed, the_cloud_is_listed};
 pub use one_turn::commands_are_numbered;
 pub use others::{
-    lines_and_room_are_told, stops_find_what_was_asked, tasks_are_told_by_end,
-    what_is_under_way_stays,
+    halts_come_before_ends, lines_and_room_are_told, stops_find_what_was_asked,
+    tasks_are_told_by_end, what_is_under_way_stays,
 };
 pub use releases::releases_are_told;
 pub use restarts::{restarts_are_told, restarts_find_what_was_asked};

@@ -1,21 +1,27 @@
-ghost use Rattle.std.specs.Prelude.{◌∷◌, [], Some, None, codes};
+ghost use Rattle.std.specs.Prelude.{◌≡◌, ◌∷◌, [], Some, None, codes, false, true};
 ghost use Rattle.bosh_base.specs.declared.moves.Cause.TheVariants as causes;
 ghost use Rattle.bosh_base.specs.declared.reply.Reply.TheVariants as replies;
 ghost use Rattle.bosh_due.specs.UnderWay.{FindsAsked};
 ghost use Rattle.bosh_due.specs.UnderWay.UnderWay.{changing, idle, noting, working};
 ghost use Rattle.bosh_line_words.specs.declared.fault.LineFault.TheVariants as lines;
 ghost use Rattle.bosh_lines.specs.declared.command.Command.TheVariants as commands;
-ghost use Rattle.examples_histories.specs.Scenes.{config, prepared, upd_begin, write};
+ghost use Rattle.examples_histories.specs.Scenes.{Builder, config, prepared, upd_begin, write};
 ghost use Rattle.examples_histories.specs.Together.{together};
 ghost use Rattle.examples_histories.specs.Values.{web};
 ghost use Rattle.examples_replies.specs.Halted.{Stays};
-ghost use Rattle.examples_replies.specs.Others.{AreToldSo, NeverTellsAfter, NeverTellsLine, TellsAfter, TellsLine, found, runs};
+ghost use Rattle.examples_replies.specs.Others.{halts_after, AreToldSo, NeverTellsAfter, NeverTellsLine, TellsAfter, TellsLine, found, runs};
 ghost use Rattle.examples_replies.specs.Replies.{bare, naming};
 
 /// Tasks that ran together are told as they ended, and then those that have no end.
 pub fn tasks_are_told_by_end()
     ensures order { AreToldSo (runs 5 1 ∷ runs 6 2 ∷ []) together (runs 6 2 ∷ runs 5 1 ∷ []) }
     ensures left { AreToldSo (runs 4 9 ∷ runs 5 1 ∷ runs 6 8 ∷ []) together (runs 5 1 ∷ runs 4 9 ∷ runs 6 8 ∷ []) }
+{}
+
+/// A director halts in a step of a task that has no end yet, or it goes on.
+pub fn halts_come_before_ends()
+    ensures before { (built : Builder) → halts_after 23 built ≡ true }
+    ensures behind { (built : Builder) → halts_after 24 built ≡ false }
 {}
 
 /// A director without room opens no task, and a line that is no command is told first.
