@@ -1,7 +1,7 @@
 -- What a director does with a command, whatever it is over: it answers it; it opens its task; it carries tasks to their
 -- ends (this project's profile). The moves `was` are those before, and `now` those after; `under` is what was under way
 -- before, and `left` what is after.
-use Rattle.std.specs.Prelude.{◌≡◌, ◌++◌, true, false, ℕ, List, [], IfOk, OnErr, OnOk, Result}
+use Rattle.std.specs.Prelude.{◌≡◌, ◌++◌, true, false, ℕ, List, IfOk, OnErr, OnOk, Result}
 use Rattle.std.specs.List.{list_all}
 use Rattle.bosh_base.specs.declared.moves.Move.{Move}
 use Rattle.bosh_base.specs.declared.reply.Reply.{Reply}

@@ -1,5 +1,5 @@
 -- A line that a director refuses that has halted is told so under its number.
-use Rattle.std.proofs.Common.{◌≡◌, ◌∷◌, [], arith, inl, inr, subst}
+use Rattle.std.proofs.Common.{◌∷◌, [], arith, inl, inr, subst}
 use Rattle.std.specs.Prelude.{Some, codes}
 use Rattle.bosh_due.specs.Ends.{EndsIn, MayMake}
 use Rattle.bosh_due.specs.Ends.Makes.{makes_by, makes_none}

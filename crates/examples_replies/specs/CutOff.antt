@@ -1,12 +1,11 @@
 -- Openings without a reply, turns that read too little, and deployments that are made.
-use Rattle.std.specs.Prelude.{◌≡◌, ℕ, Bool, List, [], ◌∷◌, codes, Ok, Err, Result}
+use Rattle.std.specs.Prelude.{ℕ, Bool, List, [], ◌∷◌, Ok}
 use Rattle.bosh_base.specs.declared.entry.Entry.TheVariants as entries
 use Rattle.bosh_base.specs.declared.moves.Move.{Move}
-use Rattle.bosh_base.specs.declared.moves.Move.TheVariants.{Halt, Note}
-use Rattle.bosh_due.specs.Before.{Before}
+use Rattle.bosh_base.specs.declared.moves.Move.TheVariants.{Note}
 use Rattle.bosh_due.specs.Generating.{IsGeneratedUpTo, said_reply}
 use Rattle.bosh_due.specs.Together.{ComesAt, OpensAtMost}
-use Rattle.bosh_due.specs.Turns.{TakesAll, TurnRead}
+use Rattle.bosh_due.specs.Turns.{TurnRead}
 use Rattle.bosh_due.specs.UnderWay.{UnderWay}
 use Rattle.bosh_lines.specs.declared.command.Command.{Command}
 use Rattle.bosh_lines.specs.declared.command.Command.TheVariants as commands

@@ -1,5 +1,5 @@
 -- A director that has halted, and what stays under way there.
-use Rattle.std.specs.Prelude.{true, [], List}
+use Rattle.std.specs.Prelude.{[]}
 use Rattle.bosh_due.specs.Before.{Before}
 use Rattle.bosh_due.specs.Due.{DueBy}
 use Rattle.bosh_due.specs.UnderWay.{UnderWay}

@@ -1,6 +1,5 @@
 -- A session of one line.
-use Rattle.std.specs.Prelude.{ℕ, true, List, [], ◌∷◌, None, Some}
-use Rattle.bosh_base.specs.declared.moves.Move.{Move}
+use Rattle.std.specs.Prelude.{ℕ, true, [], ◌∷◌, None, Some}
 use Rattle.bosh_base.specs.declared.reply.Reply.TheVariants as replies
 use Rattle.bosh_due.specs.Generating.{said_reply}
 use Rattle.bosh_due.specs.InTurn.{MakesSession, TurnMade}
