@@ -3,6 +3,7 @@ pub mod AtOnce
 pub mod CutOff
 pub mod Halted
 pub mod Kept
+pub mod Laws
 pub mod OneTurn
 pub mod Openings
 pub mod Others

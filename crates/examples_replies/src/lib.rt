@@ -5,6 +5,7 @@ mod asked;
 mod cut_off;
 mod files;
 mod jobs;
+mod laws;
 mod listings;
 mod one_turn;
 mod others;
@@ -19,6 +20,7 @@ pub use asked::recreations_are_asked;
 pub use cut_off::{all_are_taken, lines_keep_their_number, openings_are_cut_off};
 pub use files::{configs_are_told, files_are_kept, files_are_looked_for_first};
 pub use jobs::{disks_are_written_and_read, machines_are_lost_and_shown};
+pub use laws::{nothing_is_left, what_is_due_may_be_made};
 pub use listings::{instances_are_listed, records_are_listed, the_cloud_is_listed};
 pub use one_turn::commands_are_numbered;
 pub use others::{
