@@ -13,3 +13,4 @@ pub mod Scenes
 pub mod Shelves
 pub mod Stemcells
 pub mod Unasked
+pub mod WholeTurns

@@ -15,6 +15,7 @@ mod shelves;
 mod tasks;
 mod together;
 mod uploads;
+mod whole_turns;
 
 pub use asked::recreations_are_asked;
 pub use cut_off::{all_are_taken, lines_keep_their_number, openings_are_cut_off};
@@ -33,3 +34,4 @@ pub use shelves::{failures_are_counted, kept_files_are_read};
 pub use tasks::{clean_ups_are_told, deploys_are_told, tasks_are_refused_in_order};
 pub use together::tasks_open_in_order;
 pub use uploads::stemcells_are_told;
+pub use whole_turns::turns_are_made;
