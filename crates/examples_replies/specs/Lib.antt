@@ -12,5 +12,6 @@ pub mod Replies
 pub mod Scenes
 pub mod Shelves
 pub mod Stemcells
+pub mod TwoTurns
 pub mod Unasked
 pub mod WholeTurns

@@ -14,6 +14,7 @@ mod restarts;
 mod shelves;
 mod tasks;
 mod together;
+mod two_turns;
 mod uploads;
 mod whole_turns;
 
@@ -33,5 +34,6 @@ pub use restarts::{restarts_are_told, restarts_find_what_was_asked};
 pub use shelves::{failures_are_counted, kept_files_are_read};
 pub use tasks::{clean_ups_are_told, deploys_are_told, tasks_are_refused_in_order};
 pub use together::tasks_open_in_order;
+pub use two_turns::later_commands_find_what_was_asked;
 pub use uploads::stemcells_are_told;
 pub use whole_turns::turns_are_made;
