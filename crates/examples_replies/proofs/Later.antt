@@ -1,5 +1,5 @@
 -- A restart does not find what no command before it was about.
-use Rattle.std.proofs.Common.{◌≡◌, [], ◌∷◌, ◌++◌, List, ◌∙◌, arith, subst}
+use Rattle.std.proofs.Common.{◌≡◌, [], ◌∷◌, ◌++◌, List, arith, subst}
 use Rattle.std.specs.Prelude.{None, Some, codes}
 use Rattle.bosh_base.specs.declared.moves.Cause.TheVariants.{Store}
 use Rattle.bosh_base.specs.declared.moves.Move.{Move}
@@ -11,7 +11,7 @@ use Rattle.bosh_due.specs.Generating.{said_reply}
 use Rattle.bosh_due.specs.InTurn.{at_first}
 use Rattle.bosh_due.specs.Outcomes.{Outcome}
 use Rattle.bosh_due.specs.Outcomes.Outcome.{Notes, Restarts}
-use Rattle.bosh_due.specs.UnderWay.{MayBeKept, UnderWay}
+use Rattle.bosh_due.specs.UnderWay.{MayBeKept}
 use Rattle.bosh_due.specs.UnderWay.UnderWay.{noting}
 use Rattle.bosh_history.specs.Moments.{nothing}
 use Rattle.examples_histories.specs.Scenes.{config, stop}

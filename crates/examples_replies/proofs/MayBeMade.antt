@@ -1,5 +1,5 @@
 -- The moves behind which a reply is due are moves that the command may make.
-use Rattle.std.specs.Prelude.{◌≡◌, true, Bool, List, [], ◌∷◌, Option, Some, None}
+use Rattle.std.specs.Prelude.{Bool, List, [], ◌∷◌, Option, Some}
 use Rattle.bosh_base.specs.declared.entry.Entry.{Entry}
 use Rattle.bosh_base.specs.declared.entry.Entry.TheVariants as entries
 use Rattle.bosh_base.specs.declared.entry.TaskOpen.{TaskOpen}

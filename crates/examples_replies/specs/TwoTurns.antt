@@ -1,5 +1,5 @@
 -- A session of two lines: the director halts as a stemcell is noted, and is started anew.
-use Rattle.std.specs.Prelude.{ℕ, false, List, [], ◌∷◌, codes, None, Some}
+use Rattle.std.specs.Prelude.{ℕ, false, [], ◌∷◌, codes, None, Some}
 use Rattle.bosh_base.specs.declared.entry.Entry.{Entry}
 use Rattle.bosh_base.specs.declared.entry.Entry.TheVariants as entries
 use Rattle.bosh_base.specs.declared.moves.Cause.TheVariants.{Store}
