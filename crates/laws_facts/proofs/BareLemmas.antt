@@ -48,7 +48,7 @@ before_bare call i = by (leaves_doubt call)
     by true = refl
     by false = refl
 
-bare_call : (t : Task) (i : Inst) → BareCall (call_of_row t i (bare i))
+pub bare_call : (t : Task) (i : Inst) → BareCall (call_of_row t i (bare i))
 bare_call t i = by (is_to_ping t i)
   where
     by : (b : Bool) → BareCall (if b then None else next_call (want_of t i) (bare i))

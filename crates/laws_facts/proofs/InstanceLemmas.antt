@@ -53,12 +53,12 @@ then_equal Less b is = absurd cc
 then_equal Equal b is = (refl, is)
 then_equal Greater b is = absurd cc
 
-inst_total : IsTotalOrder inst_cmp
+pub inst_total : IsTotalOrder inst_cmp
 inst_total =
     then_total (on_total (λ (i : Inst). i.dep) nat_list_cmp_total)
     (then_total (on_total (λ (i : Inst). i.group) nat_list_cmp_total) (on_total (λ (i : Inst). i.index) nat_cmp_total))
 
-inst_equal : (a b : Inst) → inst_cmp a b ≡ Equal → a ≡ b
+pub inst_equal : (a b : Inst) → inst_cmp a b ≡ Equal → a ≡ b
 inst_equal a b is =
     let parts : (slice_cmp nat_cmp a.dep b.dep ≡ Equal) ×
     (ordering_then (slice_cmp nat_cmp a.group b.group) (nat_cmp a.index b.index) ≡ Equal) =

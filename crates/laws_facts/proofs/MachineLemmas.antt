@@ -57,7 +57,7 @@ slot_equal a b is =
     let slot : a.slot ≡ b.slot = exact_unsigned a.slot b.slot parts.1 in
     λ i. record { task = task i; slot = slot i }
 
-slot_tells : (a b : SlotName) → Tells same_slot a b
+pub slot_tells : (a b : SlotName) → Tells same_slot a b
 slot_tells a b = by (eqb_tells a.task b.task) (eqb_tells a.slot b.slot)
   where
     by : Tells eqb a.task b.task → Tells eqb a.slot b.slot → Tells same_slot a b
