@@ -133,7 +133,8 @@ still m new known working facts =
 pub none_works : (m : Moment) (s : stop.Stop) (t : ℕ) → works (later m (moves.Stop s)) t ≡ true → ⊥
 none_works m s t is = absurd (grind (arith, is))
 
-pub addresses_kept : (outside : Outside) (m : Moment) (move : Move) → IsPermitted outside m move → Holds m → AddressFacts (later m move)
+pub addresses_kept : (outside : Outside) (m : Moment) (move : Move) → IsPermitted outside m move → Holds m
+    → AddressFacts (later m move)
 addresses_kept outside m (moves.Note e) may h = addresses_note outside m e h may.1 may.2
 addresses_kept outside m (moves.Stop s) may h = by s.kept refl may.kept
   where

@@ -1,5 +1,4 @@
--- The addresses of the one instance that a task changes are of no recorded row that is not of
--- its goal.
+-- The addresses of the one instance that a task changes are of no recorded row that is not of its goal.
 use Rattle.std.proofs.Common.{◌≡◌, ℕ, Bool, true, false, ◌&&◌, Option, Some, None, List, [], ◌∷◌, refl, ap, sym, ◌∙◌, inl, inr, arith}
 use Rattle.std.specs.Prelude.{◌⊎◌, eqb, not, ◌||◌, is_some, if◌then◌else◌}
 use Rattle.std.specs.Cmp.Lexicographic.{pointwise}
@@ -209,16 +208,16 @@ addressed_by : (k : Known) (o : TaskOpen) (goal : Goal) (kind : TaskKind) → o.
     → is_of_kind k kind goal ≡ true → is_addressed k (task_opened k o) ≡ true
 addressed_by k o goal (kinds.Recreate i) is own of_kind =
     (λ l. where_any (has_its_addresses k (task_opened k o)) (named_instance (is l)))
-        ∙ addressed_one k o goal i own of_kind
+    ∙ addressed_one k o goal i own of_kind
 addressed_by k o goal (kinds.Start i) is own of_kind =
     (λ l. where_any (has_its_addresses k (task_opened k o)) (named_instance (is l)))
-        ∙ addressed_one k o goal i own of_kind
+    ∙ addressed_one k o goal i own of_kind
 addressed_by k o goal (kinds.Stop i) is own of_kind =
     (λ l. where_any (has_its_addresses k (task_opened k o)) (named_instance (is l)))
-        ∙ addressed_one k o goal i own of_kind
+    ∙ addressed_one k o goal i own of_kind
 addressed_by k o goal (kinds.Resolve i) is own of_kind =
     (λ l. where_any (has_its_addresses k (task_opened k o)) (named_instance (is l)))
-        ∙ addressed_one k o goal i own of_kind
+    ∙ addressed_one k o goal i own of_kind
 addressed_by k o goal kind is own of_kind =
     (λ l. where_any (has_its_addresses k (task_opened k o)) (named_instance (is l)))
 
@@ -268,7 +267,8 @@ addressed_note outside m entry h follows may t working =
     addressed_now m (noting m entry) t h ((less_work outside m entry may refl).works t working)
     (ended_comes outside m entry may refl refl) (shape_note outside m entry may refl t)
 
-pub addressed_kept : (outside : Outside) (m : Moment) (move : Move) → IsPermitted outside m move → Holds m → AreAddressed (later m move)
+pub addressed_kept : (outside : Outside) (m : Moment) (move : Move) → IsPermitted outside m move → Holds m
+    → AreAddressed (later m move)
 addressed_kept outside m (moves.Note e) may h t working =
     addressed_note outside m e h may.1 may.2 t working
 addressed_kept outside m (moves.Stop s) may h t working = absurd (none_works m s t working)

@@ -19,7 +19,6 @@ use Rattle.bosh_base.specs.declared.owner.Owner.TheVariants.{Instance, Compile, 
 use Rattle.laws_facts.specs.Addresses.{AddressFacts, Recorded, Machine}
 use Rattle.laws_facts.specs.CallFacts.{named}
 use Rattle.laws_facts.specs.Facts.{Holds}
-use Rattle.laws_row_facts.specs.Words.{where_any}
 use Rattle.bosh_history.specs.Addresses.{are_apart, creating, is_apart, live_machines, possible_machines}
 use Rattle.bosh_history.specs.Moments.{Moment, OpenCall}
 use Rattle.bosh_history.specs.Sound.{addrs, has_addr}
@@ -103,7 +102,7 @@ apart_numbers f (suc n) each =
     (apart_numbers f n (λ v w x y low less high is also. each v w x y low less (grind (arith, high)) is also))
     (by (f (suc n)) refl)
     (all_numbers (λ x. list_all (is_apart x) (filter_map f (suc n ∷ []))) f n
-        (λ v x low high is. of v x low high is (f (suc n)) refl))
+    (λ v x low high is. of v x low high is (f (suc n)) refl))
   where
     by : (last : Option Make) → f (suc n) ≡ last → are_apart (filter_map f (suc n ∷ [])) ≡ true
     by (Some y) is = grind (arith, is)
@@ -157,8 +156,8 @@ live_among effects v e low high there is =
     own = owner_itself e.owner
 
 live_by : (m : Moment) (v : ℕ) (e : Effect) (make : Make) (owner : Owner) → Holds m → e.owner ≡ owner
-    → is_in_deployment_of m.known e.dep owner ≡ true → is_among eqb v (vms_of m.effects e.owner) ≡ true → vm_creation m.effects v ≡ Some e
-    → make_of e.call ≡ Some make → LiveOf m v make
+    → is_in_deployment_of m.known e.dep owner ≡ true → is_among eqb v (vms_of m.effects e.owner) ≡ true
+    → vm_creation m.effects v ≡ Some e → make_of e.call ≡ Some make → LiveOf m v make
 live_by m v e make (Instance i) h own maker among is made =
     let live : IsLive m.effects (Instance i) v make = record {
       among = subst (λ owner. is_among eqb v (vms_of m.effects owner) ≡ true) own among;

@@ -1,4 +1,5 @@
--- the facts on addresses are kept where each that holds an address held it, or makes a machine with those that it is wanted with.
+-- The facts on addresses are kept where each that holds an address held it, or makes a machine with those that it is
+-- wanted with.
 use Rattle.std.proofs.Common.{◌≡◌, ℕ, Bool, true, false, ◌==◌, ◌&&◌, Some, None, refl, ap, sym, ◌∙◌, inl, inr, arith}
 use Rattle.std.specs.Prelude.{◌⊎◌, not, ◌||◌, eqb}
 use Rattle.std.specs.List.{list_any}
@@ -75,8 +76,14 @@ pub record Comes (old new : Moment) : Type 0 where
 -- ---- one recorded, the other way round
 
 numbers_flip : (t s other slot : ℕ) → (t == other && s == slot) ≡ true → (other == t && slot == s) ≡ true
-numbers_flip t s other slot is = grind (arith, is, eqb_tells t other, eqb_tells s slot, eqb_tells other t,
-    eqb_tells slot s)
+numbers_flip t s other slot is = grind (
+  arith,
+  is,
+  eqb_tells t other,
+  eqb_tells s slot,
+  eqb_tells other t,
+  eqb_tells slot s,
+)
 
 inst_flip : (i j : Inst) → same_inst i j ≡ true → same_inst j i ≡ true
 inst_flip i j is = grind (arith, is, same_inst_tells i j, same_inst_tells j i)

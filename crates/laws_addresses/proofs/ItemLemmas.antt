@@ -41,7 +41,6 @@ module _ {A : Type 0} (same : A → A → Bool) (tells : (a b : A) → Tells sam
   all_made p f test x (b ∷ items) all there is =
       grind (arith, all, there, is, tells x b, all_made p f test x items)
 
-
 second : {A : Type 0} (p : A → Bool) (xs ys : List A) → list_all p (xs ++ ys) ≡ true → list_all p ys ≡ true
 second p xs ys all = grind (arith, all, list_all-append p xs ys)
 

@@ -35,7 +35,7 @@ use Rattle.bosh_rows.proofs.SameLemmas.{same_inst_tells}
 use Rattle.bosh_rows.specs.Same.{same_inst}
 use Rattle.laws_addresses.proofs.FreeLemmas.{row_recorded}
 use Rattle.laws_addresses.proofs.HeldLemmas as held
-use Rattle.laws_addresses.proofs.HeldLemmas.{IsFree, dep_as, is_free, is_of, machine_dep, of_this, slot_held}
+use Rattle.laws_addresses.proofs.HeldLemmas.{IsFree, dep_as, is_free}
 use Rattle.laws_addresses.proofs.ListLemmas.{Apart, all_has, any_in, any_left, any_right, apart_of, has, row_has, slot_has}
 use Rattle.laws_addresses.proofs.WorkingLemmas.{IsRow, WorksOn, found_row, works_on}
 

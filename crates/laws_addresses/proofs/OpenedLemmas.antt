@@ -1,34 +1,28 @@
 -- A task opens with a sound goal: the facts on addresses are kept.
-use Rattle.std.proofs.Common.{◌≡◌, ℕ, Bool, true, false, ◌==◌, ◌&&◌, Option, Some, None, List, ◌++◌, refl, ap, sym, ◌∙◌, inl, inr, arith}
-use Rattle.std.specs.Prelude.{eqb, not, ◌||◌, if◌then◌else◌}
+use Rattle.std.proofs.Common.{◌≡◌, ℕ, Bool, true, false, ◌==◌, ◌&&◌, Some, List, ◌++◌, refl, ap, sym, ◌∙◌, inl, inr, arith}
+use Rattle.std.specs.Prelude.{eqb, not, ◌||◌}
 use Rattle.std.specs.List.{list_any}
-use Rattle.std.specs.Option.{option_map}
 use Rattle.std.specs.Str.{bytes_eq}
 use Rattle.std.proofs.lemmas.Bool.Decides.{eqb_tells}
 use Rattle.bosh_base.specs.declared.entry.Entry.TheVariants as entries
 use Rattle.bosh_base.specs.declared.entry.TaskOpen.{TaskOpen}
 use Rattle.bosh_base.specs.declared.goal.Goal.{Goal}
-use Rattle.bosh_base.specs.declared.goal.GoalRow.{GoalRow}
 use Rattle.bosh_base.specs.declared.inst.Inst.{Inst}
 use Rattle.laws_facts.proofs.ListLemmas.{Tells, bytes_tells}
 use Rattle.laws_facts.specs.Addresses.{AddressFacts, Holder, Recorded, Machine, Wanted, Free, dep_of_holder, has_each_once, holds_address, is_of_one_deployment, is_one_recorded, is_one_wanted, may_take_over}
 use Rattle.laws_facts.specs.Owners.{works}
-use Rattle.laws_row_facts.specs.Words.{where_any}
 use Rattle.bosh_history.specs.Goals.{is_in}
 use Rattle.bosh_history.specs.Held.{held_by_machines}
-use Rattle.bosh_history.specs.Items.{slots_of}
-use Rattle.bosh_history.specs.Known.{Slot, want_in}
+use Rattle.bosh_history.specs.Known.{Slot}
 use Rattle.bosh_history.specs.Moments.{Moment, noting}
-use Rattle.bosh_history.specs.Sound.{addrs, has_addr, is_held, is_used, row_addrs, slot_addrs}
-use Rattle.bosh_history.specs.Steps.{nth}
-use Rattle.bosh_rows.specs.SoundSnapshot.{are_distinct}
+use Rattle.bosh_history.specs.Sound.{has_addr, is_held, is_used, row_addrs, slot_addrs}
 use Rattle.bosh_rows.proofs.SameLemmas.{same_inst_tells}
 use Rattle.bosh_rows.specs.Same.{same_inst}
 use Rattle.laws_addresses.proofs.FreeLemmas.{IsMachine, machine_recorded, row_recorded}
 use Rattle.laws_addresses.proofs.HeldLemmas as held
-use Rattle.laws_addresses.proofs.HeldLemmas.{held_of, IsFree, dep_as, is_free, is_of, machine_dep, of_this, slot_held}
-use Rattle.laws_addresses.proofs.ListLemmas.{once_of, any_in, has, row_has, row_once, rows_one, slot_has, slot_once, slots_one}
-use Rattle.laws_addresses.proofs.OpenLemmas.{free_once, wanted_once, FreeFrom, OpensWell, WantedFrom, WantedMake, free_elsewhere, free_from, leaves, now_row, now_slot, now_wanted, number, old_works, other_dep, parts, row_all, slot_all, unused, wanted_from, wanted_make, was_row, was_slot, was_wanted}
+use Rattle.laws_addresses.proofs.HeldLemmas.{held_of, dep_as, machine_dep, of_this, slot_held}
+use Rattle.laws_addresses.proofs.ListLemmas.{any_in, has, row_has, rows_one, slot_has, slots_one}
+use Rattle.laws_addresses.proofs.OpenLemmas.{free_once, wanted_once, FreeFrom, OpensWell, WantedFrom, free_elsewhere, free_from, leaves, now_row, now_slot, number, old_works, other_dep, parts, row_all, slot_all, unused, wanted_from, was_row, was_slot}
 
 module _ (m : Moment) (o : TaskOpen) (goal : Goal) (well : OpensWell m o goal) where
   abbrev pub new : Moment
@@ -108,10 +102,10 @@ module _ (m : Moment) (o : TaskOpen) (goal : Goal) (well : OpensWell m o goal) w
       well.holds.addresses.one_wanted a (Wanted i) (Wanted j) here there
   two_rows a i j (was_row apart here same) (now_row row dep same_goal wanted there) =
       absurd (apart (of_this m (Wanted i) a goal.dep well.holds here (free_elsewhere m o goal well a
-          (row_all m o goal well j row a wanted there))))
+      (row_all m o goal well j row a wanted there))))
   two_rows a i j (now_row row dep same_goal wanted there) (was_row apart here same) =
       absurd (apart (of_this m (Wanted j) a goal.dep well.holds here (free_elsewhere m o goal well a
-          (row_all m o goal well i row a wanted there))))
+      (row_all m o goal well i row a wanted there))))
   two_rows a i j (now_row row dep same_goal wanted there) (now_row other dep_too goal_too wanted_too there_too) =
       rows_one i j goal.rows row other a wanted wanted_too (parts m o goal well).left there there_too
 
@@ -121,13 +115,13 @@ module _ (m : Moment) (o : TaskOpen) (goal : Goal) (well : OpensWell m o goal) w
       well.holds.addresses.one_wanted a (Wanted i) (Free t s) here there
   row_and_free a i t s (was_row apart here same) (now_slot make task slot there dep) =
       absurd (apart (of_this m (Wanted i) a goal.dep well.holds here (free_elsewhere m o goal well a
-          (slot_all m o goal well s make a slot there))))
+      (slot_all m o goal well s make a slot there))))
   row_and_free a i t s (now_row row dep same_goal wanted there) (was_slot here apart same) =
       absurd (apart (of_this m (Free t s) a goal.dep well.holds here (free_elsewhere m o goal well a
-          (row_all m o goal well i row a wanted there))))
+      (row_all m o goal well i row a wanted there))))
   row_and_free a i t s (now_row row dep same_goal wanted there) (now_slot make task slot there_too dep_too) =
       sym ((parts m o goal well).none a (row_has i goal.rows row a wanted there))
-          ∙ slot_has s goal.slots make a slot there_too
+      ∙ slot_has s goal.slots make a slot there_too
 
   two_slots : (a t s other slot : ℕ) → FreeFrom m o goal well t s a → FreeFrom m o goal well other slot a →
       (t == other && s == slot) ≡ true
@@ -135,10 +129,10 @@ module _ (m : Moment) (o : TaskOpen) (goal : Goal) (well : OpensWell m o goal) w
       well.holds.addresses.one_wanted a (Free t s) (Free other slot) here there
   two_slots a t s other slot (was_slot here apart same) (now_slot make task is there dep) =
       absurd (apart (of_this m (Free t s) a goal.dep well.holds here (free_elsewhere m o goal well a
-          (slot_all m o goal well slot make a is there))))
+      (slot_all m o goal well slot make a is there))))
   two_slots a t s other slot (now_slot make task is there dep) (was_slot here apart same) =
       absurd (apart (of_this m (Free other slot) a goal.dep well.holds here (free_elsewhere m o goal well a
-          (slot_all m o goal well s make a is there))))
+      (slot_all m o goal well s make a is there))))
   two_slots a t s other slot (now_slot make task is there dep) (now_slot more task_too is_too there_too dep_too) =
       grind (
         arith,
@@ -171,11 +165,15 @@ module _ (m : Moment) (o : TaskOpen) (goal : Goal) (well : OpensWell m o goal) w
       → (same_inst i j || not (is_in (new.known.goal i.dep) i)) ≡ true
   row_takes a i j here (was_row apart there same) =
       (λ l. same_inst i j || not (is_in (kept l) i)) ∙ well.holds.addresses.take_over a (Recorded i)
-          (Wanted j) here there
+      (Wanted j) here there
     where
       dep : i.dep ≡ j.dep
-      dep = grind (arith, well.holds.addresses.one_deployment a (Recorded i)
-          (Wanted j) here there, bytes_tells i.dep j.dep)
+      dep = grind (
+        arith,
+        well.holds.addresses.one_deployment a (Recorded i)
+            (Wanted j) here there,
+        bytes_tells i.dep j.dep,
+      )
 
       kept : new.known.goal i.dep ≡ m.known.goal i.dep
       kept = ap new.known.goal dep ∙ same ∙ sym (ap m.known.goal dep)
@@ -187,7 +185,7 @@ module _ (m : Moment) (o : TaskOpen) (goal : Goal) (well : OpensWell m o goal) w
       now =
           ap new.known.goal
           (of_this m (Recorded i) a goal.dep well.holds here (free_elsewhere m o goal well a
-              (row_all m o goal well j row a wanted there)) ∙ sym dep)
+          (row_all m o goal well j row a wanted there)) ∙ sym dep)
           ∙ same
 
       by : Tells same_inst i j → Tells same_inst j i → (b : Bool) → is_in (Some goal) i ≡ b
@@ -195,8 +193,11 @@ module _ (m : Moment) (o : TaskOpen) (goal : Goal) (well : OpensWell m o goal) w
       by (inl equal) flipped b is = grind (arith, equal)
       by (inr other) flipped false is = grind (arith, is)
       by (inr other) (inl equal) true is = absurd (other.1 (sym equal.1))
-      by (inr other) (inr apart) true is = absurd (grind (arith, leaves m o goal well i j row a wanted there
-          here apart.0 is))
+      by (inr other) (inr apart) true is = absurd (grind (
+        arith,
+        leaves m o goal well i j row a wanted there
+            here apart.0 is,
+      ))
 
   row_used : (a : ℕ) (i : Inst) → holds_address m (Recorded i) a ≡ true → is_used m.known a ≡ true
   row_used a i here =
@@ -209,7 +210,7 @@ module _ (m : Moment) (o : TaskOpen) (goal : Goal) (well : OpensWell m o goal) w
   slot_used a t s here =
       let there : is_held (held_by_machines m.known) a ≡ true =
       held_of m.known (dep_of_holder m.known (Machine t s)) a (held_by_machines m.known)
-          (slot_held m t s a well.holds here) in
+      (slot_held m t s a well.holds here) in
       grind (arith, there)
 
   row_no_slot : (a : ℕ) (i : Inst) (t s : ℕ) → holds_address m (Recorded i) a ≡ true
@@ -224,16 +225,24 @@ module _ (m : Moment) (o : TaskOpen) (goal : Goal) (well : OpensWell m o goal) w
   slot_takes a t s other slot here (was_slot there apart same) =
       well.holds.addresses.take_over a (Machine t s) (Free other slot) here there
   slot_takes a t s other slot here (now_slot make task is there dep) =
-      absurd (grind (arith, sym (unused m o goal well a (slot_has slot goal.slots make a is there))
-          ∙ slot_used a t s here))
+      absurd (grind (
+        arith,
+        sym (unused m o goal well a (slot_has slot goal.slots make a is there))
+            ∙ slot_used a t s here,
+      ))
 
   -- a machine is of a task that was there
   machine_old : (a t s : ℕ) → holds_address m (Machine t s) a ≡ true → works new t ≡ true → works m t ≡ true
   machine_old a t s here working = by (machine_recorded m t s a well.holds here) (eqb_tells o.task t)
     where
       by : (it : Slot) × IsMachine m t s it a → Tells eqb o.task t → works m t ≡ true
-      by (it, found) (inl same) = absurd (grind (arith, well.holds.numbers.of_tasks t s, found.slot, same,
-          number m o goal well))
+      by (it, found) (inl same) = absurd (grind (
+        arith,
+        well.holds.numbers.of_tasks t s,
+        found.slot,
+        same,
+        number m o goal well,
+      ))
       by (it, found) (inr apart) = old_works m o goal well t apart.0 working
 
   slot_rests : (a t s : ℕ) (j : Inst) → holds_address m (Machine t s) a ≡ true → WantedFrom m o goal well j a
@@ -258,7 +267,7 @@ module _ (m : Moment) (o : TaskOpen) (goal : Goal) (well : OpensWell m o goal) w
               ∙ dep_as m.known t it.dep (machine_dep m t s it well.holds found.slot)
               ∙ sym (grind (arith, found.slot))
               ∙ of_this m (Machine t s) a goal.dep well.holds here (free_elsewhere m o goal well a
-                  (row_all m o goal well j row a wanted there))))
+              (row_all m o goal well j row a wanted there))))
 
   take_opened : (a : ℕ) (x y : Holder) → holds_address new x a ≡ true → holds_address new y a ≡ true
       → may_take_over new x y ≡ true

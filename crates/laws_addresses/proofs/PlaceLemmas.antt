@@ -211,8 +211,14 @@ place_opened m o t i h may working = by (eqb_tells o.task t)
         ∙ place_by m.known o i o.kind refl may
     by (inr apart) =
         (λ l. has_place m.known (if apart.0 l then task_opened m.known o else m.known.task t) i)
-        ∙ ((h.tasks t).working (grind (arith, apart, working, opens_next m.known o may, eqb_tells o.task
-            t))).has_place i
+        ∙ ((h.tasks t).working (grind (
+          arith,
+          apart,
+          working,
+          opens_next m.known o may,
+          eqb_tells o.task
+              t,
+        ))).has_place i
 
 -- ---- moves
 
@@ -232,7 +238,8 @@ place_note outside m entry h follows may t working i =
     (recorded_note outside m entry may refl refl i) (gone_note outside m entry may refl t i)
     (((h.tasks t).working ((less_work outside m entry may refl).works t working)).has_place i)
 
-pub places_kept : (outside : Outside) (m : Moment) (move : Move) → IsPermitted outside m move → Holds m → HavePlaces (later m move)
+pub places_kept : (outside : Outside) (m : Moment) (move : Move) → IsPermitted outside m move → Holds m
+    → HavePlaces (later m move)
 places_kept outside m (moves.Note e) may h t working i = place_note outside m e h may.1 may.2 t working i
 places_kept outside m (moves.Stop s) may h t working i = absurd (none_works m s t working)
 places_kept outside m (moves.Did d) may h t working i = ((h.tasks t).working working).has_place i

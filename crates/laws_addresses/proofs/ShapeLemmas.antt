@@ -68,7 +68,7 @@ shape_note outside m (entries.UpdDone u) may none t =
     ∙ (λ i. shape (dep_updated (want_in (m.known.task u.task).goal u.inst) u.inst m.known i t))
 shape_note outside m (entries.Gone u) may none t =
     kept_at shape u.task (λ task. record task { gone = at same_inst u.inst true task.gone })
-        (λ task. refl) m.known.task t
+    (λ task. refl) m.known.task t
 shape_note outside m (entries.TaskDone task) may none t =
     kept_at shape task (λ it. record it { end = Some ends.Finished }) (λ task. refl)
     (settles (m.known.task task).kind (m.known.task task).goal (dep_of_task m.known task) m.known).task t

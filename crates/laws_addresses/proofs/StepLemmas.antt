@@ -105,4 +105,4 @@ creates_wanted want row make disks is = by row.lost refl row.doubt refl is
     by false lost (Some doubt) has called = absurd (probe_none want row make disks (method_of doubt.call) called)
     by false lost None has called =
         by_cases (Creates want) want row (creates_cases want row) lost has
-            (calls.CreateVm make disks) is make disks refl
+        (calls.CreateVm make disks) is make disks refl

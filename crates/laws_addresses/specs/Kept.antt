@@ -7,12 +7,13 @@ use Rattle.laws_facts.specs.Facts.{Holds}
 use Rattle.laws_facts.specs.Owners.{works}
 use Rattle.laws_facts.specs.Tasks.{has_place, is_addressed}
 
--- while a task works that is of no single instance, each recorded instance of its deployment is of its goal, or is to go
+-- while a task works that is of no single instance, each recorded instance of its deployment is of its goal, or is to
+-- go
 abbrev pub HavePlaces : Moment → Type 0
 HavePlaces m = (t : ℕ) → works m t ≡ true → (i : Inst) → has_place m.known (m.known.task t) i ≡ true
 
--- while a task works that is of one instance, no row that is not of its goal has an address of that instance, unless the
--- instance is to be detached
+-- while a task works that is of one instance, no row that is not of its goal has an address of that instance, unless
+-- the instance is to be detached
 abbrev pub AreAddressed : Moment → Type 0
 AreAddressed m = (t : ℕ) → works m t ≡ true → is_addressed m.known (m.known.task t) ≡ true
 

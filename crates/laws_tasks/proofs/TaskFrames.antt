@@ -112,8 +112,12 @@ pub record OpenedAlike (a b : Task) : Type 0 where
   pub to_ping : b.to_ping ≡ a.to_ping
   pub orphans : b.orphans ≡ a.orphans
 
-opened_itself : (a : Task) → OpenedAlike a a
-opened_itself a = record {
+-- what is told of a task later leaves what it opened with
+opened_as : (a : Task) (pinged gone : Inst → Bool) (upd : Inst → Upd) (failed : Option Failure) (calls : Option ℕ)
+    (end : Option TaskEnd)
+    → OpenedAlike a
+    (record a { pinged = pinged; upd = upd; gone = gone; failed = failed; calls = calls; end = end })
+opened_as a pinged gone upd failed calls end = record {
   kind = refl;
   dep = refl;
   goal = refl;
@@ -123,6 +127,10 @@ opened_itself a = record {
   to_ping = refl;
   orphans = refl;
 }
+
+-- .. and so does nothing
+pub opened_itself : (a : Task) → OpenedAlike a a
+opened_itself a = opened_as a a.pinged a.gone a.upd a.failed a.calls a.end
 
 opened_pinged : (call : Call) (answer : Answer) (owner : Owner) (t : Task)
     → OpenedAlike t (task_after_ping call answer owner t)
@@ -157,22 +165,6 @@ opened_ended answer (Some b) k t =
     changed_at OpenedAlike opened_itself b.task t (task_told k b answer (k.task b.task)) k.task
     (opened_told k b answer (k.task b.task))
 opened_ended answer None k t = opened_itself (k.task t)
-
--- what is told of a task later leaves what it opened with
-opened_as : (a : Task) (pinged gone : Inst → Bool) (upd : Inst → Upd) (failed : Option Failure) (calls : Option ℕ)
-    (end : Option TaskEnd)
-    → OpenedAlike a
-    (record a { pinged = pinged; upd = upd; gone = gone; failed = failed; calls = calls; end = end })
-opened_as a pinged gone upd failed calls end = record {
-  kind = refl;
-  dep = refl;
-  goal = refl;
-  changed = refl;
-  obsolete = refl;
-  disks = refl;
-  to_ping = refl;
-  orphans = refl;
-}
 
 -- .. where it is told of one
 opened_at : (n t : ℕ) (x : Task) (f : ℕ → Task) → OpenedAlike (f n) x → OpenedAlike (f t) (at eqb n x f t)

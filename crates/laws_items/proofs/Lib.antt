@@ -1,0 +1,15 @@
+pub mod AskedLemmas
+pub mod DoneLemmas
+pub mod ItemFrames
+pub mod ItemLemmas
+pub mod KeyLemmas
+pub mod ListLemmas
+pub mod ListedLemmas
+pub mod MarkLemmas
+pub mod OnwardLemmas
+pub mod OrphanFrames
+pub mod PhaseLemmas
+pub mod PingLemmas
+pub mod RowFrames
+pub mod SlotCalls
+pub mod SlotFrames
