@@ -1,8 +1,8 @@
 -- A row that is to be asked has a machine and is not lost, and its instance is not through.
 use Rattle.std.proofs.Common.{◌≡◌, ◌∙◌, ℕ, ◌+◌, Bool, true, false, ◌&&◌, ◌||◌, not, Option, Some, None, List, [], ◌∷◌}
-use Rattle.std.proofs.Common.{ap, refl, sym, subst, inl, inr, arith, filter, map}
+use Rattle.std.proofs.Common.{ap, refl, sym, inl, inr, arith, filter, map}
 use Rattle.std.specs.Prelude.{◌⊎◌, ◌≢◌, ◌==◌, eqb, find, if◌then◌else◌, is_some}
-use Rattle.std.proofs.lemmas.Bool.{and_from, and_parts, eq-eqb, eqb-true, false≢true}
+use Rattle.std.proofs.lemmas.Bool.{and_from, and_parts, eq-eqb, false≢true}
 use Rattle.std.proofs.lemmas.Bool.Decides.{eqb_tells}
 use Rattle.bosh_base.specs.declared.answer.Answer.{Answer}
 use Rattle.bosh_base.specs.declared.answer.Answer.TheVariants as answers
@@ -26,7 +26,7 @@ use Rattle.bosh_base.specs.declared.task.TaskKind.TheVariants as kinds
 use Rattle.bosh_history.specs.Calls.{call_ended, task_after_ping, task_told}
 use Rattle.bosh_history.specs.Goals.{inst_of, instances_of, is_in, named_instance, to_change}
 use Rattle.bosh_history.specs.Items.{instance_phase, is_finished, is_item, is_to_change, is_to_go, is_to_ping, stage_of}
-use Rattle.bosh_history.specs.Known.{Known, Task, plan_in, want_in}
+use Rattle.bosh_history.specs.Known.{Known, plan_in}
 use Rattle.bosh_history.specs.Learn.{learn}
 use Rattle.bosh_history.specs.Moments.{Moment, OpenCall, later, noting}
 use Rattle.bosh_history.specs.Notes.{EndsCall, MayNote, Outside}
@@ -58,7 +58,7 @@ use Rattle.laws_items.specs.Items.{CanBeAsked}
 use Rattle.laws_items.specs.Lists.{IsIn}
 use Rattle.laws_row_facts.specs.Calls.{is_ping}
 use Rattle.laws_row_facts.specs.Words.{implies}
-use Rattle.laws_tasks.proofs.TaskFrames.{OpenedAlike, SameUpdates, same_updates}
+use Rattle.laws_tasks.proofs.TaskFrames.{OpenedAlike, same_updates}
 
 -- ---- one instance of one task
 
@@ -277,7 +277,8 @@ module _ (outside : Outside) (m : Moment) (h : Holds m) (t : ℕ) (working : wor
               let before : is_to_ping (m.known.task t) i ≡ true =
               was_to_ping (m.known.task t) ((learn m.known e).task t) (onward_note outside m e t may none) i asks in
               let task : u.task ≡ t =
-              same_task m h t u.task working other i before (sym (λ j. is_item m.known u.task (Instance (one j))) ∙ item) in
+              same_task m h t u.task working other i before (sym (λ j. is_item m.known u.task (Instance
+              (one j))) ∙ item) in
               absurd
               (false≢true (sym unasked ∙ (λ j. is_to_ping (m.known.task (task j)) (one j)) ∙ before))
 

@@ -1,9 +1,9 @@
 -- Where no slot of a task that works is left, all its keys are compiled.
-use Rattle.std.proofs.Common.{◌≡◌, ◌∙◌, ℕ, ◌+◌, ◌<◌, zero, suc, Bool, true, false, ◌&&◌, ◌||◌, not, List, [], ◌∷◌, length}
+use Rattle.std.proofs.Common.{◌≡◌, ◌∙◌, ℕ, ◌<◌, zero, suc, Bool, true, false, ◌||◌, not, List, [], ◌∷◌, length}
 use Rattle.std.proofs.Common.{Option, Some, None, ap, refl, sym, arith}
 use Rattle.std.specs.Prelude.{◌==◌, find, if◌then◌else◌, is_some, nat_le, nat_lt}
-use Rattle.std.specs.List.{list_all, list_any}
-use Rattle.std.proofs.lemmas.Bool.{and_from, and_parts, eqb-true, false≢true, lt-ltb, ltb-true, or_left, or_right}
+use Rattle.std.specs.List.{list_all}
+use Rattle.std.proofs.lemmas.Bool.{and_from, and_parts, false≢true, lt-ltb, ltb-true, or_left, or_right}
 use Rattle.std.proofs.lemmas.Bool.Decides.{nat_tests}
 use Rattle.bosh_base.specs.declared.goal.Goal.{Goal}
 use Rattle.bosh_base.specs.declared.key.Key.{Key}
@@ -21,7 +21,6 @@ use Rattle.laws_facts.specs.Owners.{works}
 use Rattle.laws_items.proofs.KeyLemmas.{is_next, one_is_next}
 use Rattle.laws_items.proofs.ListLemmas.{Meets, found, none_from}
 use Rattle.laws_items.proofs.ListedLemmas.{Lists, at_some, disks, goal_facts, implied, instances, lists}
-use Rattle.laws_items.specs.Lists.{IsIn}
 use Rattle.laws_row_facts.specs.Words.{where_any}
 
 pub some_from : {X : Type 0} (test : X → Bool) (o : Option X) → holds test o ≡ true → is_some o ≡ true

@@ -1,7 +1,7 @@
 -- What an entry does to a task that works: it comes further.
-use Rattle.std.proofs.Common.{◌≡◌, ◌∙◌, ℕ, ◌+◌, ◌≤◌, zero, suc, Bool, true, false, ◌&&◌, ◌||◌, not, List, []}
+use Rattle.std.proofs.Common.{◌≡◌, ◌∙◌, ℕ, zero, suc, Bool, true, false, ◌&&◌, not, List, []}
 use Rattle.std.proofs.Common.{Option, Some, None, ap, refl, sym, subst, inl, inr, arith}
-use Rattle.std.specs.Prelude.{◌⊎◌, ◌≢◌, ◌==◌, eqb, if◌then◌else◌, is_some, nat_le, nat_lt, length}
+use Rattle.std.specs.Prelude.{◌⊎◌, ◌≢◌, ◌==◌, eqb, if◌then◌else◌, is_some, nat_le}
 use Rattle.std.specs.Option.{option_eq}
 use Rattle.std.specs.Str.{bytes_eq}
 use Rattle.std.proofs.lemmas.Bool.{and_from, and_parts, eq-eqb, eqb-true, false≢true}
@@ -22,7 +22,7 @@ use Rattle.bosh_history.specs.Calls.{begins, key_for}
 use Rattle.bosh_history.specs.Items.{is_item, is_leftover, is_slot_left, phase_of, slots_of}
 use Rattle.bosh_history.specs.Known.{Known, Slot, SlotName, Task, dep_named, dep_of_task}
 use Rattle.bosh_history.specs.Learn.{learn}
-use Rattle.bosh_history.specs.Moments.{Moment, noting}
+use Rattle.bosh_history.specs.Moments.{Moment}
 use Rattle.bosh_history.specs.Notes.{Begins, MayNote, Outside}
 use Rattle.bosh_history.specs.Orders.{same_slot}
 use Rattle.bosh_history.specs.Recovered.{may_follow}
@@ -44,7 +44,6 @@ use Rattle.laws_items.proofs.PhaseLemmas.{AreListed, IsLeft, of_item}
 use Rattle.laws_items.proofs.SlotCalls.{SlotCall, compiles, creates, deletes, finds, looks, slot_call}
 use Rattle.laws_items.proofs.SlotFrames.{SameWork, Slots, WasThere, begun_apart, begun_own, changed_slot, is_of_call}
 use Rattle.laws_items.proofs.SlotFrames.{slots_note, told_as, was_answered, was_itself}
-use Rattle.laws_items.specs.Lists.{IsIn}
 use Rattle.laws_tasks.proofs.CountLemmas.{not_so}
 use Rattle.laws_tasks.proofs.TaskFrames.{opened_itself}
 
@@ -269,7 +268,8 @@ module _ (m : Moment) (h : Holds m) (b : Begin) (follows : may_follow m (entries
             → ⊥
         no_left other task slot there =
             let found : holds (λ it. option_eq bytes_eq (Some it.dep) (new.task t).dep) (new.slot b.task s) ≡ true =
-            (λ j. holds (λ it. option_eq bytes_eq (Some it.dep) (new.task t).dep) (new.slot (task j) (slot j))) ∙ there in
+            (λ j. holds (λ it. option_eq bytes_eq (Some it.dep) (new.task t).dep) (new.slot (task j)
+            (slot j))) ∙ there in
             let of_dep : option_eq bytes_eq (Some (dep_of_task m.known b.task)) (new.task t).dep ≡ true =
             sym (λ j. holds (λ it. option_eq bytes_eq (Some it.dep) (new.task t).dep) (made_slot j)) ∙ found in
             let one : (m.known.task t).dep ≡ Some (dep_of_task m.known b.task) =

@@ -1,12 +1,11 @@
 -- The owner of an open call stays an item of its task, and is asked just where it is to be asked.
-use Rattle.std.proofs.Common.{◌≡◌, ◌∙◌, ℕ, ◌+◌, Bool, true, false, ◌&&◌, ◌||◌, not, Option, Some, None, List}
-use Rattle.std.proofs.Common.{ap, refl, sym, subst, inl, inr, arith}
-use Rattle.std.specs.Prelude.{◌⊎◌, ◌≢◌, ◌==◌, eqb, if◌then◌else◌, is_some, length, nat_lt}
+use Rattle.std.proofs.Common.{◌≡◌, ◌∙◌, ℕ, ◌+◌, Bool, true, false, ◌&&◌, not, Option, Some, None, List}
+use Rattle.std.proofs.Common.{ap, refl, sym, subst, arith}
+use Rattle.std.specs.Prelude.{◌≢◌, ◌==◌, eqb, if◌then◌else◌, is_some, length, nat_lt}
 use Rattle.std.specs.Option.{option_eq, option_map}
 use Rattle.std.specs.Str.{bytes_eq}
 use Rattle.std.proofs.lemmas.Bool.{and_from, and_parts, eq-eqb, eqb-true, false≢true, or_left}
 use Rattle.std.proofs.lemmas.Bool.Decides.{eqb_tells}
-use Rattle.bosh_base.specs.declared.call.Call.{Call}
 use Rattle.bosh_base.specs.declared.call.Call.TheVariants as calls
 use Rattle.bosh_base.specs.declared.entry.Begin.{Begin}
 use Rattle.bosh_base.specs.declared.entry.End.{End}
@@ -14,7 +13,6 @@ use Rattle.bosh_base.specs.declared.entry.Entry.{Entry}
 use Rattle.bosh_base.specs.declared.entry.Entry.TheVariants as entries
 use Rattle.bosh_base.specs.declared.entry.TaskOpen.{TaskOpen}
 use Rattle.bosh_base.specs.declared.inst.Inst.{Inst}
-use Rattle.bosh_base.specs.declared.moves.Did.{Did}
 use Rattle.bosh_base.specs.declared.moves.Move.{Move}
 use Rattle.bosh_base.specs.declared.moves.Move.TheVariants as moves
 use Rattle.bosh_base.specs.declared.owner.Owner.{Owner}
@@ -22,9 +20,9 @@ use Rattle.bosh_base.specs.declared.owner.Owner.TheVariants.{Instance, Compile, 
 use Rattle.bosh_base.specs.declared.row.Vm.{Vm}
 use Rattle.bosh_base.specs.declared.snapshot.Orphan.{Orphan}
 use Rattle.bosh_history.specs.Calls.{begins, key_for}
-use Rattle.bosh_history.specs.Items.{instance_phase, is_finished, is_item, is_leftover, is_slot_left, is_to_ping, phase_of}
+use Rattle.bosh_history.specs.Items.{instance_phase, is_item, is_leftover, is_slot_left, is_to_ping, phase_of}
 use Rattle.bosh_history.specs.Items.{slots_of, stage_of}
-use Rattle.bosh_history.specs.Known.{Known, Slot, SlotName, Task, dep_of_task, plan_in}
+use Rattle.bosh_history.specs.Known.{Known, SlotName, dep_of_task, plan_in}
 use Rattle.bosh_history.specs.Learn.{learn}
 use Rattle.bosh_history.specs.Moments.{Moment, OpenCall, later, noting, performed_call}
 use Rattle.bosh_history.specs.Notes.{Begins, EndsCall, MayNote, Outside}
@@ -47,7 +45,7 @@ use Rattle.laws_items.proofs.ItemFrames.{are_listed, onward}
 use Rattle.laws_items.proofs.MarkLemmas.{IsMarked, SameMark, Spares, mark_itself, mark_note}
 use Rattle.laws_items.proofs.OnwardLemmas.{Onward, disk_by, none_onward, slot_by}
 use Rattle.laws_items.proofs.OrphanFrames.{orphan_stays}
-use Rattle.laws_items.proofs.PhaseLemmas.{IsLeft, NoneBefore, is_item_at, left_before, none_before, of_item}
+use Rattle.laws_items.proofs.PhaseLemmas.{IsLeft, is_item_at, left_before, none_before, of_item}
 use Rattle.laws_items.proofs.PingLemmas.{plain_call}
 use Rattle.laws_items.proofs.SlotCalls.{SlotCall, compiles, creates, deletes, finds, looks, slot_call}
 use Rattle.laws_items.proofs.SlotFrames.{answered_apart, begun_apart, begun_own, slots_note}

@@ -1,7 +1,7 @@
 -- Items of lists: those that meet a test, and those of lists that are made of others.
 use Rattle.std.proofs.Common.{◌≡◌, ◌∙◌, ℕ, ◌<◌, zero, suc, Bool, true, false, ◌&&◌, ◌||◌, not, List, [], ◌∷◌, ◌++◌}
 use Rattle.std.proofs.Common.{map, filter, Option, Some, None, ap, refl, sym, arith, inl, inr}
-use Rattle.std.specs.Prelude.{◌⊎◌, find, is_some, if◌then◌else◌, count_by, eqb}
+use Rattle.std.specs.Prelude.{◌⊎◌, find, is_some, if◌then◌else◌, eqb}
 use Rattle.std.specs.List.{list_all, list_any}
 use Rattle.std.proofs.lemmas.Bool.{and_from, and_parts, eqb-true, false≢true, or_left, or_right}
 use Rattle.std.proofs.lemmas.Bool.Decides.{nat_tests}

@@ -30,7 +30,7 @@ use Rattle.bosh_rows.specs.SoundSnapshot.{are_distinct}
 use Rattle.bosh_rows.specs.Standing.{is_empty}
 use Rattle.bosh_rows.proofs.SameLemmas.{same_inst_decides}
 use Rattle.bosh_rows.specs.Same.{same_inst}
-use Rattle.laws_items.proofs.ListLemmas.{all_from, all_in, among_is, any_in, find_in, holds_some, in_back}
+use Rattle.laws_items.proofs.ListLemmas.{all_in, among_is, any_in, find_in, holds_some, in_back}
 use Rattle.laws_items.proofs.ListLemmas.{in_front}
 use Rattle.laws_items.specs.Lists.{IsIn}
 

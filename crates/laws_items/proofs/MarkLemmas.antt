@@ -43,7 +43,8 @@ one_more i j old is = by (same_inst i j)
     by true = refl
     by false = is
 
-marks_pinged : (call : Call) (answer : Answer) (owner : Owner) (t : Task) → Marks t (task_after_ping call answer owner t)
+marks_pinged : (call : Call) (answer : Answer) (owner : Owner) (t : Task)
+    → Marks t (task_after_ping call answer owner t)
 marks_pinged (Ping vm) answers.Failed owner t = marks_itself t
 marks_pinged (Ping vm) answer (Instance i) t = record {
   pinged = λ j is. one_more i j t.pinged is;
@@ -57,7 +58,8 @@ marks_told k b answer t =
     let more : Marks t (task_after_ping b.call answer b.owner t) = marks_pinged b.call answer b.owner t in
     record { pinged = more.pinged; gone = more.gone; finished = more.finished }
 
-marks_ended : (answer : Answer) (b : Option Begin) (k : Known) (t : ℕ) → Marks (k.task t) ((call_ended answer b k).task t)
+marks_ended : (answer : Answer) (b : Option Begin) (k : Known) (t : ℕ)
+    → Marks (k.task t) ((call_ended answer b k).task t)
 marks_ended answer (Some b) k t =
     changed_at Marks marks_itself b.task t (task_told k b answer (k.task b.task)) k.task
     (marks_told k b answer (k.task b.task))
@@ -205,7 +207,8 @@ mark_busy i (Instance j) t waits = record { pinged = refl; gone = refl; finished
     by : (b : Bool) → same_inst i j ≡ b → is_finished (if same_inst i j then Busy else t.upd j) ≡ is_finished (t.upd j)
     by true same =
         (λ l. is_finished (if same l then Busy else t.upd j))
-        ∙ sym (ap (λ (x : Inst). is_finished (t.upd x)) (sym ((same_inst_decides i j).0 same)) ∙ not_waiting (t.upd i) waits)
+        ∙ sym (ap (λ (x : Inst). is_finished (t.upd x)) (sym ((same_inst_decides i j).0 same)) ∙ not_waiting
+        (t.upd i) waits)
     by false other = λ l. is_finished (if other l then Busy else t.upd j)
 mark_busy i (Compile u s) t waits = tt
 mark_busy i (Disk d) t waits = tt

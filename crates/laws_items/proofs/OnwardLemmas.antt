@@ -1,6 +1,6 @@
 -- A task that has come further: nothing is left of it before a phase that it had come to.
-use Rattle.std.proofs.Common.{◌≡◌, ◌∙◌, ℕ, ◌+◌, ◌<◌, ◌≤◌, Bool, true, false, ◌&&◌, ◌||◌, not, List, [], ◌∷◌, length}
-use Rattle.std.proofs.Common.{Option, Some, None, ap, refl, sym, subst, inl, inr, arith}
+use Rattle.std.proofs.Common.{◌≡◌, ◌∙◌, ℕ, ◌+◌, ◌≤◌, Bool, true, false, ◌&&◌, ◌||◌, not, List, [], ◌∷◌, length}
+use Rattle.std.proofs.Common.{Option, Some, None, ap, refl, sym, inl, inr, arith}
 use Rattle.std.specs.Prelude.{◌⊎◌, ◌==◌, eqb, find, if◌then◌else◌, is_some, nat_lt}
 use Rattle.std.specs.List.{list_all}
 use Rattle.std.specs.Option.{option_eq}
@@ -25,7 +25,6 @@ use Rattle.laws_facts.specs.Owners.{works}
 use Rattle.laws_items.proofs.DoneLemmas.{all_compiled, none_next, none_recorded}
 use Rattle.laws_items.proofs.ListedLemmas.{Lists, ListsDisks, disks, instances, lists, no_disk}
 use Rattle.laws_items.proofs.PhaseLemmas.{NoneBefore}
-use Rattle.laws_tasks.proofs.CountLemmas.{not_so}
 use Rattle.laws_tasks.proofs.TaskFrames.{OpenedAlike}
 
 -- ---- phases
@@ -129,7 +128,8 @@ module _ (a b : Task) (on : TaskOnward a b) (i : Inst) where
 
 -- ---- what is known
 
--- the task has come further, no compile machine of its deployment is new but of a slot of its own that was left, and what
+-- the task has come further, no compile machine of its deployment is new but of a slot of its own that was left, and
+-- what
 -- was compiled is
 pub record Onward (old new : Known) (t : ℕ) : Type 0 where
   pub task : TaskOnward (old.task t) (new.task t)
@@ -206,7 +206,8 @@ module _ (m : Moment) (t : ℕ) (h : Holds m) (working : works m t ≡ true) (ne
 
           none_over : is_leftover m.known t (record { task = task; slot = s }) ≡ false
           none_over =
-              (λ j. not (task == t) && holds (λ it. option_eq bytes_eq (Some it.dep) (bare.dep_is j)) (m.known.slot task s))
+              (λ j. not (task == t) && holds (λ it. option_eq bytes_eq (Some it.dep) (bare.dep_is j))
+              (m.known.slot task s))
               ∙ by_slot (m.known.slot task s) (not (task == t))
             where
               by_slot : (slot : Option Slot) (other : Bool)

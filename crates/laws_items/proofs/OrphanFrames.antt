@@ -1,8 +1,8 @@
 -- An orphaned disk stays recorded, unless a call on it is answered.
-use Rattle.std.proofs.Common.{◌≡◌, ◌∙◌, ℕ, Bool, true, false, Option, Some, None, List, [], ◌∷◌, ap, refl, sym}
+use Rattle.std.proofs.Common.{◌≡◌, ◌∙◌, ℕ, Bool, true, false, Option, Some, None, List, [], ◌∷◌, ap, refl}
 use Rattle.std.specs.Prelude.{◌≢◌, eqb, if◌then◌else◌, is_some}
 use Rattle.std.specs.Option.{option_map}
-use Rattle.std.proofs.lemmas.Bool.{eqb-true, false≢true}
+use Rattle.std.proofs.lemmas.Bool.{eqb-true}
 use Rattle.bosh_base.specs.declared.answer.Answer.{Answer}
 use Rattle.bosh_base.specs.declared.entry.Begin.{Begin}
 use Rattle.bosh_base.specs.declared.entry.Entry.{Entry}
@@ -43,7 +43,8 @@ mapped f (Some it) is = refl
 mapped f None is = is
 
 -- more of them
-grown : (i : Inst) (disks : List DiskRow) (old : ℕ → Option Orphan) (d : ℕ) → Stays (old d) (orphans_after i disks old d)
+grown : (i : Inst) (disks : List DiskRow) (old : ℕ → Option Orphan) (d : ℕ)
+    → Stays (old d) (orphans_after i disks old d)
 grown i [] old d is = is
 grown i (it ∷ disks) old d is =
     grown i disks (at eqb it.disk (Some (orphan_of i it)) old) d

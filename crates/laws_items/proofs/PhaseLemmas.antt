@@ -1,5 +1,5 @@
 -- What is left of a task: its owners by their phases.
-use Rattle.std.proofs.Common.{◌≡◌, ◌∙◌, ℕ, ◌+◌, ◌<◌, Bool, true, false, ◌&&◌, not, List, [], ◌++◌}
+use Rattle.std.proofs.Common.{◌≡◌, ◌∙◌, ℕ, ◌+◌, ◌<◌, Bool, true, false, ◌&&◌, not, List, ◌++◌}
 use Rattle.std.proofs.Common.{length, map, filter, Option, Some, None, ap, refl, sym, subst}
 use Rattle.std.specs.Prelude.{◌==◌, eqb, is_some, nat_lt, if◌then◌else◌}
 use Rattle.std.proofs.lemmas.Bool.{and_parts, eqb-true, ltb-true}

@@ -33,20 +33,26 @@ lost_asks : (want : Option GoalRow) (row : Row) (call : Call) (method : Method)
     → call_of (plain (lost_method method)) want row ≡ Some call → IsPlain call
 lost_asks want row call methods.CreateDisk is =
     mapped (λ (it : Doubt). calls.FindDisk it.n) row.doubt call (λ it. (refl, refl)) is
-lost_asks want row call methods.DeleteVm is = mapped (λ (it : Vm). calls.HasVm it.vm) row.vm call (λ it. (refl, refl)) is
+lost_asks want row call methods.DeleteVm is =
+    mapped (λ (it : Vm). calls.HasVm it.vm) row.vm call (λ it. (refl, refl)) is
 lost_asks want row call method is = mapped (λ (it : Vm). calls.DeleteVm it.vm) row.vm call (λ it. (refl, refl)) is
 
 probe_asks : (want : Option GoalRow) (row : Row) (call : Call) (method : Method)
     → call_of (plain (probe_method method)) want row ≡ Some call → IsPlain call
 probe_asks want row call methods.CreateVm is =
     mapped (λ (it : Doubt). calls.FindVm it.n) row.doubt call (λ it. (refl, refl)) is
-probe_asks want row call methods.DeleteVm is = mapped (λ (it : Vm). calls.HasVm it.vm) row.vm call (λ it. (refl, refl)) is
+probe_asks want row call methods.DeleteVm is =
+    mapped (λ (it : Vm). calls.HasVm it.vm) row.vm call (λ it. (refl, refl)) is
 probe_asks want row call methods.CreateDisk is =
     mapped (λ (it : Doubt). calls.FindDisk it.n) row.doubt call (λ it. (refl, refl)) is
-probe_asks want row call methods.AttachDisk is = mapped (λ (it : Vm). calls.GetDisks it.vm) row.vm call (λ it. (refl, refl)) is
-probe_asks want row call methods.DetachDisk is = mapped (λ (it : Vm). calls.GetDisks it.vm) row.vm call (λ it. (refl, refl)) is
-probe_asks want row call methods.MountDisk is = mapped (λ (it : Vm). calls.ListDisk it.vm) row.vm call (λ it. (refl, refl)) is
-probe_asks want row call methods.UnmountDisk is = mapped (λ (it : Vm). calls.ListDisk it.vm) row.vm call (λ it. (refl, refl)) is
+probe_asks want row call methods.AttachDisk is =
+    mapped (λ (it : Vm). calls.GetDisks it.vm) row.vm call (λ it. (refl, refl)) is
+probe_asks want row call methods.DetachDisk is =
+    mapped (λ (it : Vm). calls.GetDisks it.vm) row.vm call (λ it. (refl, refl)) is
+probe_asks want row call methods.MountDisk is =
+    mapped (λ (it : Vm). calls.ListDisk it.vm) row.vm call (λ it. (refl, refl)) is
+probe_asks want row call methods.UnmountDisk is =
+    mapped (λ (it : Vm). calls.ListDisk it.vm) row.vm call (λ it. (refl, refl)) is
 probe_asks want row call method is = mapped (λ (it : Vm). calls.GetState it.vm) row.vm call (λ it. (refl, refl)) is
 
 step_cases : (want : Option GoalRow) (row : Row) → Cases IsPlain want row

@@ -1,4 +1,4 @@
--- The call that is to be made keyed_by a compile machine, case by case.
+-- The call that is to be made for a compile machine, case by case.
 use Rattle.std.proofs.Common.{◌≡◌, ◌∙◌, ℕ, Bool, true, false, Option, Some, None, [], refl, sym}
 use Rattle.std.specs.Prelude.{◌==◌, if◌then◌else◌}
 use Rattle.std.specs.Option.{option_and_then, option_map}
@@ -15,12 +15,13 @@ use Rattle.bosh_history.specs.Items.{slots_of}
 use Rattle.bosh_history.specs.Known.{Slot}
 use Rattle.bosh_history.specs.Moments.{Moment}
 use Rattle.bosh_history.specs.Slots.{is_compiled, next_key}
-use Rattle.bosh_history.specs.Steps.{call_now, compile_make, compiling, is_compiling, key_call, nth, own_slot, slot_by}
+use Rattle.bosh_history.specs.Steps.{call_now, compile_make, compiling, is_compiling, nth, own_slot, slot_by}
 use Rattle.bosh_history.specs.Steps.{sweep_by, sweep_call, work_for}
 use Rattle.bosh_history.specs.Words.{holds}
 
--- An idle slot of the task makes a machine keyed_by the next key; one with a machine compiles its key, or deletes the machine
--- once the key is compiled; a machine of an earlier task is asked keyed_by, or deleted.
+-- An idle slot of the task makes a machine for the next key; one with a machine compiles its key, or deletes the
+-- machine
+-- once the key is compiled; a machine of an earlier task is asked for, or deleted.
 pub data SlotCall (m : Moment) (t task s : ℕ) (call : Call) : Type 0 where
   creates : (work : KeyWork) (make : Make) → (task == t) ≡ true → m.known.slot task s ≡ None
       → next_key m.known t s ≡ Some work → nth s (slots_of (m.known.task t).goal) ≡ Some make
@@ -79,7 +80,8 @@ module _ (m : Moment) (t task s : ℕ) (call : Call) where
   -- a machine of an earlier task
   swept : (task == t) ≡ false → (it : Slot) → m.known.slot task s ≡ Some it → (vm : Option Vm) → it.vm ≡ vm
       → (doubt : Option Doubt) → it.doubt ≡ doubt → sweep_by vm doubt ≡ Some call → SlotCall m t task s call
-  swept other it at None has (Some doubt) doubted is = finds it doubt other at has doubted (one (calls.FindVm doubt.n) call is)
+  swept other it at None has (Some doubt) doubted is =
+      finds it doubt other at has doubted (one (calls.FindVm doubt.n) call is)
   swept other it at None has None doubted is = absurd cc
   swept other it at (Some vm) has (Some doubt) doubted is =
       looks it vm doubt other at has doubted (one (calls.HasVm vm.vm) call is)

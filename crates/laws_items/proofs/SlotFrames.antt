@@ -1,7 +1,6 @@
 -- What entries leave of compile machines.
 use Rattle.std.proofs.Common.{◌≡◌, ◌∙◌, ℕ, Bool, true, false, Option, Some, None, ap, refl, sym, subst, arith}
 use Rattle.std.specs.Prelude.{◌≢◌, eqb, if◌then◌else◌}
-use Rattle.std.specs.Option.{option_and_then}
 use Rattle.std.proofs.lemmas.Bool.{eq-eqb, eqb-true, false≢true}
 use Rattle.bosh_base.specs.declared.answer.Answer.{Answer}
 use Rattle.bosh_base.specs.declared.answer.Answer.TheVariants as answers
@@ -14,12 +13,12 @@ use Rattle.bosh_base.specs.declared.owner.Owner.{Owner}
 use Rattle.bosh_base.specs.declared.owner.Owner.TheVariants.{Instance, Compile, Disk}
 use Rattle.bosh_base.specs.declared.row.Doubt.{Doubt}
 use Rattle.bosh_base.specs.declared.row.Vm.{Vm}
-use Rattle.bosh_history.specs.Calls.{begins, call_ended, compiles, ends_of, key_for, slot_answered}
-use Rattle.bosh_history.specs.Known.{Known, Slot, dep_of_task, want_in}
+use Rattle.bosh_history.specs.Calls.{begins, call_ended, ends_of, key_for, slot_answered}
+use Rattle.bosh_history.specs.Known.{Known, Slot, dep_of_task}
 use Rattle.bosh_history.specs.Learn.{learn}
 use Rattle.bosh_history.specs.Moments.{Moment}
 use Rattle.bosh_history.specs.Notes.{MayNote, Outside}
-use Rattle.bosh_history.specs.Slots.{slot_after, slot_begun, slot_found, slot_told}
+use Rattle.bosh_history.specs.Slots.{slot_after, slot_begun, slot_told}
 use Rattle.bosh_history.specs.Words.{at}
 use Rattle.laws_facts.proofs.FrameLemmas.{compiled_slots, slots_done, slots_updated}
 
@@ -105,7 +104,8 @@ WasThere old new = (now : Slot) → new ≡ Some now → (it : Slot) × (old ≡
 pub was_itself : (a : Option Slot) → WasThere a a
 was_itself a now is = (now, is, record { dep = refl; make = refl; key = refl })
 
-pub told_as : (it now : Slot) (vm : Option Vm) (doubt : Option Doubt) → Some (record it { vm = vm; doubt = doubt }) ≡ Some now
+pub told_as : (it now : Slot) (vm : Option Vm) (doubt : Option Doubt)
+    → Some (record it { vm = vm; doubt = doubt }) ≡ Some now
     → SameWork it now
 told_as it now vm doubt is =
     let same : record it { vm = vm; doubt = doubt } ≡ now = cc in
