@@ -280,7 +280,8 @@ module _ (outside : Outside) (m : Moment) (h : Holds m) (b : Begin) (follows : m
 
   -- its compile machine is recorded from here on, in its deployment
   slot_begins : (task s : ℕ) → SlotCall m b.task task s b.call
-      → (is_some (slot_begun b.n b.call (dep_of_task m.known task) (key_for m.known task s) (m.known.slot task s)) ≡ true)
+      → (is_some (slot_begun b.n b.call (dep_of_task m.known task) (key_for m.known task s) (m.known.slot task s))
+      ≡ true)
       × ((dep : Option (List ℕ)) → holds (λ it. option_eq bytes_eq (Some it.dep) dep) (m.known.slot task s) ≡ true
       → holds (λ it. option_eq bytes_eq (Some it.dep) dep)
       (slot_begun b.n b.call (dep_of_task m.known task) (key_for m.known task s) (m.known.slot task s)) ≡ true)

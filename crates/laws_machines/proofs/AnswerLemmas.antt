@@ -99,36 +99,37 @@ not_gone k b t s it told_as.Gone own fits unfailed = absurd (by b.call fits (fai
     by call fits false is none = false≢true (sym is ∙ gone call fits)
 not_gone k b t s it answer own fits unfailed = (refl, refl)
 
--- a call on a compile machine of a task that works is of that task
-own_task : (m : Moment) → Holds m → (t s : ℕ) → works m t ≡ true → (n : ℕ) (call : OpenCall) → m.calls n ≡ Some call
-    → call.begin.owner ≡ Compile t s → call.begin.task ≡ t
-own_task m h t s working n call is own = by (t == call.begin.task) refl
+-- a task that works and has something to do for a compile machine of a task that works is that one
+pub task_of_item : (m : Moment) → Holds m → (t s : ℕ) → works m t ≡ true → (u : ℕ) → works m u ≡ true
+    → is_item m.known u (Compile t s) ≡ true → u ≡ t
+task_of_item m h t s working u also item = by (t == u) refl
   where
-    item : is_item m.known call.begin.task (Compile t s) ≡ true
-    item =
-        sym (λ j. is_item m.known call.begin.task (own j))
-        ∙ (and_parts (is_item m.known call.begin.task call.begin.owner) _ (h.calls n call is).of_item).0
-
-    left : (over : Bool) → is_leftover m.known call.begin.task (record { task = t; slot = s }) ≡ over
-        → (t == call.begin.task) ≡ false → (p : ℕ) × IsLeft m.known call.begin.task (Compile t s) p
-        → call.begin.task ≡ t
+    left : (over : Bool) → is_leftover m.known u (record { task = t; slot = s }) ≡ over → (t == u) ≡ false
+        → (p : ℕ) × IsLeft m.known u (Compile t s) p → u ≡ t
     left true over other it =
         let held : (x : Slot) × (m.known.slot t s ≡ Some x) ×
-        (option_eq bytes_eq (Some x.dep) (m.known.task call.begin.task).dep ≡ true) =
-        holds_some (λ x. option_eq bytes_eq (Some x.dep) (m.known.task call.begin.task).dep) (m.known.slot t s)
-        (and_parts (not (t == call.begin.task)) _ over).1 in
-        one_lock m call.begin.task t h (h.calls n call is).works working
-        (same_dep_is held.0.dep (m.known.task call.begin.task).dep held.2 ∙ sym (slot_dep m t s held.0 h held.1))
+        (option_eq bytes_eq (Some x.dep) (m.known.task u).dep ≡ true) =
+        holds_some (λ x. option_eq bytes_eq (Some x.dep) (m.known.task u).dep) (m.known.slot t s)
+        (and_parts (not (t == u)) _ over).1 in
+        one_lock m u t h also working
+        (same_dep_is held.0.dep (m.known.task u).dep held.2 ∙ sym (slot_dep m t s held.0 h held.1))
     left false over other it =
-        let none : phase_of m.known call.begin.task (Compile t s) ≡ None =
-        (λ j. slot_by (other j) (is_slot_left m.known call.begin.task s) (over j)) in
-        let some : phase_of m.known call.begin.task (Compile t s) ≡ Some it.0 = it.1.phase in absurd cc
+        let none : phase_of m.known u (Compile t s) ≡ None =
+        (λ j. slot_by (other j) (is_slot_left m.known u s) (over j)) in
+        let some : phase_of m.known u (Compile t s) ≡ Some it.0 = it.1.phase in absurd cc
 
-    by : (c : Bool) → (t == call.begin.task) ≡ c → call.begin.task ≡ t
-    by true same = sym (eqb-true t call.begin.task same)
+    by : (c : Bool) → (t == u) ≡ c → u ≡ t
+    by true same = sym (eqb-true t u same)
     by false other =
-        left (is_leftover m.known call.begin.task (record { task = t; slot = s })) refl other
-        (of_item m.known call.begin.task (Compile t s) item)
+        left (is_leftover m.known u (record { task = t; slot = s })) refl other (of_item m.known u (Compile t s) item)
+
+-- so is the task of an open call of it
+own_task : (m : Moment) → Holds m → (t s : ℕ) → works m t ≡ true → (n : ℕ) (call : OpenCall) → m.calls n ≡ Some call
+    → call.begin.owner ≡ Compile t s → call.begin.task ≡ t
+own_task m h t s working n call is own =
+    task_of_item m h t s working call.begin.task (h.calls n call is).works
+    (sym (λ j. is_item m.known call.begin.task (own j))
+    ∙ (and_parts (is_item m.known call.begin.task call.begin.owner) _ (h.calls n call is).of_item).0)
 
 module _ (m : Moment) (h : Holds m) (t s : ℕ) (working : works m t ≡ true) (e : End) (that : OpenCall)
     (open_now : m.calls e.n ≡ Some that) (own : that.begin.owner ≡ Compile t s) (d : Did) (did : that.did ≡ Some d)

@@ -1,4 +1,6 @@
+pub mod AloneLemmas
 pub mod AnswerLemmas
+pub mod DeletedLemmas
 pub mod DoubtLemmas
 pub mod FailLemmas
 pub mod FoundLemmas

@@ -53,7 +53,7 @@ use Rattle.laws_tasks.proofs.CountLemmas.{not_so}
 
 -- ---- keys
 
-flipped : (a b : Key) → same_key a b ≡ false → same_key b a ≡ false
+pub flipped : (a b : Key) → same_key a b ≡ false → same_key b a ≡ false
 flipped a b apart = by (same_key b a) refl
   where
     by : (c : Bool) → same_key b a ≡ c → c ≡ false

@@ -34,12 +34,13 @@ use Rattle.laws_machines.proofs.AnswerLemmas.{answered_open}
 -- ---- entries
 
 -- a task that works beside one that opens worked before
-worked_beside : (m : Moment) (o : TaskOpen) (t : ℕ) → o.task ≡ m.known.tasks + 1 → (o.task == t) ≡ false → o.task ≢ t
+pub worked_beside : (m : Moment) (o : TaskOpen) (t : ℕ) → o.task ≡ m.known.tasks + 1 → (o.task == t) ≡ false
+    → o.task ≢ t
     → works (noting m (entries.TaskOpen o)) t ≡ true → works m t ≡ true
 worked_beside m o t number apart differs working = grind (arith, number, apart, differs, working)
 
 -- a number after the last is none of those up to it
-past_last : (last n t : ℕ) → n ≡ last + 1 → n ≡ t → nat_le t last ≡ false
+pub past_last : (last n t : ℕ) → n ≡ last + 1 → n ≡ t → nat_le t last ≡ false
 past_last last n t number same = grind (arith, nat_tests, number, same)
 
 module _ (outside : Outside) (m : Moment) (h : Holds m) (t s : ℕ) where

@@ -3,7 +3,8 @@
 #![tactic(auto)]
 
 ghost use Rattle.laws_facts.specs.Kept.{IsKept, OfRecords};
-ghost use Rattle.laws_machines.specs.Machines.{AreCompiledAlone, AreCompiledNew, AreDoubtsOpen, AreOfGoals, AreShaped};
+ghost use Rattle.laws_machines.specs.Machines.{AreAlone, AreCompiledAlone, AreCompiledNew, AreDeletedCompiled};
+ghost use Rattle.laws_machines.specs.Machines.{AreDoubtsOpen, AreOfGoals, AreShaped};
 
 /// A compile machine whose number is not known is in doubt of its creation, and one whose number is known of nothing,
 /// or
@@ -21,6 +22,12 @@ pub fn compile_machines_are_of_goals()
 /// While a task works of which no call failed, a compile machine of it is in doubt of its open call alone.
 pub fn doubts_of_compile_machines_are_open()
     ensures { IsKept AreDoubtsOpen }
+{}
+
+/// While a task works, no two compile machines of it are for one key, and one is deleted only once its key is compiled.
+pub fn compile_machines_have_their_keys()
+    ensures alone { IsKept AreAlone }
+    ensures compiled { IsKept AreDeletedCompiled }
 {}
 
 /// What an open call compiles is not compiled, and no other open call compiles it.
