@@ -25,7 +25,7 @@ ghost use Rattle.examples_histories.specs.Together.{compiles_at_once, together};
 ghost use Rattle.examples_histories.specs.Two.{did_otherwise, lock_taken, not_the_next_step, owner_busy, two};
 ghost use Rattle.examples_histories.specs.Scenes.{prepared, with_release, write};
 ghost use Rattle.examples_histories.specs.Values.{disk, group, joint, offer, plain, web, z1};
-ghost use Rattle.bosh_roll.specs.declared.upd.Upd.TheVariants.{Todo, Busy, Finished};
+ghost use Rattle.bosh_roll.specs.declared.upd.Upd.TheVariants.{Todo, Busy, Failed, Finished};
 ghost use Rattle.bosh_rows.specs.After.{let_go};
 
 /// The next number is new, and what has a number is the call of that number.
@@ -147,6 +147,8 @@ pub fn tasks_are_broken()
         (task_is 1 (update_at Finished (web 1))) }
     ensures asks_no_machine { BreaksAlone (codes "can be asked") prepared 5 two
         (task_is 1 (λ t. record t { to_ping = web 1 ∷ [] })) }
+    ensures updates_one_that_goes { BreaksAlone (codes "update listed") prepared 15 replaced
+        (task_is 2 (update_at Failed (web 0))) }
     ensures out_of_turn { Breaks (codes "updates in turn") prepared 5 two
         (task_is 1 (update_at Busy (web 1))) }
     ensures above_the_limit { Breaks (codes "within limits") prepared 5 two

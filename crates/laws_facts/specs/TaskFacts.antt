@@ -12,7 +12,8 @@ use Rattle.bosh_base.specs.declared.key.KeyWork.{KeyWork}
 use Rattle.bosh_compile.specs.Readiness.{same_key}
 use Rattle.laws_facts.specs.Owners.{works}
 use Rattle.laws_facts.specs.Tasks.{can_be_asked, has_another_lock, has_place, is_addressed, is_disk_to_delete}
-use Rattle.laws_facts.specs.Tasks.{is_heard_of, is_in_turn, is_within_limits, lists_well, stands_where_through}
+use Rattle.laws_facts.specs.Tasks.{is_heard_of, is_in_turn, is_update_listed, is_within_limits, lists_well}
+use Rattle.laws_facts.specs.Tasks.{stands_where_through}
 use Rattle.laws_facts.specs.Words.{unless}
 use Rattle.laws_row_facts.specs.Words.{where_any}
 use Rattle.bosh_history.specs.Goals.{instances_of}
@@ -31,6 +32,8 @@ pub record WorkFacts (m : Moment) (t : ℕ) : Type 0 where
   pub has_place : (i : Inst) → has_place m.known (m.known.task t) i ≡ true
   -- an instance that is through stands
   pub stands : (i : Inst) → stands_where_through m.known (m.known.task t) i ≡ true
+  -- an instance whose update began, or is done, is one of those that change
+  pub update_listed : (i : Inst) → is_update_listed (m.known.task t) i ≡ true
   -- an instance whose update began is a canary, or all canaries are done
   pub in_turn : (i : Inst) → is_in_turn (m.known.task t) i ≡ true
   -- a row that is to be asked has a machine
@@ -86,6 +89,7 @@ work_broken m t task =
     ++ unless (codes "lists well") (lists_well task)
     ++ unless (codes "has place") (list_all (has_place m.known task) (instances_at m.known task))
     ++ unless (codes "stands where through") (list_all (stands_where_through m.known task) (instances_at m.known task))
+    ++ unless (codes "update listed") (list_all (is_update_listed task) (instances_at m.known task))
     ++ unless (codes "updates in turn") (list_all (is_in_turn task) (instances_at m.known task))
     ++ unless (codes "can be asked") (list_all (can_be_asked m.known task) (instances_at m.known task))
     ++ unless (codes "disks to delete") (list_all (is_disk_to_delete m task) task.disks)

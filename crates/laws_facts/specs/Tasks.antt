@@ -13,7 +13,7 @@ use Rattle.laws_effects.specs.Orderly.{is_created}
 use Rattle.laws_row_facts.specs.Words.{implies, where_any}
 use Rattle.bosh_history.specs.Deletions.{is_clean_up}
 use Rattle.bosh_history.specs.Exact.{asks}
-use Rattle.bosh_history.specs.Goals.{canaries_first, is_in, named_instance}
+use Rattle.bosh_history.specs.Goals.{canaries_first, is_in, is_waiting, named_instance}
 use Rattle.bosh_history.specs.Held.{is_open}
 use Rattle.bosh_history.specs.Items.{is_finished, is_to_go, is_to_ping}
 use Rattle.bosh_history.specs.Known.{Known, Task, want_in}
@@ -111,6 +111,12 @@ is_through t i =
 -- it stands where it is through
 abbrev pub stands_where_through : Known → Task → Inst → Bool
 stands_where_through k t i = implies (is_through t i) (stands (want_in t.goal i) (k.row i))
+
+-- ---- only instances that change are updated
+
+-- its update has not begun, or it changes
+abbrev pub is_update_listed : Task → Inst → Bool
+is_update_listed t i = is_waiting (t.upd i) || is_among same_inst i t.changed
 
 -- ---- an instance whose update began is a canary, or all canaries are done
 

@@ -115,7 +115,7 @@ module _ (m : Moment) (h : Holds m) (t : ℕ) (working : works m t ≡ true) whe
       by false false false one two three left = absurd cc
 
   -- .. and so is an item
-  item_dep : (i : Inst) → is_item m.known t (Instance i) ≡ true → (m.known.task t).dep ≡ Some i.dep
+  pub item_dep : (i : Inst) → is_item m.known t (Instance i) ≡ true → (m.known.task t).dep ≡ Some i.dep
   item_dep i item =
       let it : (p : ℕ) × IsLeft m.known t (Instance i) p = of_item m.known t (Instance i) item in
       left_dep i it.0 it.1.phase
@@ -299,7 +299,7 @@ meets p i (x ∷ xs) there = by (p x) refl there (meets p i xs)
     by false is there rest = rest there
 
 -- an instance of a goal is among those of its rows
-in_goal : (goal : Option Goal) (i : Inst) → is_in goal i ≡ true → is_among same_inst i (instances_of goal) ≡ true
+pub in_goal : (goal : Option Goal) (i : Inst) → is_in goal i ≡ true → is_among same_inst i (instances_of goal) ≡ true
 in_goal (Some goal) i is = by (find (λ want. same_inst i want.inst) goal.rows) refl is
   where
     by : (want : Option GoalRow) → find (λ want. same_inst i want.inst) goal.rows ≡ want → is_some want ≡ true

@@ -1,6 +1,7 @@
 -- What entries leave of the machine of a row.
-use Rattle.std.proofs.Common.{◌≡◌, ◌∙◌, ℕ, Bool, true, false, Option, Some, None, List, ap, refl, arith}
+use Rattle.std.proofs.Common.{◌≡◌, ◌∙◌, ℕ, Bool, true, false, Option, Some, None, List, ap, refl, arith, sym}
 use Rattle.std.specs.Prelude.{◌≢◌, if◌then◌else◌}
+use Rattle.std.proofs.lemmas.Bool.{false≢true}
 use Rattle.bosh_base.specs.declared.answer.Answer.{Answer}
 use Rattle.bosh_base.specs.declared.entry.Begin.{Begin}
 use Rattle.bosh_base.specs.declared.entry.Entry.{Entry}
@@ -103,21 +104,28 @@ settled kinds.Fix goal dep k = refl
 settled kinds.DeleteDeployment goal dep k = refl
 settled kind goal dep k = refl
 
+-- the entry is the beginning of a call
+abbrev pub is_beginning : Entry → Bool
+is_beginning (entries.Begin b) = true
+is_beginning entry = false
+
+-- another entry that spares the instance leaves its row
+pub row_note : (outside : Outside) (m : Moment) (e : Entry) (i : Inst) → MayNote outside m e → is_beginning e ≡ false
+    → Spares m e (Instance i) → (learn m.known e).row i ≡ m.known.row i
+row_note outside m (entries.Begin b) i may none apart = absurd (false≢true (sym none))
+row_note outside m (entries.End e) i may none apart = ended_row e.answer (m.known.begun e.n) m.known i apart
+row_note outside m (entries.UpdDone u) i may none apart =
+    updated (want_in (m.known.task u.task).goal u.inst) u.inst m.known i (λ same. apart (ap Instance same))
+row_note outside m (entries.Gone u) i may none apart =
+    row_apart u.inst i (bare u.inst) m.known.row (λ same. apart (ap Instance same))
+row_note outside m (entries.TaskDone t) i may none apart =
+    λ j. settled (m.known.task t).kind (m.known.task t).goal (dep_of_task m.known t) m.known j i
+row_note outside m (entries.Snapshot s) i may none apart = absurd may
+row_note outside m entry i may none apart = refl
+
 -- an entry that spares the instance leaves its machine
 pub machine_note : (outside : Outside) (m : Moment) (e : Entry) (i : Inst) → MayNote outside m e
     → Spares m e (Instance i) → SameMachine (m.known.row i) ((learn m.known e).row i)
 machine_note outside m (entries.Begin b) i may apart = begun_machine b b.owner m.known i
-machine_note outside m (entries.End e) i may apart =
-    same_as (m.known.row i) ((learn m.known (entries.End e)).row i)
-    (ended_row e.answer (m.known.begun e.n) m.known i apart)
-machine_note outside m (entries.UpdDone u) i may apart =
-    same_as (m.known.row i) ((learn m.known (entries.UpdDone u)).row i)
-    (updated (want_in (m.known.task u.task).goal u.inst) u.inst m.known i (λ same. apart (ap Instance same)))
-machine_note outside m (entries.Gone u) i may apart =
-    same_as (m.known.row i) ((learn m.known (entries.Gone u)).row i)
-    (row_apart u.inst i (bare u.inst) m.known.row (λ same. apart (ap Instance same)))
-machine_note outside m (entries.TaskDone t) i may apart =
-    same_as (m.known.row i) ((learn m.known (entries.TaskDone t)).row i)
-    (λ j. settled (m.known.task t).kind (m.known.task t).goal (dep_of_task m.known t) m.known j i)
-machine_note outside m (entries.Snapshot s) i may apart = absurd may
-machine_note outside m entry i may apart = record { vm = refl; lost = refl }
+machine_note outside m entry i may apart =
+    same_as (m.known.row i) ((learn m.known entry).row i) (row_note outside m entry i may refl apart)

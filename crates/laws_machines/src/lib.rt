@@ -6,8 +6,7 @@ ghost use Rattle.laws_facts.specs.Kept.{IsKept, OfRecords};
 ghost use Rattle.laws_machines.specs.Machines.{AreAlone, AreCompiledAlone, AreCompiledNew, AreDeletedCompiled};
 ghost use Rattle.laws_machines.specs.Machines.{AreDoubtsOpen, AreOfGoals, AreShaped};
 
-/// A compile machine whose number is not known is in doubt of its creation, and one whose number is known of nothing,
-/// or
+/// A compile machine whose number is not known is in doubt of its creation, and one whose number is known of nothing, or
 /// of its deletion.
 pub fn compile_machines_have_shape()
     ensures { IsKept (OfRecords AreShaped) }
