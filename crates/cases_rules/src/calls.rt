@@ -45,10 +45,10 @@ impl Calls for Rules {
 fn of_plain(alloc: Global, call: &str, given: &Node) -> Result<Outcome, CaseFault> {
     match call {
         "inst.order" => plain::instances(alloc, given),
-        "ip.addr" => plain::parsed(alloc, given, parse_addr),
-        "ip.cidr" => plain::parsed(alloc, given, parse_cidr),
+        "ip.addr" => plain::parsed(alloc, given, |text| parse_addr(text)),
+        "ip.cidr" => plain::parsed(alloc, given, |text| parse_cidr(text)),
         "ip.contains" => plain::contains(alloc, given),
-        "ip.range" => plain::parsed(alloc, given, parse_range),
+        "ip.range" => plain::parsed(alloc, given, |text| parse_range(text)),
         "ip.show" => plain::shown(alloc, given),
         "name.of" => plain::name(alloc, given),
         "seq.set" => plain::set(alloc, given),
