@@ -125,6 +125,7 @@ def counted():
     yield proved, r"`bosh_book_tables` has (\d+) cases of calls", passed("bosh_book_tables")
     yield proved, r"cases of calls, (\d+) of them worked", times(tables, '"call"')
     yield proved, r"of (\d+) wrong entries", times(tables, '"wrong"')
+    yield proved, r"from the program (\d+) are refused where", times(tables, "; refused")
     yield proved, r"`bosh_world_tables` has (\d+) cases on a site", passed("bosh_world_tables")
     yield proved, r"cases on a site: (\d+) lists of steps", passed("bosh_world_tables", "site.run")
     yield proved, r"and (\d+) groups of tasks, which are stopped", passed("bosh_world_tables", "site.stops")
