@@ -10,11 +10,13 @@ A check is whether something is so, the place where a page tells it, and the fau
 import os
 import re
 import sys
+from collections import Counter
 
 from tree import crates, definitions_of, files_of, head_of, headings_of, is_there, items_of, lines_of, names_of
 from tree import rows_of, text_of, times
 
-NUMBERS = {"four": 4, "eight": 8, "twenty-five": 25}
+NUMBERS = {word: number for number, word in enumerate("no one two three four five six seven eight nine ten".split())}
+NUMBERS["twenty-five"] = 25
 
 CODE = re.compile(r"`([^`]+)`")
 SOURCE = re.compile(r" ?\((?:[^()]|\([^()]*\))*\)(?=\.|$)")
@@ -105,30 +107,28 @@ def check_contracts():
             yield name in defined, place, f"{name} is no definition"
 
 
-def passed(crate, *calls):
-    """How many cases a program of cases answers, of these calls or of all."""
-    counts = dict(re.findall(r"(\w+\.\w+): (\d+) passed, 0 failed", text_of(f"crates/{crate}/stdout")))
-    return sum(int(counts.get(call, 0)) for call in calls or counts)
+def passed():
+    """How many cases of each call the programs of cases answer, by the counts that they are to print."""
+    lines = "\n".join(map(text_of, files_of("crates/*/stdout")))
+    return Counter({call: int(count) for call, count in re.findall(r"(\w+\.\w+): (\d+) passed, 0 failed", lines)})
 
 
 def counted():
     """What pages say of numbers that can be counted: the page, the words around the number, and the number."""
     programs = len({path.split("/")[1] for path in files_of("crates/*/data/*.cases")})
-    tests = times("crates/bosh_outside_tests/src/*.rt", r"#\[test\]")
     yield "README.md", r"tables of cases that (\S+) programs answer", programs
     yield "docs/TABLES.md", r"tables that (\S+) programs answer", programs
-    yield "docs/ECONOMY.md", r"`bosh_outside_tests` \((\d+) tests", tests
-    proved, tables = "docs/PROVED.md", "crates/bosh_book_tables/data/histories.cases"
-    yield proved, r"(\d+) cases on goals of `cases_goals`", passed("cases_goals", "goal.of", "goal.anew")
-    yield proved, r"`lines` of `cases_texts` tries (\d+) lines", passed("cases_texts", "line.parse")
-    yield proved, r"`cases_texts` tries (\d+) examinations", passed("cases_texts", "cck.examine")
-    yield proved, r"`bosh_book_tables` has (\d+) cases of calls", passed("bosh_book_tables")
-    yield proved, r"cases of calls, (\d+) of them worked", times(tables, '"call"')
-    yield proved, r"of (\d+) wrong entries", times(tables, '"wrong"')
+    proved, cases, tables = "docs/PROVED.md", passed(), "crates/*/data/*histories.cases"
+    yield proved, r"(\d+) cases on goals of `cases_goals`", cases["goal.of"] + cases["goal.anew"]
+    yield proved, r"`lines` of `cases_texts` tries (\d+) lines", cases["line.parse"]
+    yield proved, r"`cases_texts` tries (\d+) examinations", cases["cck.examine"]
+    yield proved, r"has (\d+) cases of calls, ", cases["book.run"]
+    yield proved, r"cases of calls, (\d+) of them worked", times(tables, '"call": "book.run"')
+    yield proved, r"of (\d+) wrong entries", times(tables, '"wrong": ')
     yield proved, r"from the program (\d+) are refused where", times(tables, "; refused")
-    yield proved, r"`bosh_world_tables` has (\d+) cases on a site", passed("bosh_world_tables")
-    yield proved, r"cases on a site: (\d+) lists of steps", passed("bosh_world_tables", "site.run")
-    yield proved, r"and (\d+) groups of tasks, which are stopped", passed("bosh_world_tables", "site.stops")
+    yield proved, r"has (\d+) cases on a site", cases["site.run"] + cases["site.stops"]
+    yield proved, r"cases on a site: (\d+) lists of steps", cases["site.run"]
+    yield proved, r"and (\d+) groups of tasks, which are stopped", cases["site.stops"]
     examples = "crates/examples_histories/src/*.rt"
     right = times(examples, "ensures right { IsPermittedFrom")
     yield proved, r"(\S+) worked histories are permitted", right
@@ -142,9 +142,8 @@ def check_numbers():
     for page, words, number in counted():
         told = (re.findall(words, text_of(page)) or ["nothing"])[0]
         yield str(NUMBERS.get(told.lower(), told)) == str(number), page, f"{words} tells {told}, and {number} are there"
-    page, stdouts = "docs/TABLES.md", "\n".join(map(text_of, files_of("crates/*/stdout")))
-    calls = set(re.findall(r"^(\w+\.\w+): ", stdouts, re.MULTILINE))
-    for call in sorted(calls):
+    page, calls = "docs/TABLES.md", passed()
+    for call in calls:
         yield f"`{call}`" in text_of(page), page, f"{call} is missing"
     for place, _, cells in rows_of(page):
         for call in re.findall(r"`(\w+\.\w+)`", cells[0]):
