@@ -1,6 +1,6 @@
 -- How a command ends that comes to an outcome: the moves that it makes, its reply, and what it leaves under way; and
 -- the moves that it may make also where no reply comes, for want of memory (this project's profile).
-use Rattle.std.specs.Prelude.{◌≡◌, true, Bool, List, [], ◌∷◌, Some, option_map}
+use Rattle.std.specs.Prelude.{◌≡◌, ◌&&◌, false, true, Bool, List, [], ◌∷◌, Some, option_map}
 use Rattle.std.specs.List.{list_all}
 use Rattle.bosh_base.specs.declared.entry.Entry.TheVariants as entries
 use Rattle.bosh_base.specs.declared.entry.TaskOpen.{TaskOpen}
@@ -10,7 +10,7 @@ use Rattle.bosh_base.specs.declared.moves.Move.TheVariants as moves
 use Rattle.bosh_base.specs.declared.reply.Reply.{Reply}
 use Rattle.bosh_base.specs.declared.reply.Reply.TheVariants.{Refused}
 use Rattle.bosh_due.specs.Before.{Before, left_under_way, with_moves}
-use Rattle.bosh_due.specs.Outcomes.{MakesMove, OpensAndRuns, Outcome, is_clouds_halt, is_directors_halt}
+use Rattle.bosh_due.specs.Outcomes.{MakesMove, OpensAndRuns, Outcome, has_ended, is_clouds_halt, is_directors_halt}
 use Rattle.bosh_due.specs.Outcomes.Outcome.{Answers, Changes, Notes, Opens, Refuses, Restarts}
 use Rattle.bosh_due.specs.Restarting.{MayStartAt, StartsAt, after_halt, start_under_way}
 use Rattle.bosh_due.specs.UnderWay.{UnderWay}
@@ -65,17 +65,23 @@ MakesAtMost halts move [] = Unit {0}
 MakesAtMost halts move (moves.Halt cause ∷ []) = halts cause ≡ true
 MakesAtMost halts move more = more ≡ move ∷ []
 
--- the first move opens the task, and the others are its work
-abbrev pub MayRunFrom : TaskOpen → Move → List Move → Type 0
-MayRunFrom due (moves.Note (entries.TaskOpen opened)) run =
-    (opened ≡ due) × (list_all (is_work_move (due.task ∷ [])) run ≡ true)
-MayRunFrom due move run = ⊥
+-- the task that was to open has opened, and its work alone was done since
+pub record MayRunTask (due opened : TaskOpen) (run : List Move) (now : Before) : Type 0 where
+  pub is_due : opened ≡ due
+  pub is_its_work : list_all (is_work_move (due.task ∷ [])) run ≡ true
+  -- no halt comes after its end
+  pub ends_last : (now.moment.halted && has_ended now due.task) ≡ false
 
--- the task opens, and its work alone is done
-abbrev pub MayOpenAndRun : TaskOpen → List Move → Type 0
-MayOpenAndRun due [] = Unit {0}
-MayOpenAndRun due (moves.Halt cause ∷ []) = is_directors_halt cause ≡ true
-MayOpenAndRun due (move ∷ run) = MayRunFrom due move run
+-- the first move opens the task
+abbrev pub MayRunFrom : TaskOpen → Before → Move → List Move → Type 0
+MayRunFrom due now (moves.Note (entries.TaskOpen opened)) run = MayRunTask due opened run now
+MayRunFrom due now move run = ⊥
+
+-- the task opens, and its work alone is done, up to what is known and done now
+abbrev pub MayOpenAndRun : TaskOpen → Before → List Move → Type 0
+MayOpenAndRun due now [] = Unit {0}
+MayOpenAndRun due now (moves.Halt cause ∷ []) = is_directors_halt cause ≡ true
+MayOpenAndRun due now (move ∷ run) = MayRunFrom due now move run
 
 -- nothing is done, or a restart is begun
 abbrev pub MayRestart : Before → List Move → Type 0
@@ -88,7 +94,7 @@ MayMake (Refuses why) b more = more ≡ []
 MayMake (Answers answer) b more = more ≡ []
 MayMake (Notes entry good) b more = MakesAtMost is_directors_halt (moves.Note entry) more
 MayMake (Changes move entry good) b more = MakesAtMost is_clouds_halt move more
-MayMake (Opens opening) b more = MayOpenAndRun opening more
+MayMake (Opens opening) b more = MayOpenAndRun opening (after_command (Opens opening) b more) more
 MayMake Restarts b more = MayRestart b more
 
 -- .. with what is under way then

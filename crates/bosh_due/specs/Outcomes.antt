@@ -80,13 +80,17 @@ end_reply now task = told_by (now.moment.known.task task).end now task
 abbrev pub may_be_left : Before → ℕ → Bool
 may_be_left now task = if is_open now.moment.known task then now.moment.halted || is_out_of_room now else true
 
+-- the task has an end
+abbrev pub has_ended : Before → ℕ → Bool
+has_ended now task = is_some (now.moment.known.task task).end
+
 -- the task that was to open has opened, and its work alone was done since; its end is told
 pub record RunsTask (due opened : TaskOpen) (run : List Move) (now : Before) (reply : Reply) : Type 0 where
   pub is_due : opened ≡ due
   pub is_its_work : list_all (is_work_move (due.task ∷ [])) run ≡ true
   pub may_end : may_be_left now due.task ≡ true
   -- no halt comes after its end
-  pub ends_last : (now.moment.halted && is_some (now.moment.known.task due.task).end) ≡ false
+  pub ends_last : (now.moment.halted && has_ended now due.task) ≡ false
   pub told : reply ≡ end_reply now due.task
 
 -- the first move opens it

@@ -1,6 +1,6 @@
 -- Commands that are carried out at once: their tasks open in order, then run together, and are told as they end (this
 -- project's profile).
-use Rattle.std.specs.Prelude.{◌≡◌, ◌&&◌, ◌⊎◌, ◌≤◌, ℕ, Bool, true, false, not, List, [], ◌∷◌, ◌++◌, count_by, filter, find, is_some, map}
+use Rattle.std.specs.Prelude.{◌≡◌, ◌&&◌, ◌⊎◌, ◌≤◌, ℕ, Bool, true, false, not, List, [], ◌∷◌, ◌++◌, count_by, filter, find, map}
 use Rattle.std.specs.Prelude.{Option, Some, None, option_map, eqb, Result, Ok, Err, if◌then◌else◌}
 use Rattle.std.specs.List.{filter_map, list_all, list_any}
 use Rattle.bosh_answers.specs.Ends.{told_halt}
@@ -18,7 +18,7 @@ use Rattle.bosh_due.specs.Ends.{after_command, leaves_under_way}
 use Rattle.bosh_due.specs.Files.{FilesRead, tells_shelf_failure}
 use Rattle.bosh_due.specs.Generating.{said_reply}
 use Rattle.bosh_due.specs.Openings.{DeploysFile}
-use Rattle.bosh_due.specs.Outcomes.{Outcome, end_reply, is_directors_halt, may_be_left}
+use Rattle.bosh_due.specs.Outcomes.{Outcome, end_reply, has_ended, is_directors_halt, may_be_left}
 use Rattle.bosh_due.specs.Outcomes.Outcome.{Opens, Refuses}
 use Rattle.bosh_due.specs.UnderWay.{UnderWay}
 use Rattle.bosh_due.specs.UnderWay.UnderWay.{working}
@@ -133,10 +133,6 @@ abbrev pub is_run : Bool → List ℕ → List Move → Bool
 is_run true tasks run = makes_no_move run
 is_run false [] run = makes_no_move run
 is_run false tasks run = list_all (is_work_move tasks) run
-
--- the task has an end
-abbrev pub has_ended : Before → ℕ → Bool
-has_ended now task = is_some (now.moment.known.task task).end
 
 -- no halt comes after the last end: it came in a step of a task that has none
 abbrev pub halts_in_work : Before → List ℕ → List Move → Bool

@@ -24,12 +24,13 @@ at_most halts move good (it ∷ more) reply made = made.0
 -- ---- a task
 
 runs_from : (due : TaskOpen) (now : Before) (move : Move) (run : List Move) (reply : Reply) →
-    RunsTaskFrom due now move run reply → MayRunFrom due move run
-runs_from due now (moves.Note (entries.TaskOpen opened)) run reply runs = (runs.is_due, runs.is_its_work)
+    RunsTaskFrom due now move run reply → MayRunFrom due now move run
+runs_from due now (moves.Note (entries.TaskOpen opened)) run reply runs =
+    record { is_due = runs.is_due; is_its_work = runs.is_its_work; ends_last = runs.ends_last }
 runs_from due now move run reply runs = runs
 
 opens : (due : TaskOpen) (now : Before) (more : List Move) (reply : Reply) →
-    OpensAndRuns due now more reply → MayOpenAndRun due more
+    OpensAndRuns due now more reply → MayOpenAndRun due now more
 opens due now [] reply opened = tt
 opens due now (moves.Halt cause ∷ []) reply opened = opened.0
 opens due now (move ∷ run) reply opened = runs_from due now move run reply opened

@@ -3,6 +3,7 @@ use Rattle.std.specs.Prelude.{ℕ, Bool, List, [], ◌∷◌, Ok}
 use Rattle.bosh_base.specs.declared.entry.Entry.TheVariants as entries
 use Rattle.bosh_base.specs.declared.moves.Move.{Move}
 use Rattle.bosh_base.specs.declared.moves.Move.TheVariants.{Note}
+use Rattle.bosh_due.specs.Due.{MakesBy}
 use Rattle.bosh_due.specs.Generating.{IsGeneratedUpTo, said_reply}
 use Rattle.bosh_due.specs.Together.{ComesAt, OpensAtMost}
 use Rattle.bosh_due.specs.Turns.{TurnRead}
@@ -18,6 +19,10 @@ use Rattle.examples_replies.specs.Scenes.{no_files, start}
 -- a command that is carried out at once with others makes these moves, and has no reply
 abbrev pub OpensUntold : Command → List Move → UnderWay → Type 0
 OpensUntold command more now = OpensAtMost (ComesAt (start prepared 2) no_files (Ok command)) (start prepared 2) more now
+
+-- .. and so does one alone
+abbrev pub MakesUntold : Command → List Move → UnderWay → Type 0
+MakesUntold command more now = MakesBy (start prepared 2) no_files command more now
 
 abbrev pub clean_up_opened : Move
 clean_up_opened = Note (entries.TaskOpen clean_up)

@@ -4,10 +4,10 @@ ghost use Rattle.bosh_base.specs.declared.moves.Cause.TheVariants as causes;
 ghost use Rattle.bosh_base.specs.declared.moves.Move.TheVariants.{Halt, Note};
 ghost use Rattle.bosh_due.specs.Turns.{TakesAll};
 ghost use Rattle.bosh_due.specs.UnderWay.{UnderWay};
-ghost use Rattle.bosh_due.specs.UnderWay.UnderWay.{idle, noting};
+ghost use Rattle.bosh_due.specs.UnderWay.UnderWay.{idle, noting, working};
 ghost use Rattle.bosh_lines.specs.declared.command.Command.TheVariants as commands;
 ghost use Rattle.examples_replies.specs.AtOnce.{clean_up};
-ghost use Rattle.examples_replies.specs.CutOff.{IsRefusedUnder, OpensUntold, one_of_two, clean_up_opened};
+ghost use Rattle.examples_replies.specs.CutOff.{IsRefusedUnder, MakesUntold, OpensUntold, one_of_two, clean_up_opened};
 ghost use Rattle.examples_replies.specs.Stemcells.{jammy};
 
 /// A command that is carried out at once with others opens its task, and does no more.
@@ -18,6 +18,14 @@ pub fn openings_are_cut_off()
     ensures run { (now : UnderWay) → OpensUntold commands.CleanUp (clean_up_opened ∷ Note (entries.TaskDone 1) ∷ []) now → ⊥ }
     ensures no_task { (now : UnderWay) → OpensUntold (commands.UploadStemcell (jammy (codes "1.2")))
         (Note (entries.Stemcell (jammy (codes "1.2"))) ∷ []) now → ⊥ }
+{}
+
+/// A task that is carried out alone ends last, also where that is not told.
+pub fn tasks_end_last()
+    ensures ended { MakesUntold commands.CleanUp (clean_up_opened ∷ Note (entries.TaskDone 1) ∷ []) idle }
+    ensures halted { MakesUntold commands.CleanUp (clean_up_opened ∷ Halt causes.Store ∷ []) (working (1 ∷ [])) }
+    ensures behind { (now : UnderWay) →
+        MakesUntold commands.CleanUp (clean_up_opened ∷ Note (entries.TaskDone 1) ∷ Halt causes.Store ∷ []) now → ⊥ }
 {}
 
 /// As many commands are taken as the line says, unless the input ends.

@@ -19,7 +19,7 @@ mod uploads;
 mod whole_turns;
 
 pub use asked::recreations_are_asked;
-pub use cut_off::{all_are_taken, lines_keep_their_number, openings_are_cut_off};
+pub use cut_off::{all_are_taken, lines_keep_their_number, openings_are_cut_off, tasks_end_last};
 pub use files::{configs_are_told, files_are_kept, files_are_looked_for_first};
 pub use jobs::{disks_are_written_and_read, machines_are_lost_and_shown};
 pub use laws::{nothing_is_left, what_is_due_may_be_made};
