@@ -1,6 +1,6 @@
 -- What a reply is judged by: what was known and done before its command, and what its own moves made of that (this
 -- project's profile).
-use Rattle.std.specs.Prelude.{ℕ, ◌+◌, Bool, ◌||◌, Option, Some, None, List, [], fold, nat_le, if◌then◌else◌}
+use Rattle.std.specs.Prelude.{◌≡◌, ℕ, ◌+◌, Bool, false, ◌||◌, Option, Some, None, List, [], fold, nat_le, if◌then◌else◌}
 use Rattle.bosh_base.specs.declared.moves.Cause.{Cause}
 use Rattle.bosh_base.specs.declared.moves.Move.{Move}
 use Rattle.bosh_base.specs.declared.moves.Move.TheVariants as moves
@@ -53,6 +53,10 @@ with_moves b more under = record {
 abbrev pub left_under_way : Before → UnderWay → List Move → UnderWay
 left_under_way b what [] = b.under_way
 left_under_way b what more = if (fold later b.moment more).halted then what else idle
+
+-- each call that began has ended, unless the director has halted
+abbrev pub HasSettledCalls : Before → Type 0
+HasSettledCalls b = b.moment.halted ≡ false → (n : ℕ) → b.moment.calls n ≡ None
 
 -- 1,000,000 entries were noted since the director started, or 2 ^ 62 calls were made: no more are
 abbrev pub is_out_of_room : Before → Bool

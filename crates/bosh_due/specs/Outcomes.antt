@@ -18,6 +18,7 @@ use Rattle.bosh_base.specs.declared.task.TaskEnd.{TaskEnd}
 use Rattle.bosh_due.specs.Before.{Before, is_out_of_room}
 use Rattle.bosh_due.specs.Work.{is_work_move}
 use Rattle.bosh_history.specs.Held.{is_open}
+use Rattle.bosh_history.specs.Steps.{has_no_call}
 use Rattle.bosh_refusals.specs.Refused.{bare_refusal}
 
 -- what may come of a command
@@ -76,9 +77,11 @@ told_by None now task = left_reply now
 abbrev pub end_reply : Before → ℕ → Reply
 end_reply now task = told_by (now.moment.known.task task).end now task
 
--- a task is left without an end only where the director halted or there was no room
+-- a task is left without an end only where the director halted, or where there was no room and each of its calls has ended
 abbrev pub may_be_left : Before → ℕ → Bool
-may_be_left now task = if is_open now.moment.known task then now.moment.halted || is_out_of_room now else true
+may_be_left now task =
+    if is_open now.moment.known task
+    then now.moment.halted || (is_out_of_room now && has_no_call now.moment task) else true
 
 -- the task has an end
 abbrev pub has_ended : Before → ℕ → Bool

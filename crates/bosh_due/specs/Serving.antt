@@ -1,11 +1,11 @@
 -- What a director does with a command, whatever it is over: it answers it; it opens its task; it carries tasks to their
 -- ends (this project's profile). The moves `was` are those before, and `now` those after; `under` is what was under way
--- before, and `left` what is after.
+-- before, and `left` what is after. Where no call is open on a director that goes on, none is open on it afterwards.
 use Rattle.std.specs.Prelude.{◌≡◌, ◌++◌, true, false, ℕ, List, IfOk, OnErr, OnOk, Result}
 use Rattle.std.specs.List.{list_all}
 use Rattle.bosh_base.specs.declared.moves.Move.{Move}
 use Rattle.bosh_base.specs.declared.reply.Reply.{Reply}
-use Rattle.bosh_due.specs.Before.{Before, before_of}
+use Rattle.bosh_due.specs.Before.{Before, HasSettledCalls, before_of}
 use Rattle.bosh_due.specs.Commands.{asks_alone}
 use Rattle.bosh_due.specs.Due.{Due, MakesNone, MakesOnly}
 use Rattle.bosh_due.specs.Ends.{Makes, Meets, leaves_under_way}
@@ -26,6 +26,7 @@ pub record AnswersCommand {F : Type 0} (o : Opening) (was : List Move) (under : 
       asks_alone request.asked ≡ true → IfOk result (λ reply. Due o was under request files more reply left)
   pub only : asks_alone request.asked ≡ true → OnErr result (MakesOnly o was under request files more left)
   pub none : asks_alone request.asked ≡ false → MakesNone (before_of o was under) more left
+  pub settles : HasSettledCalls (before_of o was under) → HasSettledCalls (before_of o now left)
 
 -- the same of what a command stands for
 pub record AnswersAsked {F : Type 0} (Comes : Before → Outcome → Type 0) (o : Opening) (was : List Move)
@@ -34,6 +35,7 @@ pub record AnswersAsked {F : Type 0} (Comes : Before → Outcome → Type 0) (o 
   pub comes : now ≡ was ++ more
   pub due : IfOk result (λ reply. Meets (Comes (before_of o was under)) (before_of o was under) more reply left)
   pub only : OnErr result (Makes (Comes (before_of o was under)) (before_of o was under) more left)
+  pub settles : HasSettledCalls (before_of o was under) → HasSettledCalls (before_of o now left)
 
 -- the task of a command opens, or it is refused
 pub record OpensAs
@@ -53,6 +55,7 @@ pub record OpensTaskOf {F : Type 0} (o : Opening) (was : List Move) (under : Und
   pub only :
       OnErr result
       (OpensAtMost (ComesAt (before_of o was under) files request.asked) (before_of o was under) more left)
+  pub settles : HasSettledCalls (before_of o was under) → HasSettledCalls (before_of o now left)
 
 -- tasks that are open are carried to their ends; one is left where the director halts or has no room
 pub record CarriesTasksOut {T F : Type 0} (o : Opening) (was : List Move) (under : UnderWay) (tasks : List ℕ)
@@ -63,6 +66,7 @@ pub record CarriesTasksOut {T F : Type 0} (o : Opening) (was : List Move) (under
   pub leaves : left ≡ run_leaves (before_of o was under) tasks run
   pub may_end : OnOk result (list_all (may_be_left (before_of o now left)) tasks ≡ true)
   pub ends_last : halts_in_work (before_of o now left) tasks run ≡ true
+  pub settles : HasSettledCalls (before_of o was under) → HasSettledCalls (before_of o now left)
 
 -- how one of them is told
 abbrev pub TellsEnd : Opening → List Move → UnderWay → ℕ → Reply → Type 0

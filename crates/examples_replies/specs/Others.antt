@@ -5,6 +5,7 @@ use Rattle.bosh_base.specs.declared.moves.Cause.TheVariants.{Stop}
 use Rattle.bosh_base.specs.declared.moves.Move.TheVariants.{Halt}
 use Rattle.bosh_due.specs.Before.{with_moves}
 use Rattle.bosh_due.specs.Due.{DueAt, DueBy}
+use Rattle.bosh_due.specs.Ends.{EndsIn}
 use Rattle.bosh_due.specs.Together.{Running, by_end, halts_in_work}
 use Rattle.bosh_due.specs.UnderWay.{UnderWay}
 use Rattle.bosh_due.specs.UnderWay.UnderWay.{idle}
@@ -14,7 +15,9 @@ use Rattle.bosh_lines.specs.declared.command.Command.{Command}
 use Rattle.bosh_base.specs.declared.entry.Entry.{Entry}
 use Rattle.bosh_base.specs.declared.moves.Stop as stop
 use Rattle.examples_histories.specs.Scenes.{Builder, History, prepared}
-use Rattle.examples_histories.specs.Two.{two}
+use Rattle.examples_histories.specs.Two.{two, two_g1}
+use Rattle.examples_histories.specs.Values.{web}
+use Rattle.examples_replies.specs.Openings.{deploys}
 use Rattle.examples_replies.specs.Scenes.{no_files, start}
 use Rattle.std.specs.Prelude.{Option, Err}
 
@@ -36,6 +39,17 @@ TellsAfter noted m command reply = DueBy (start m noted) no_files command [] rep
 
 abbrev pub NeverTellsAfter : ℕ → Moment → Command → Reply → Type 0
 NeverTellsAfter noted m command reply = (now : UnderWay) → DueBy (start m noted) no_files command [] reply now → ⊥
+
+-- .. and so a deploy of two instances, after so many moves
+abbrev pub EndsAfter : ℕ → ℕ → Reply → Type 0
+EndsAfter noted count reply =
+    (built : Builder) →
+    EndsIn (deploys 1 two_g1 (web 0 ∷ web 1 ∷ [])) (start prepared noted) (take count (two built)) reply
+
+abbrev pub NeverEndsAfter : ℕ → ℕ → Reply → Type 0
+NeverEndsAfter noted count reply =
+    (built : Builder) →
+    EndsIn (deploys 1 two_g1 (web 0 ∷ web 1 ∷ [])) (start prepared noted) (take count (two built)) reply → ⊥
 
 -- a line that is no command is answered so
 abbrev pub TellsLine : Moment → LineFault → Reply → Type 0

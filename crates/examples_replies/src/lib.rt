@@ -26,8 +26,8 @@ pub use laws::{nothing_is_left, what_is_due_may_be_made};
 pub use listings::{instances_are_listed, records_are_listed, the_cloud_is_listed};
 pub use one_turn::commands_are_numbered;
 pub use others::{
-    halts_come_before_ends, lines_and_room_are_told, stops_find_what_was_asked,
-    tasks_are_told_by_end, what_is_under_way_stays,
+    calls_end_before_room_is_out, halts_come_before_ends, lines_and_room_are_told,
+    stops_find_what_was_asked, tasks_are_told_by_end, what_is_under_way_stays,
 };
 pub use releases::releases_are_told;
 pub use restarts::{restarts_are_told, restarts_find_what_was_asked};

@@ -1,6 +1,7 @@
 ghost use Rattle.std.specs.Prelude.{◌≡◌, ◌∷◌, [], Some, None, codes, false, true};
 ghost use Rattle.bosh_base.specs.declared.moves.Cause.TheVariants as causes;
 ghost use Rattle.bosh_base.specs.declared.reply.Reply.TheVariants as replies;
+ghost use Rattle.bosh_due.specs.Outcomes.{full_reply};
 ghost use Rattle.bosh_due.specs.UnderWay.{FindsAsked};
 ghost use Rattle.bosh_due.specs.UnderWay.UnderWay.{changing, idle, noting, working};
 ghost use Rattle.bosh_line_words.specs.declared.fault.LineFault.TheVariants as lines;
@@ -9,7 +10,7 @@ ghost use Rattle.examples_histories.specs.Scenes.{Builder, config, prepared, upd
 ghost use Rattle.examples_histories.specs.Together.{together};
 ghost use Rattle.examples_histories.specs.Values.{web};
 ghost use Rattle.examples_replies.specs.Halted.{Stays};
-ghost use Rattle.examples_replies.specs.Others.{halts_after, AreToldSo, NeverTellsAfter, NeverTellsLine, TellsAfter, TellsLine, found, runs};
+ghost use Rattle.examples_replies.specs.Others.{halts_after, AreToldSo, EndsAfter, NeverEndsAfter, NeverTellsAfter, NeverTellsLine, TellsAfter, TellsLine, found, runs};
 ghost use Rattle.examples_replies.specs.Replies.{bare, naming};
 
 /// Tasks that ran together are told as they ended, and then those that have no end.
@@ -33,6 +34,14 @@ pub fn lines_and_room_are_told()
     ensures no_command { TellsLine prepared lines.UnknownCommand (bare (codes "lines") (codes "UnknownCommand")) }
     ensures no_other { NeverTellsLine prepared lines.UnknownCommand replies.Nothing }
     ensures no_memory { NeverTellsLine prepared lines.Memory (bare (codes "lines") (codes "Memory")) }
+{}
+
+/// A director has no more room only once the call that it noted last has ended.
+pub fn calls_end_before_room_is_out()
+    ensures full { EndsAfter 999997 5 full_reply }
+    ensures not_begun { NeverEndsAfter 999997 3 full_reply }
+    ensures not_performed { NeverEndsAfter 999997 4 full_reply }
+    ensures room { NeverEndsAfter 999994 5 full_reply }
 {}
 
 /// What was under way as a director halted stays so, until it starts anew.
