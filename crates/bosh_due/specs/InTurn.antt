@@ -1,6 +1,6 @@
 -- The turns of a session, one after the other: each is made over what those before it have left (this project's
 -- profile).
-use Rattle.std.specs.Prelude.{◌≡◌, ◌≤◌, ℕ, ◌+◌, Bool, false, List, [], ◌∷◌, ◌++◌, flat_map, length, map, sum, Option, Some, None}
+use Rattle.std.specs.Prelude.{◌≡◌, ◌≤◌, ℕ, ◌+◌, Bool, false, List, [], ◌∷◌, ◌++◌, flat_map, length, map, sum, Option, Some, None, IfSome}
 use Rattle.bosh_answers.specs.declared.files.KeptFile.{KeptFile}
 use Rattle.bosh_base.specs.declared.moves.Move.{Move}
 use Rattle.bosh_base.specs.declared.moves.Move.TheVariants as moves
@@ -32,12 +32,13 @@ pub record SessionSoFar : Type 0 where
   -- the input has no more
   pub has_ended : Bool
 
--- the input goes on: a turn has the next number, and finds the files that were kept, and those of the shelf
+-- the input goes on: a turn has the next number, and finds the files that were kept, and those of the shelf, where that
+-- has told them before
 pub record GoesOnFrom (shelf : Option Shelved) (was : SessionSoFar) (turn : TurnMade) : Type 0 where
   pub is_open : was.has_ended ≡ false
   pub has_number : turn.read.first.number ≡ was.commands + 1
   pub has_kept : turn.files.kept ≡ was.kept
-  pub has_shelf : turn.files.shelf ≡ shelf
+  pub has_shelf : IfSome shelf (λ there. turn.files.shelf ≡ Some there)
 
 -- .. and once it is made
 abbrev pub session_after : SessionSoFar → TurnMade → UnderWay → SessionSoFar

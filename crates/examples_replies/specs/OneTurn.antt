@@ -1,6 +1,7 @@
 -- A session of one line.
-use Rattle.std.specs.Prelude.{ℕ, true, [], ◌∷◌, None, Some}
+use Rattle.std.specs.Prelude.{ℕ, true, [], ◌∷◌, codes, Option, None, Some}
 use Rattle.bosh_base.specs.declared.reply.Reply.TheVariants as replies
+use Rattle.bosh_due.specs.Files.{Shelved}
 use Rattle.bosh_due.specs.Generating.{said_reply}
 use Rattle.bosh_due.specs.InTurn.{MakesSession, TurnMade}
 use Rattle.bosh_history.specs.Moments.{nothing}
@@ -16,7 +17,14 @@ asks_for_tasks number = record {
   segment = said_reply number (replies.Tasks []) ∷ [];
 }
 
--- the session of a new director is this one line, under a number
+-- the session of a new director is this one line, under a number, over a shelf that has told this
+abbrev pub IsSessionOver : Option Shelved → ℕ → Type 0
+IsSessionOver shelf number =
+    MakesSession nothing (said_reply number (replies.Tasks []) ∷ []) shelf 0 (asks_for_tasks number ∷ []) None
+
 abbrev pub IsSessionOf : ℕ → Type 0
-IsSessionOf number =
-    MakesSession nothing (said_reply number (replies.Tasks []) ∷ []) (Some []) 0 (asks_for_tasks number ∷ []) None
+IsSessionOf number = IsSessionOver (Some []) number
+
+-- a shelf of one file
+abbrev pub one_file : Shelved
+one_file = (codes "a", codes "1") ∷ []
