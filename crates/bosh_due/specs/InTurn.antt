@@ -29,7 +29,7 @@ pub record SessionSoFar : Type 0 where
   pub kept : List KeptFile
   -- how many commands were read
   pub commands : ℕ
-  -- the input has no more
+  -- a turn found that the input has no more
   pub has_ended : Bool
 
 -- the input goes on: a turn has the next number, and finds the files that were kept, and those of the shelf, where that

@@ -13,7 +13,7 @@ use Rattle.bosh_base.specs.declared.entry.TaskOpen.{TaskOpen}
 use Rattle.bosh_base.specs.declared.goal.Goal.{Goal}
 use Rattle.bosh_due.specs.Before.{Before, is_out_of_room}
 use Rattle.bosh_due.specs.Files.{FilesRead, IsFile}
-use Rattle.bosh_due.specs.Outcomes.{Outcome, unless_halted}
+use Rattle.bosh_due.specs.Outcomes.{Outcome}
 use Rattle.bosh_due.specs.Outcomes.Outcome.{Opens, Refuses}
 use Rattle.bosh_due.specs.Plans.{Plan, PlansDeploy}
 use Rattle.bosh_due.specs.Uploads.{FromFiles}
@@ -48,10 +48,6 @@ planned b ask (Err fault) = Refuses (book_told fault)
 planned b ask (Ok goal) =
     if is_out_of_room b then Refuses (book_told book.Full) else Opens (opening_with b.moment.known ask goal)
 
--- .. and that the director has halted before them
-abbrev pub opening_outcome : Before → Ask → Plan → Outcome
-opening_outcome b ask plan = unless_halted b (planned b ask plan)
-
 -- ---- deploys
 
 -- a deploy is asked of a director that may have halted
@@ -61,11 +57,6 @@ pub data OpensDeploy (b : Before) (it : Deploy) (outcome : Outcome) : Type 0 whe
       (plan : Plan) → b.moment.halted ≡ false → PlansDeploy b.moment.known it plan →
       outcome ≡ planned b (asks.Deploy it) plan → OpensDeploy b it outcome
 
--- what is asked is no other task
-abbrev pub OpensAsked : Before → Ask → Outcome → Type 0
-OpensAsked b (asks.Deploy it) outcome = OpensDeploy b it outcome
-OpensAsked b ask outcome = ⊥
-
 -- the manifest that a text is, or its first fault
 pub data DeploysText
     (b : Before) (dep : List ℕ) (vars : List Variable) (how : How) (text : List ℕ) (outcome : Outcome) : Type 0
@@ -74,7 +65,7 @@ pub data DeploysText
         (fault : TextFault) → deploy_of dep vars how text ≡ Err fault → outcome ≡ Refuses (text_told fault) →
         DeploysText b dep vars how text outcome
     whole :
-        (ask : Ask) → deploy_of dep vars how text ≡ Ok ask → OpensAsked b ask outcome →
+        (it : Deploy) → deploy_of dep vars how text ≡ Ok (asks.Deploy it) → OpensDeploy b it outcome →
         DeploysText b dep vars how text outcome
 
 -- the options of a deploy

@@ -52,7 +52,8 @@ EndsInterrupted due more reply = ⊥
 abbrev pub StartsAt : Before → Option (List Move) → Reply → Type 0
 StartsAt b (Some []) reply = IsStoreUnread reply
 StartsAt b (Some (moves.Stop stop ∷ more)) reply =
-    FindsAsked b.under_way b.last_halt stop × EndsInterrupted (interruptions (stopping b.moment stop).known) more reply
+    FindsAsked b.under_way b.moment.calls b.last_halt stop
+    × EndsInterrupted (interruptions (stopping b.moment stop).known) more reply
 StartsAt b more reply = ⊥
 
 -- .. whether or not a reply comes: for want of memory it stops also behind all of them
@@ -67,7 +68,8 @@ MayEndInterrupted due more = ⊥
 abbrev pub MayStartAt : Before → Option (List Move) → Type 0
 MayStartAt b (Some []) = Unit {0}
 MayStartAt b (Some (moves.Stop stop ∷ more)) =
-    FindsAsked b.under_way b.last_halt stop × MayEndInterrupted (interruptions (stopping b.moment stop).known) more
+    FindsAsked b.under_way b.moment.calls b.last_halt stop
+    × MayEndInterrupted (interruptions (stopping b.moment stop).known) more
 MayStartAt b more = ⊥
 
 -- ---- what is under way

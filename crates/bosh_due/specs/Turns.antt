@@ -1,5 +1,5 @@
 -- The moves of one turn of a session, with its replies, and what it leaves under way (this project's profile).
-use Rattle.std.specs.Prelude.{◌≡◌, ◌⊎◌, ◌≤◌, ℕ, ◌+◌, Bool, true, List, [], ◌∷◌, ◌++◌, length, Result, Ok, Err}
+use Rattle.std.specs.Prelude.{◌≡◌, ◌≤◌, ℕ, ◌+◌, Bool, false, List, [], ◌∷◌, ◌++◌, length, nat_lt, Result, Ok, Err}
 use Rattle.bosh_answers.specs.declared.files.KeptFile.{KeptFile}
 use Rattle.bosh_base.specs.declared.moves.Move.{Move}
 use Rattle.bosh_base.specs.declared.reply.Reply.{Reply}
@@ -21,7 +21,7 @@ pub record TurnRead : Type 0 where
   pub first : Numbered
   -- the commands that are carried out at once with it
   pub others : List Numbered
-  -- the input ended as these were read
+  -- the input ended before there were as many of these as the line says
   pub is_end : Bool
 
 -- commands have the numbers from one on
@@ -37,7 +37,12 @@ pub record TakesSome (count : ℕ) (read : TurnRead) : Type 0 where
 -- .. or all that the input has left
 pub record TakesAll (count : ℕ) (read : TurnRead) : Type 0 where
   pub some : TakesSome count read
-  pub full : (length read.others ≡ count) ⊎ (read.is_end ≡ true)
+  pub ends : read.is_end ≡ nat_lt (length read.others) count
+
+-- none is taken, and so the input is not seen to end
+pub record TakesNone (read : TurnRead) : Type 0 where
+  pub none : read.others ≡ []
+  pub goes_on : read.is_end ≡ false
 
 -- ---- turns
 
@@ -62,15 +67,15 @@ pub record IsAtOnce
 abbrev pub MakesTurnBy : Before → FilesRead → Command → TurnRead → List Move → UnderWay → Type 0
 MakesTurnBy b files (commands.Together count) read segment now = IsAtOnce b files count read segment now
 MakesTurnBy b files (commands.Generate instances) read segment now =
-    (read.others ≡ []) × IsGenerated b read.first.number instances segment now
+    TakesNone read × IsGenerated b read.first.number instances segment now
 MakesTurnBy b files command read segment now =
-    (read.others ≡ []) × IsAlone b files read.first.number (Ok command) segment now
+    TakesNone read × IsAlone b files read.first.number (Ok command) segment now
 
 -- .. or none
 abbrev pub MakesTurnAt : Before → FilesRead → Result Command LineFault → TurnRead → List Move → UnderWay → Type 0
 MakesTurnAt b files (Ok command) read segment now = MakesTurnBy b files command read segment now
 MakesTurnAt b files (Err fault) read segment now =
-    (read.others ≡ []) × IsAlone b files read.first.number (Err fault) segment now
+    TakesNone read × IsAlone b files read.first.number (Err fault) segment now
 
 -- what a turn read is carried out
 abbrev pub MakesTurn : Before → FilesRead → TurnRead → List Move → UnderWay → Type 0
@@ -95,10 +100,10 @@ pub data MakesTurnUpTo
   where
     told : MakesTurn b files read segment now → MakesTurnUpTo b files read segment now
     untold :
-        read.others ≡ [] → MakesUpTo b files read.first.number read.first.request.asked segment now →
+        TakesNone read → MakesUpTo b files read.first.number read.first.request.asked segment now →
         MakesTurnUpTo b files read segment now
     in_reading :
-        (count : ℕ) → read.first.request.asked ≡ Ok (commands.Together count) → TakesSome count read →
+        (count : ℕ) → read.first.request.asked ≡ Ok (commands.Together count) → TakesSome count read → read.is_end ≡ false →
         segment ≡ said_reply read.first.number replies.Nothing ∷ [] → now ≡ b.under_way →
         MakesTurnUpTo b files read segment now
     in_openings :

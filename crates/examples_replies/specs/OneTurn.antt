@@ -1,5 +1,5 @@
 -- A session of one line.
-use Rattle.std.specs.Prelude.{ℕ, true, [], ◌∷◌, codes, Option, None, Some}
+use Rattle.std.specs.Prelude.{ℕ, Bool, false, true, [], ◌∷◌, codes, Option, None, Some}
 use Rattle.bosh_base.specs.declared.reply.Reply.TheVariants as replies
 use Rattle.bosh_due.specs.Files.{Shelved}
 use Rattle.bosh_due.specs.Generating.{said_reply}
@@ -9,10 +9,10 @@ use Rattle.bosh_lines.specs.declared.command.Command.TheVariants as commands
 use Rattle.examples_replies.specs.AtOnce.{asks}
 use Rattle.examples_replies.specs.Scenes.{no_files}
 
--- the tasks are asked for, by the command of a number, and none is told
-abbrev pub asks_for_tasks : ℕ → TurnMade
-asks_for_tasks number = record {
-  read = record { first = asks number commands.Tasks; others = []; is_end = true };
+-- the tasks are asked for, by the command of a number, and none is told; the input may be told to end
+abbrev pub asks_for_tasks : ℕ → Bool → TurnMade
+asks_for_tasks number is_end = record {
+  read = record { first = asks number commands.Tasks; others = []; is_end = is_end };
   files = no_files;
   segment = said_reply number (replies.Tasks []) ∷ [];
 }
@@ -20,10 +20,16 @@ asks_for_tasks number = record {
 -- the session of a new director is this one line, under a number, over a shelf that has told this
 abbrev pub IsSessionOver : Option Shelved → ℕ → Type 0
 IsSessionOver shelf number =
-    MakesSession nothing (said_reply number (replies.Tasks []) ∷ []) shelf 0 (asks_for_tasks number ∷ []) None
+    MakesSession nothing (said_reply number (replies.Tasks []) ∷ []) shelf 0
+    (asks_for_tasks number false ∷ []) None
 
 abbrev pub IsSessionOf : ℕ → Type 0
 IsSessionOf number = IsSessionOver (Some []) number
+
+-- .. though it takes no others along, the input is told to end
+abbrev pub IsToldToEnd : Type 0
+IsToldToEnd =
+    MakesSession nothing (said_reply 1 (replies.Tasks []) ∷ []) (Some []) 0 (asks_for_tasks 1 true ∷ []) None
 
 -- a shelf of one file
 abbrev pub one_file : Shelved

@@ -1,5 +1,7 @@
 -- Tasks that ran together, a director without room, and what was under way.
 use Rattle.std.specs.Prelude.{◌≡◌, ◌++◌, ℕ, Bool, List, [], ◌∷◌, take}
+use Rattle.bosh_base.specs.declared.call.Call.TheVariants.{CreateVm}
+use Rattle.bosh_base.specs.declared.owner.Owner.TheVariants.{Instance}
 use Rattle.bosh_base.specs.declared.reply.Reply.{Reply}
 use Rattle.bosh_base.specs.declared.moves.Cause.TheVariants.{Stop}
 use Rattle.bosh_base.specs.declared.moves.Move.TheVariants.{Halt}
@@ -9,17 +11,17 @@ use Rattle.bosh_due.specs.Ends.{EndsIn}
 use Rattle.bosh_due.specs.Together.{Running, by_end, halts_in_work}
 use Rattle.bosh_due.specs.UnderWay.{UnderWay}
 use Rattle.bosh_due.specs.UnderWay.UnderWay.{idle}
-use Rattle.bosh_history.specs.Moments.{Moment}
+use Rattle.bosh_history.specs.Moments.{Moment, OpenCall, calls_after}
 use Rattle.bosh_line_words.specs.declared.fault.LineFault.{LineFault}
 use Rattle.bosh_lines.specs.declared.command.Command.{Command}
 use Rattle.bosh_base.specs.declared.entry.Entry.{Entry}
 use Rattle.bosh_base.specs.declared.moves.Stop as stop
-use Rattle.examples_histories.specs.Scenes.{Builder, History, prepared}
+use Rattle.examples_histories.specs.Scenes.{Builder, History, beginning_of, prepared}
 use Rattle.examples_histories.specs.Two.{two, two_g1}
-use Rattle.examples_histories.specs.Values.{web}
+use Rattle.examples_histories.specs.Values.{plain, web, z1}
 use Rattle.examples_replies.specs.Openings.{deploys}
 use Rattle.examples_replies.specs.Scenes.{no_files, start}
-use Rattle.std.specs.Prelude.{Option, Err}
+use Rattle.std.specs.Prelude.{Option, None, Err}
 
 abbrev pub runs : ℕ → ℕ → Running
 runs number task = record { number = number; task = task }
@@ -57,6 +59,11 @@ TellsLine m fault reply = DueAt (start m 0) no_files (Err fault) [] reply idle
 
 abbrev pub NeverTellsLine : Moment → LineFault → Reply → Type 0
 NeverTellsLine m fault reply = (now : UnderWay) → DueAt (start m 0) no_files (Err fault) [] reply now → ⊥
+
+-- the first call is open, which the first task makes
+abbrev pub first_call : ℕ → Option OpenCall
+first_call =
+    calls_after (beginning_of 1 1 0 (Instance (web 0)) (CreateVm (plain z1 10) [])) (λ n. None)
 
 abbrev pub found : Option Entry → List ℕ → Option Entry → stop.Stop
 found kept took wrote = record { kept = kept; took = took; wrote = wrote }

@@ -31,7 +31,9 @@ pub fn tasks_end_last()
 /// As many commands are taken as the line says, unless the input ends.
 pub fn all_are_taken()
     ensures at_the_end { TakesAll 2 (one_of_two true) }
+    ensures all { TakesAll 1 (one_of_two false) }
     ensures too_few { TakesAll 2 (one_of_two false) → ⊥ }
+    ensures not_ended { TakesAll 1 (one_of_two true) → ⊥ }
     ensures too_many { TakesAll 0 (one_of_two true) → ⊥ }
 {}
 

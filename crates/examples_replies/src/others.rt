@@ -10,7 +10,7 @@ ghost use Rattle.examples_histories.specs.Scenes.{Builder, config, prepared, upd
 ghost use Rattle.examples_histories.specs.Together.{together};
 ghost use Rattle.examples_histories.specs.Values.{web};
 ghost use Rattle.examples_replies.specs.Halted.{Stays};
-ghost use Rattle.examples_replies.specs.Others.{halts_after, AreToldSo, EndsAfter, NeverEndsAfter, NeverTellsAfter, NeverTellsLine, TellsAfter, TellsLine, found, runs};
+ghost use Rattle.examples_replies.specs.Others.{halts_after, AreToldSo, EndsAfter, NeverEndsAfter, NeverTellsAfter, NeverTellsLine, TellsAfter, TellsLine, first_call, found, runs};
 ghost use Rattle.examples_replies.specs.Replies.{bare, naming};
 
 /// Tasks that ran together are told as they ended, and then those that have no end.
@@ -52,24 +52,28 @@ pub fn what_is_under_way_stays()
 
 /// A stop finds only what was under way, in the store in which it was lost sight of.
 pub fn stops_find_what_was_asked()
-    ensures wrote { FindsAsked (changing (write 1 (codes "hello"))) (Some causes.CloudStore)
+    ensures wrote { FindsAsked (changing (write 1 (codes "hello"))) first_call (Some causes.CloudStore)
         (found None [] (Some (write 1 (codes "hello")))) }
-    ensures other_text { FindsAsked (changing (write 1 (codes "hello"))) (Some causes.CloudStore)
+    ensures other_text { FindsAsked (changing (write 1 (codes "hello"))) first_call (Some causes.CloudStore)
         (found None [] (Some (write 1 (codes "world")))) → ⊥ }
-    ensures other_disk { FindsAsked (changing (write 1 (codes "hello"))) (Some causes.CloudStore)
+    ensures other_disk { FindsAsked (changing (write 1 (codes "hello"))) first_call (Some causes.CloudStore)
         (found None [] (Some (write 2 (codes "hello")))) → ⊥ }
-    ensures kept { FindsAsked (noting config) (Some causes.Store) (found (Some config) [] None) }
-    ensures not_written { FindsAsked (noting config) (Some causes.Store)
+    ensures kept { FindsAsked (noting config) first_call (Some causes.Store) (found (Some config) [] None) }
+    ensures not_written { FindsAsked (noting config) first_call (Some causes.Store)
         (found None [] (Some (write 1 (codes "hello")))) → ⊥ }
-    ensures work { FindsAsked (working (1 ∷ [])) (Some causes.Stop) (found (Some (upd_begin 1 (web 0))) [] None) }
-    ensures other_task { FindsAsked (working (1 ∷ [])) (Some causes.Stop)
+    ensures work { FindsAsked (working (1 ∷ [])) first_call (Some causes.Stop) (found (Some (upd_begin 1 (web 0))) [] None) }
+    ensures other_task { FindsAsked (working (1 ∷ [])) first_call (Some causes.Stop)
         (found (Some (upd_begin 2 (web 0))) [] None) → ⊥ }
-    ensures not_work { FindsAsked (working (1 ∷ [])) (Some causes.Stop) (found (Some config) [] None) → ⊥ }
-    ensures took { FindsAsked (working (1 ∷ [])) (Some causes.CloudStore) (found None (1 ∷ []) None) }
-    ensures not_worked { FindsAsked (noting config) (Some causes.Stop) (found None (1 ∷ []) None) → ⊥ }
-    ensures not_the_directors { FindsAsked (working (1 ∷ [])) (Some causes.CloudStore)
+    ensures not_work { FindsAsked (working (1 ∷ [])) first_call (Some causes.Stop) (found (Some config) [] None) → ⊥ }
+    ensures took { FindsAsked (working (1 ∷ [])) first_call (Some causes.CloudStore) (found None (1 ∷ []) None) }
+    ensures not_open { FindsAsked (working (1 ∷ [])) first_call (Some causes.CloudStore)
+        (found None (2 ∷ []) None) → ⊥ }
+    ensures call_of_another { FindsAsked (working (2 ∷ [])) first_call (Some causes.CloudStore)
+        (found None (1 ∷ []) None) → ⊥ }
+    ensures not_worked { FindsAsked (noting config) first_call (Some causes.Stop) (found None (1 ∷ []) None) → ⊥ }
+    ensures not_the_directors { FindsAsked (working (1 ∷ [])) first_call (Some causes.CloudStore)
         (found (Some (upd_begin 1 (web 0))) [] None) → ⊥ }
-    ensures not_the_clouds { FindsAsked (working (1 ∷ [])) (Some causes.Store) (found None (1 ∷ []) None) → ⊥ }
-    ensures nothing { FindsAsked idle None (found None [] None) }
-    ensures unasked { FindsAsked idle None (found (Some config) [] None) → ⊥ }
+    ensures not_the_clouds { FindsAsked (working (1 ∷ [])) first_call (Some causes.Store) (found None (1 ∷ []) None) → ⊥ }
+    ensures nothing { FindsAsked idle first_call None (found None [] None) }
+    ensures unasked { FindsAsked idle first_call None (found (Some config) [] None) → ⊥ }
 {}

@@ -10,7 +10,7 @@ returns-clause-first c = record {
     left = idle;
     goes_on = record { is_open = refl; has_number = refl; has_kept = refl; has_shelf = refl };
     makes = (
-      refl,
+      record { none = refl; goes_on = refl },
       record {
         more = [];
         reply = replies.Tasks [];
@@ -22,6 +22,9 @@ returns-clause-first c = record {
   };
   failed = omega arith;
 }
+
+pub returns-clause-not_told_to_end : goal.returns-clause-not_told_to_end
+returns-clause-not_told_to_end c session = grind (arith, session.makes.makes.0.goes_on)
 
 pub returns-clause-not_second : goal.returns-clause-not_second
 returns-clause-not_second c session = omega (arith, session.makes.goes_on.has_number)

@@ -10,7 +10,7 @@ returns-clause-later c = record {
     left = idle;
     goes_on = record { is_open = refl; has_number = refl; has_kept = refl; has_shelf = tt };
     makes = (
-      refl,
+      record { none = refl; goes_on = refl },
       record {
         more = [];
         reply = replies.Tasks [];

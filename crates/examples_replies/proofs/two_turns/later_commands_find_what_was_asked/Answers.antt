@@ -16,7 +16,7 @@ returns-clause-asked c = record {
     left = noting stemcell;
     goes_on = record { is_open = refl; has_number = refl; has_kept = refl; has_shelf = refl };
     makes = (
-      refl,
+      record { none = refl; goes_on = refl },
       record {
         more = Halt Store ∷ [];
         reply = store_fault;
@@ -28,7 +28,7 @@ returns-clause-asked c = record {
       left = idle;
       goes_on = record { is_open = refl; has_number = refl; has_kept = refl; has_shelf = refl };
       makes = (
-        refl,
+        record { none = refl; goes_on = refl },
         record {
           more = stop (Some stemcell) [] None ∷ [];
           reply = replies.Restarted;

@@ -1,4 +1,4 @@
-use Rattle.std.proofs.Common.{[], ◌∷◌, arith, inl, refl}
+use Rattle.std.proofs.Common.{[], ◌∷◌, arith, refl}
 use Rattle.bosh_base.specs.declared.entry.Entry.TheVariants as entries
 use Rattle.bosh_base.specs.declared.moves.Move.TheVariants.{Note}
 use Rattle.bosh_due.specs.Outcomes.Outcome.{Opens}
@@ -11,7 +11,7 @@ use Rattle.examples_replies.proofs.whole_turns.turns_are_made.Goals as goal
 
 pub returns : goal.returns
 returns c = record {
-  takes = record { some = record { few = omega arith; numbered = (refl, tt) }; full = inl refl };
+  takes = record { some = record { few = omega arith; numbered = (refl, tt) }; ends = refl };
   together = record {
     openings = Note (entries.TaskOpen clean_up) ∷ [];
     running = runs 5 1 ∷ [];
