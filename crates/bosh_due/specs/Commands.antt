@@ -1,7 +1,7 @@
 -- What comes of each command that is carried out alone, where what is known settles it (this project's profile;
 -- bosh.io, "CLI v2"). The commands that read files have their own rules, and so have those that take others along or
 -- stand for others.
-use Rattle.std.specs.Prelude.{Bool, true, false, Result, Ok, Err, if◌then◌else◌}
+use Rattle.std.specs.Prelude.{Bool, true, false, None, Result, Ok, Err, if◌then◌else◌}
 use Rattle.bosh_asks.specs.Asked.{halting}
 use Rattle.bosh_asks.specs.declared.ask.Ask.TheVariants as asks
 use Rattle.bosh_base.specs.declared.reply.Reply.TheVariants as replies
@@ -12,7 +12,7 @@ use Rattle.bosh_due.specs.Listed.{check_reply, cloud_reply, compiled_reply, inst
 use Rattle.bosh_due.specs.Listed.{shown_task_reply, tasks_reply}
 use Rattle.bosh_due.specs.Openings.{planned}
 use Rattle.bosh_due.specs.Outcomes.{Outcome, unless_halted}
-use Rattle.bosh_due.specs.Outcomes.Outcome.{Answers, Restarts}
+use Rattle.bosh_due.specs.Outcomes.Outcome.{Answers, Refuses, Restarts}
 use Rattle.bosh_due.specs.Plans.{alteration_plan, clean_up_plan, deletion_plan, disk_deletion_plan}
 use Rattle.bosh_due.specs.Uploads.{stemcell_outcome}
 use Rattle.bosh_goal.specs.declared.change.Change.TheVariants as changes
@@ -61,7 +61,13 @@ unhalted_outcome b k (commands.Show inst path) = show_outcome b inst path
 unhalted_outcome b k (commands.Lose inst how) = lose_outcome b inst how
 unhalted_outcome b k commands.Cloud = Answers (cloud_reply b.moment.effects)
 -- a block that is kept, and what is to fail or to stop, print nothing
-unhalted_outcome b k command = Answers replies.Nothing
+unhalted_outcome b k (commands.File path) = Answers replies.Nothing
+unhalted_outcome b k (commands.FailCall doom) = Answers replies.Nothing
+unhalted_outcome b k (commands.FailStore fate appends) = Answers replies.Nothing
+unhalted_outcome b k (commands.StopCall stop) = Answers replies.Nothing
+unhalted_outcome b k (commands.StopStore when appends) = Answers replies.Nothing
+-- what files say, and commands that take others along or stand for others, are not settled here
+unhalted_outcome b k command = Refuses None
 
 -- a director that has halted refuses most commands before it looks at anything else
 abbrev pub outcome_of : Before → Command → Outcome

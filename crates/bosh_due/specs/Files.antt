@@ -25,7 +25,7 @@ pub record FilesRead : Type 0 where
   pub kept : List KeptFile
   -- what the shelf has, where it tells it
   pub shelf : Option Shelved
-  -- by how much the count of the shelf's faults rose meanwhile
+  -- how often the shelf failed meanwhile, at most: all turns together, as often as the count of its faults rose
   pub failures : ℕ
 
 -- ---- what is read

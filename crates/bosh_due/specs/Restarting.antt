@@ -1,11 +1,12 @@
 -- What a restart makes and is told (this project's profile). The stores are those that a permitted session left, or
 -- that were empty: no body of them is damaged, and none is told to be.
-use Rattle.std.specs.Prelude.{◌≡◌, ◌⊎◌, ℕ, Bool, true, false, Option, Some, None, List, [], ◌∷◌, filter, map}
+use Rattle.std.specs.Prelude.{◌≡◌, ◌⊎◌, ℕ, Bool, true, false, Option, Some, None, List, [], ◌∷◌, filter, map, if◌then◌else◌}
 use Rattle.bosh_answers.specs.Ends.{told_halt}
 use Rattle.bosh_base.specs.Cloud.{numbers_to}
 use Rattle.bosh_base.specs.declared.entry.Entry.{Entry}
 use Rattle.bosh_base.specs.declared.entry.Entry.TheVariants as entries
 use Rattle.bosh_base.specs.declared.failure.Failure.TheVariants.{Interrupted}
+use Rattle.bosh_base.specs.declared.moves.Cause.{Cause}
 use Rattle.bosh_base.specs.declared.moves.Cause.TheVariants as causes
 use Rattle.bosh_base.specs.declared.moves.Move.{Move}
 use Rattle.bosh_base.specs.declared.moves.Move.TheVariants as moves
@@ -35,6 +36,10 @@ after_halt true more = Some more
 after_halt false (moves.Halt causes.Stop ∷ more) = Some more
 after_halt false more = None
 
+-- .. and for that cause
+abbrev pub halted_for : Before → Option Cause
+halted_for b = if b.moment.halted then b.last_halt else Some causes.Stop
+
 -- ---- what is told
 
 -- a store was not read, since it failed
@@ -52,7 +57,7 @@ EndsInterrupted due more reply = ⊥
 abbrev pub StartsAt : Before → Option (List Move) → Reply → Type 0
 StartsAt b (Some []) reply = IsStoreUnread reply
 StartsAt b (Some (moves.Stop stop ∷ more)) reply =
-    FindsAsked b.under_way b.moment.calls b.last_halt stop
+    FindsAsked b.under_way b.moment.calls (halted_for b) stop
     × EndsInterrupted (interruptions (stopping b.moment stop).known) more reply
 StartsAt b more reply = ⊥
 
@@ -68,7 +73,7 @@ MayEndInterrupted due more = ⊥
 abbrev pub MayStartAt : Before → Option (List Move) → Type 0
 MayStartAt b (Some []) = Unit {0}
 MayStartAt b (Some (moves.Stop stop ∷ more)) =
-    FindsAsked b.under_way b.moment.calls b.last_halt stop
+    FindsAsked b.under_way b.moment.calls (halted_for b) stop
     × MayEndInterrupted (interruptions (stopping b.moment stop).known) more
 MayStartAt b more = ⊥
 

@@ -11,7 +11,7 @@ use Rattle.bosh_history.specs.Moments.{OpenCall}
 use Rattle.bosh_history.specs.Words.{holds, is_among}
 
 pub data UnderWay : Type 0 where
-  -- nothing is, as long as the director goes on
+  -- nothing is: the director goes on, or halted where no entry was noted and no task worked on
   idle : UnderWay
   -- an entry is noted
   noting : Entry → UnderWay

@@ -6,8 +6,10 @@ use Rattle.bosh_base.specs.declared.reply.Reply.{Reply}
 use Rattle.bosh_base.specs.declared.moves.Cause.TheVariants.{Stop}
 use Rattle.bosh_base.specs.declared.moves.Move.TheVariants.{Halt}
 use Rattle.bosh_due.specs.Before.{with_moves}
+use Rattle.bosh_due.specs.Commands.{outcome_of}
 use Rattle.bosh_due.specs.Due.{DueAt, DueBy}
 use Rattle.bosh_due.specs.Ends.{EndsIn}
+use Rattle.bosh_due.specs.Outcomes.Outcome.{Refuses}
 use Rattle.bosh_due.specs.Together.{Running, by_end, halts_in_work}
 use Rattle.bosh_due.specs.UnderWay.{UnderWay}
 use Rattle.bosh_due.specs.UnderWay.UnderWay.{idle}
@@ -52,6 +54,10 @@ abbrev pub NeverEndsAfter : ℕ → ℕ → Reply → Type 0
 NeverEndsAfter noted count reply =
     (built : Builder) →
     EndsIn (deploys 1 two_g1 (web 0 ∷ web 1 ∷ [])) (start prepared noted) (take count (two built)) reply → ⊥
+
+-- nothing is told of a command that is not settled by what is known
+abbrev pub IsUnsettled : Command → Type 0
+IsUnsettled command = outcome_of (start prepared 2) command ≡ Refuses None
 
 -- a line that is no command is answered so
 abbrev pub TellsLine : Moment → LineFault → Reply → Type 0

@@ -27,7 +27,8 @@ pub use listings::{instances_are_listed, records_are_listed, the_cloud_is_listed
 pub use one_turn::{commands_are_numbered, shelves_may_tell_later};
 pub use others::{
     calls_end_before_room_is_out, halts_come_before_ends, lines_and_room_are_told,
-    stops_find_what_was_asked, tasks_are_told_by_end, what_is_under_way_stays,
+    some_commands_have_their_own_rules, stops_find_what_was_asked, tasks_are_told_by_end,
+    what_is_under_way_stays,
 };
 pub use releases::releases_are_told;
 pub use restarts::{restarts_are_told, restarts_find_what_was_asked};

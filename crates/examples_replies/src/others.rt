@@ -10,7 +10,7 @@ ghost use Rattle.examples_histories.specs.Scenes.{Builder, config, prepared, upd
 ghost use Rattle.examples_histories.specs.Together.{together};
 ghost use Rattle.examples_histories.specs.Values.{web};
 ghost use Rattle.examples_replies.specs.Halted.{Stays};
-ghost use Rattle.examples_replies.specs.Others.{halts_after, AreToldSo, EndsAfter, NeverEndsAfter, NeverTellsAfter, NeverTellsLine, TellsAfter, TellsLine, first_call, found, runs};
+ghost use Rattle.examples_replies.specs.Others.{halts_after, AreToldSo, EndsAfter, IsUnsettled, NeverEndsAfter, NeverTellsAfter, NeverTellsLine, TellsAfter, TellsLine, first_call, found, runs};
 ghost use Rattle.examples_replies.specs.Replies.{bare, naming};
 
 /// Tasks that ran together are told as they ended, and then those that have no end.
@@ -42,6 +42,16 @@ pub fn calls_end_before_room_is_out()
     ensures not_begun { NeverEndsAfter 999997 3 full_reply }
     ensures not_performed { NeverEndsAfter 999997 4 full_reply }
     ensures room { NeverEndsAfter 999994 5 full_reply }
+{}
+
+/// A command that reads files, takes others along or stands for others has its own rules, and one that keeps a block or
+/// sets a fault prints nothing.
+pub fn some_commands_have_their_own_rules()
+    ensures config { IsUnsettled (commands.UpdateCloudConfig (codes "c.yml")) }
+    ensures others { IsUnsettled (commands.Together 2) }
+    ensures made { IsUnsettled (commands.Generate 3) }
+    ensures block { TellsAfter 2 prepared (commands.File (codes "c.yml")) replies.Nothing }
+    ensures no_config { NeverTellsAfter 2 prepared (commands.File (codes "c.yml")) replies.ConfigUpdated }
 {}
 
 /// What was under way as a director halted stays so, until it starts anew.
