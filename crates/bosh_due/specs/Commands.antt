@@ -10,7 +10,7 @@ use Rattle.bosh_due.specs.Before.{Before}
 use Rattle.bosh_due.specs.Jobs.{lose_outcome, read_outcome, show_outcome, write_outcome}
 use Rattle.bosh_due.specs.Listed.{check_reply, cloud_reply, compiled_reply, instances_reply, orphans_reply, releases_reply}
 use Rattle.bosh_due.specs.Listed.{shown_task_reply, tasks_reply}
-use Rattle.bosh_due.specs.Openings.{planned}
+use Rattle.bosh_due.specs.Openings.{planned_outcome}
 use Rattle.bosh_due.specs.Outcomes.{Outcome, unless_halted}
 use Rattle.bosh_due.specs.Outcomes.Outcome.{Answers, Refuses, Restarts}
 use Rattle.bosh_due.specs.Plans.{alteration_plan, clean_up_plan, deletion_plan, disk_deletion_plan}
@@ -41,15 +41,15 @@ asks_alone (Err fault) = true
 abbrev pub unhalted_outcome : Before → Known → Command → Outcome
 unhalted_outcome b k (commands.UploadStemcell stemcell) = stemcell_outcome b stemcell
 unhalted_outcome b k (commands.Instances dep) = Answers (instances_reply k dep)
-unhalted_outcome b k (commands.Recreate inst) = planned b (asks.Recreate inst) (alteration_plan k inst changes.Fresh)
-unhalted_outcome b k (commands.Start inst) = planned b (asks.Start inst) (alteration_plan k inst (changes.To Running))
-unhalted_outcome b k (commands.Stop inst hard) = planned b (asks.Halt inst hard) (alteration_plan k inst (halting hard))
-unhalted_outcome b k (commands.DeleteDeployment dep) = planned b (asks.DeleteDeployment dep) (deletion_plan k dep)
+unhalted_outcome b k (commands.Recreate inst) = planned_outcome b (asks.Recreate inst) (alteration_plan k inst changes.Fresh)
+unhalted_outcome b k (commands.Start inst) = planned_outcome b (asks.Start inst) (alteration_plan k inst (changes.To Running))
+unhalted_outcome b k (commands.Stop inst hard) = planned_outcome b (asks.Halt inst hard) (alteration_plan k inst (halting hard))
+unhalted_outcome b k (commands.DeleteDeployment dep) = planned_outcome b (asks.DeleteDeployment dep) (deletion_plan k dep)
 unhalted_outcome b k (commands.CloudCheck dep) = Answers (check_reply k b.moment.effects dep)
-unhalted_outcome b k (commands.Resolve inst) = planned b (asks.Resolve inst) (alteration_plan k inst changes.Same)
+unhalted_outcome b k (commands.Resolve inst) = planned_outcome b (asks.Resolve inst) (alteration_plan k inst changes.Same)
 unhalted_outcome b k commands.OrphanedDisks = Answers (orphans_reply k)
-unhalted_outcome b k (commands.DeleteDisk disk) = planned b (asks.DeleteDisk disk) (disk_deletion_plan k disk)
-unhalted_outcome b k commands.CleanUp = planned b asks.CleanUp (clean_up_plan k)
+unhalted_outcome b k (commands.DeleteDisk disk) = planned_outcome b (asks.DeleteDisk disk) (disk_deletion_plan k disk)
+unhalted_outcome b k commands.CleanUp = planned_outcome b asks.CleanUp (clean_up_plan k)
 unhalted_outcome b k commands.Tasks = Answers (tasks_reply k)
 unhalted_outcome b k (commands.Task task) = Answers (shown_task_reply k task)
 unhalted_outcome b k commands.Releases = Answers (releases_reply k)

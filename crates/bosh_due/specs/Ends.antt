@@ -14,20 +14,20 @@ use Rattle.bosh_due.specs.Outcomes.{MakesMove, OpensAndRuns, Outcome, has_ended,
 use Rattle.bosh_due.specs.Outcomes.Outcome.{Answers, Changes, Notes, Opens, Refuses, Restarts}
 use Rattle.bosh_due.specs.Restarting.{MayStartAt, StartsAt, after_halt, start_under_way}
 use Rattle.bosh_due.specs.UnderWay.{UnderWay}
-use Rattle.bosh_due.specs.UnderWay.UnderWay.{changing, idle, noting, working}
+use Rattle.bosh_due.specs.UnderWay.UnderWay.{altering, idle, appending, working}
 use Rattle.bosh_due.specs.Work.{is_work_move}
 
 -- ---- what is under way
 
 -- the task was to open, or was open, as the director halted
 abbrev pub opening_under_way : TaskOpen → List Move → UnderWay
-opening_under_way opening (moves.Halt cause ∷ []) = noting (entries.TaskOpen opening)
+opening_under_way opening (moves.Halt cause ∷ []) = appending (entries.TaskOpen opening)
 opening_under_way opening more = working (opening.task ∷ [])
 
 -- what these moves of a command were about as they ended
 abbrev pub command_under_way : Outcome → Before → List Move → UnderWay
-command_under_way (Notes entry good) b more = noting entry
-command_under_way (Changes move entry good) b more = changing entry
+command_under_way (Notes entry good) b more = appending entry
+command_under_way (Changes move entry good) b more = altering entry
 command_under_way (Opens opening) b more = opening_under_way opening more
 command_under_way Restarts b more = start_under_way b (after_halt b.moment.halted more)
 command_under_way outcome b more = idle

@@ -43,9 +43,9 @@ opening_with k ask goal = record {
 }
 
 -- that there is no room for an entry comes behind all other refusals
-abbrev pub planned : Before → Ask → Plan → Outcome
-planned b ask (Err fault) = Refuses (book_told fault)
-planned b ask (Ok goal) =
+abbrev pub planned_outcome : Before → Ask → Plan → Outcome
+planned_outcome b ask (Err fault) = Refuses (book_told fault)
+planned_outcome b ask (Ok goal) =
     if is_out_of_room b then Refuses (book_told book.Full) else Opens (opening_with b.moment.known ask goal)
 
 -- ---- deploys
@@ -55,7 +55,7 @@ pub data OpensDeploy (b : Before) (it : Deploy) (outcome : Outcome) : Type 0 whe
   halted : b.moment.halted ≡ true → outcome ≡ Refuses (book_told book.Stopped) → OpensDeploy b it outcome
   going_on :
       (plan : Plan) → b.moment.halted ≡ false → PlansDeploy b.moment.known it plan →
-      outcome ≡ planned b (asks.Deploy it) plan → OpensDeploy b it outcome
+      outcome ≡ planned_outcome b (asks.Deploy it) plan → OpensDeploy b it outcome
 
 -- the manifest that a text is, or its first fault
 pub data DeploysText

@@ -79,14 +79,14 @@ abbrev pub lacks_room : Known → List ℕ → Bool
 lacks_room k dep = is_none (k.goal dep) && is_full (dep_rows k)
 
 -- a row has the disk
-abbrev pub is_owned : Known → ℕ → Bool
-is_owned k disk = list_any (λ i. list_any (λ it. it.disk == disk) (k.row i).disks) k.instances
+abbrev pub is_in_a_row : Known → ℕ → Bool
+is_in_a_row k disk = list_any (λ i. list_any (λ it. it.disk == disk) (k.row i).disks) k.instances
 
 -- the disk belongs to no instance
 abbrev pub orphaned : Known → ℕ → Result Bool BookFault
 orphaned k disk =
     if is_among eqb disk k.orphans then Ok true
-    else if is_owned k disk then Err (book.NotOrphaned disk) else Err (book.NoDisk disk)
+    else if is_in_a_row k disk then Err (book.NotOrphaned disk) else Err (book.NoDisk disk)
 
 -- ---- goals
 

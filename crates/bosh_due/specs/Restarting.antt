@@ -15,7 +15,7 @@ use Rattle.bosh_base.specs.declared.reply.Reply.TheVariants.{Restarted}
 use Rattle.bosh_due.specs.Before.{Before}
 use Rattle.bosh_due.specs.Outcomes.{is_directors_halt}
 use Rattle.bosh_due.specs.UnderWay.{FindsAsked, UnderWay}
-use Rattle.bosh_due.specs.UnderWay.UnderWay.{idle, noting}
+use Rattle.bosh_due.specs.UnderWay.UnderWay.{idle, appending}
 use Rattle.bosh_history.specs.Held.{is_open}
 use Rattle.bosh_history.specs.Known.{Known}
 use Rattle.bosh_history.specs.Moments.{stopping}
@@ -81,7 +81,7 @@ MayStartAt b more = ⊥
 
 -- the next task was to end as the director halted
 abbrev pub next_interruption : List Entry → List Move → UnderWay
-next_interruption (end ∷ due) (moves.Halt cause ∷ []) = noting end
+next_interruption (end ∷ due) (moves.Halt cause ∷ []) = appending end
 next_interruption (end ∷ due) (move ∷ more) = next_interruption due more
 next_interruption due more = idle
 

@@ -14,23 +14,23 @@ pub data UnderWay : Type 0 where
   -- nothing is: the director goes on, or halted where no entry was noted and no task worked on
   idle : UnderWay
   -- an entry is noted
-  noting : Entry → UnderWay
+  appending : Entry → UnderWay
   -- a write or a loss is noted in the cloud
-  changing : Entry → UnderWay
+  altering : Entry → UnderWay
   -- tasks are worked on
   working : List ℕ → UnderWay
 
 -- the entry whose append was not answered
 abbrev pub MayBeKept : UnderWay → Option Entry → Type 0
 MayBeKept under None = Unit {0}
-MayBeKept (noting it) (Some kept) = kept ≡ it
+MayBeKept (appending it) (Some kept) = kept ≡ it
 MayBeKept (working tasks) (Some kept) = is_work tasks kept ≡ true
 MayBeKept under (Some kept) = ⊥
 
 -- the write or loss whose append was not answered
 abbrev pub MayBeWritten : UnderWay → Option Entry → Type 0
 MayBeWritten under None = Unit {0}
-MayBeWritten (changing it) (Some wrote) = wrote ≡ it
+MayBeWritten (altering it) (Some wrote) = wrote ≡ it
 MayBeWritten under (Some wrote) = ⊥
 
 -- a call of one of the tasks is open

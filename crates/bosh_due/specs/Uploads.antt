@@ -1,6 +1,6 @@
 -- Uploads of releases and stemcells, and the cloud config (bosh.io, "CLI v2", upload-release, upload-stemcell and
 -- update-cloud-config).
-use Rattle.std.specs.Prelude.{◌≡◌, ◌&&◌, ◌++◌, ◌∷◌, [], true, false, ℕ, Bool, List, length, Option, Some, None, find, Result, Ok, Err}
+use Rattle.std.specs.Prelude.{◌≡◌, ◌⊎◌, ◌&&◌, ◌++◌, ◌∷◌, [], true, false, ℕ, Bool, List, length, Option, Some, None, find, Result, Ok, Err}
 use Rattle.std.specs.Prelude.{if◌then◌else◌}
 use Rattle.std.specs.List.{list_any}
 use Rattle.std.specs.Str.{bytes_eq}
@@ -56,12 +56,9 @@ recorded_release releases r = find (λ it. bytes_eq it.name r.name && same_versi
 abbrev pub AreSame : Release → Release → Type 0
 AreSame there r = (there.jobs ≡ r.jobs) × (there.packages ≡ r.packages)
 
--- it has a version, is sound, and so are those that are recorded, also with it
-pub record GoesWith (releases : List Release) (r : Release) : Type 0 where
-  pub version : is_version r.version ≡ true
-  pub all_sound : AreSound releases
-  pub is_sound : IsSound r
-  pub alike : AreAlike (releases ++ r ∷ [])
+-- a release goes with those that are recorded: these are sound, and so are they with it
+abbrev pub GoesWith : List Release → Release → Type 0
+GoesWith releases r = AreSound releases × (IsSound r × AreAlike (releases ++ r ∷ []))
 
 abbrev pub added : Release → ReleaseAdded
 added r = record { name = r.name; version = r.version; jobs = length r.jobs; packages = length r.packages }
@@ -80,11 +77,11 @@ pub data RecordsRelease (b : Before) (r : Release) (outcome : Outcome) : Type 0 
       ¬ AreSame there r → outcome ≡ differing_outcome r.name r.version → RecordsRelease b r outcome
   new :
       b.moment.halted ≡ false → recorded_release b.moment.known.releases r ≡ None →
-      GoesWith b.moment.known.releases r →
+      is_version r.version ≡ true → GoesWith b.moment.known.releases r →
       outcome ≡ Notes (entries.Release r) (replies.ReleaseAdded (added r)) → RecordsRelease b r outcome
   unfit :
       b.moment.halted ≡ false → recorded_release b.moment.known.releases r ≡ None →
-      ¬ GoesWith b.moment.known.releases r →
+      (is_version r.version ≡ false) ⊎ (¬ GoesWith b.moment.known.releases r) →
       outcome ≡ differing_outcome r.name r.version → RecordsRelease b r outcome
 
 -- the release that files spell, or their first fault

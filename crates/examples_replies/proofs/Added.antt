@@ -10,12 +10,12 @@ pub not_added : (b : Before) (r was : Release) → recorded_release b.moment.kno
 not_added b r was is (halted at told) = grind (arith, told)
 not_added b r was is (same it running known alike told) = grind (arith, told)
 not_added b r was is (other it running known differs told) = grind (arith, told)
-not_added b r was is (new running none fits told) = grind (arith, is, none)
+not_added b r was is (new running none version fits told) = grind (arith, is, none)
 not_added b r was is (unfit running none fits told) = grind (arith, told)
 
 pub not_there : (b : Before) (r : Release) → recorded_release b.moment.known.releases r ≡ None → RecordsRelease b r (there r) → ⊥
 not_there b r none (halted at told) = grind (arith, told)
 not_there b r none (same it running is alike told) = grind (arith, is, none)
 not_there b r none (other it running is differs told) = grind (arith, told)
-not_there b r none (new running is fits told) = grind (arith, told)
+not_there b r none (new running is version fits told) = grind (arith, told)
 not_there b r none (unfit running is fits told) = grind (arith, told)

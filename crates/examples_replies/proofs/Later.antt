@@ -12,7 +12,7 @@ use Rattle.bosh_due.specs.InTurn.{at_first}
 use Rattle.bosh_due.specs.Outcomes.{Outcome}
 use Rattle.bosh_due.specs.Outcomes.Outcome.{Notes, Restarts}
 use Rattle.bosh_due.specs.UnderWay.{MayBeKept}
-use Rattle.bosh_due.specs.UnderWay.UnderWay.{noting}
+use Rattle.bosh_due.specs.UnderWay.UnderWay.{appending}
 use Rattle.bosh_history.specs.Moments.{nothing}
 use Rattle.examples_histories.specs.Scenes.{config, stop}
 use Rattle.examples_replies.specs.Stemcells.{jammy}
@@ -33,7 +33,7 @@ pub not_found : IsFound config → ⊥
 not_found session =
     let halted = session.makes.makes.1 in
     let first : halted.more ≡ Halt Store ∷ [] = one_before _ _ _ halted.more halted.is in
-    let left : session.makes.left ≡ noting stemcell =
+    let left : session.makes.left ≡ appending stemcell =
     subst (λ m. session.makes.left ≡ leaves_under_way added (before_of nothing [] (at_first nothing).under_way) m)
     first halted.due.is_left
     in
@@ -49,6 +49,6 @@ not_found session =
     started.reply)
     second started.due.ends
     in
-    let kept : MayBeKept (noting stemcell) (Some config) =
+    let kept : MayBeKept (appending stemcell) (Some config) =
     subst (λ under. MayBeKept under (Some config)) left ends.0.kept
     in grind (arith, kept)

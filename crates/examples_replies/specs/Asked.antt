@@ -4,7 +4,7 @@ use Rattle.bosh_asks.specs.declared.ask.Ask.{Ask}
 use Rattle.bosh_base.specs.declared.goal.Goal.{Goal}
 use Rattle.bosh_base.specs.declared.task.TaskKind.{TaskKind}
 use Rattle.bosh_cloudcfg.specs.declared.config.Config.{Config}
-use Rattle.bosh_due.specs.Openings.{planned}
+use Rattle.bosh_due.specs.Openings.{planned_outcome}
 use Rattle.bosh_due.specs.Outcomes.{Outcome}
 use Rattle.bosh_due.specs.Outcomes.Outcome.{Opens}
 use Rattle.bosh_goal.specs.Anew.{anew}
@@ -44,4 +44,4 @@ opens task kind goal =
 -- what is asked with its goal comes to this
 abbrev pub PlansAt : Moment → ℕ → History → Ask → Goal → Outcome → Type 0
 PlansAt m k history ask goal outcome =
-    (built : Builder) → planned (at m k (history built)) ask (Ok (Some goal)) ≡ outcome
+    (built : Builder) → planned_outcome (at m k (history built)) ask (Ok (Some goal)) ≡ outcome

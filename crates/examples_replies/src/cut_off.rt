@@ -4,7 +4,7 @@ ghost use Rattle.bosh_base.specs.declared.moves.Cause.TheVariants as causes;
 ghost use Rattle.bosh_base.specs.declared.moves.Move.TheVariants.{Halt, Note};
 ghost use Rattle.bosh_due.specs.Turns.{TakesAll};
 ghost use Rattle.bosh_due.specs.UnderWay.{UnderWay};
-ghost use Rattle.bosh_due.specs.UnderWay.UnderWay.{idle, noting, working};
+ghost use Rattle.bosh_due.specs.UnderWay.UnderWay.{idle, appending, working};
 ghost use Rattle.bosh_lines.specs.declared.command.Command.TheVariants as commands;
 ghost use Rattle.examples_replies.specs.AtOnce.{clean_up};
 ghost use Rattle.examples_replies.specs.CutOff.{IsRefusedUnder, MakesUntold, OpensUntold, one_of_two, clean_up_opened};
@@ -14,7 +14,7 @@ ghost use Rattle.examples_replies.specs.Stemcells.{jammy};
 pub fn openings_are_cut_off()
     ensures none { OpensUntold commands.CleanUp [] idle }
     ensures opened { OpensUntold commands.CleanUp (clean_up_opened ∷ []) idle }
-    ensures halted { OpensUntold commands.CleanUp (Halt causes.Store ∷ []) (noting (entries.TaskOpen clean_up)) }
+    ensures halted { OpensUntold commands.CleanUp (Halt causes.Store ∷ []) (appending (entries.TaskOpen clean_up)) }
     ensures run { (now : UnderWay) → OpensUntold commands.CleanUp (clean_up_opened ∷ Note (entries.TaskDone 1) ∷ []) now → ⊥ }
     ensures no_task { (now : UnderWay) → OpensUntold (commands.UploadStemcell (jammy (codes "1.2")))
         (Note (entries.Stemcell (jammy (codes "1.2"))) ∷ []) now → ⊥ }

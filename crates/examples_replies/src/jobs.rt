@@ -1,6 +1,6 @@
 ghost use Rattle.std.specs.Prelude.{[], codes};
 ghost use Rattle.bosh_base.specs.declared.reply.Reply.TheVariants as replies;
-ghost use Rattle.bosh_due.specs.UnderWay.UnderWay.{changing, idle};
+ghost use Rattle.bosh_due.specs.UnderWay.UnderWay.{altering, idle};
 ghost use Rattle.bosh_fates.specs.declared.fate.Fate.TheVariants.{Lose};
 ghost use Rattle.bosh_report.specs.Owner.{inst_text};
 ghost use Rattle.bosh_lines.specs.declared.command.Command.TheVariants as commands;
@@ -24,7 +24,7 @@ pub fn disks_are_written_and_read()
         replies.Written }
     ensures not_written { NeverTells prepared 23 migrated (commands.Write (web 0) (codes "hello")) replies.Written }
     ensures failed { EndsFrom idle prepared 23 23 wrote (commands.Write (web 0) (codes "hello"))
-        (bare (codes "world") (codes "CloudStore")) (changing (write 1 (codes "hello"))) }
+        (bare (codes "world") (codes "CloudStore")) (altering (write 1 (codes "hello"))) }
     ensures not_so { NeverEnds prepared 23 23 wrote (commands.Write (web 0) (codes "hello")) replies.Written }
     ensures no_disk { Tells prepared 25 two (commands.Write (web 0) (codes "hello"))
         (naming (codes "world") (codes "NotRunning") (inst_text (web 0))) }

@@ -3,7 +3,7 @@ ghost use Rattle.bosh_base.specs.declared.moves.Cause.TheVariants as causes;
 ghost use Rattle.bosh_base.specs.declared.reply.Reply.TheVariants as replies;
 ghost use Rattle.bosh_due.specs.Outcomes.{full_reply};
 ghost use Rattle.bosh_due.specs.UnderWay.{FindsAsked};
-ghost use Rattle.bosh_due.specs.UnderWay.UnderWay.{changing, idle, noting, working};
+ghost use Rattle.bosh_due.specs.UnderWay.UnderWay.{altering, idle, appending, working};
 ghost use Rattle.bosh_line_words.specs.declared.fault.LineFault.TheVariants as lines;
 ghost use Rattle.bosh_lines.specs.declared.command.Command.TheVariants as commands;
 ghost use Rattle.examples_histories.specs.Scenes.{Builder, config, prepared, upd_begin, write};
@@ -56,20 +56,20 @@ pub fn some_commands_have_their_own_rules()
 
 /// What was under way as a director halted stays so, until it starts anew.
 pub fn what_is_under_way_stays()
-    ensures stays { Stays (noting config) }
+    ensures stays { Stays (appending config) }
     ensures goes { Stays idle → ⊥ }
 {}
 
 /// A stop finds only what was under way, in the store in which it was lost sight of.
 pub fn stops_find_what_was_asked()
-    ensures wrote { FindsAsked (changing (write 1 (codes "hello"))) first_call (Some causes.CloudStore)
+    ensures wrote { FindsAsked (altering (write 1 (codes "hello"))) first_call (Some causes.CloudStore)
         (found None [] (Some (write 1 (codes "hello")))) }
-    ensures other_text { FindsAsked (changing (write 1 (codes "hello"))) first_call (Some causes.CloudStore)
+    ensures other_text { FindsAsked (altering (write 1 (codes "hello"))) first_call (Some causes.CloudStore)
         (found None [] (Some (write 1 (codes "world")))) → ⊥ }
-    ensures other_disk { FindsAsked (changing (write 1 (codes "hello"))) first_call (Some causes.CloudStore)
+    ensures other_disk { FindsAsked (altering (write 1 (codes "hello"))) first_call (Some causes.CloudStore)
         (found None [] (Some (write 2 (codes "hello")))) → ⊥ }
-    ensures kept { FindsAsked (noting config) first_call (Some causes.Store) (found (Some config) [] None) }
-    ensures not_written { FindsAsked (noting config) first_call (Some causes.Store)
+    ensures kept { FindsAsked (appending config) first_call (Some causes.Store) (found (Some config) [] None) }
+    ensures not_written { FindsAsked (appending config) first_call (Some causes.Store)
         (found None [] (Some (write 1 (codes "hello")))) → ⊥ }
     ensures work { FindsAsked (working (1 ∷ [])) first_call (Some causes.Stop) (found (Some (upd_begin 1 (web 0))) [] None) }
     ensures other_task { FindsAsked (working (1 ∷ [])) first_call (Some causes.Stop)
@@ -80,7 +80,7 @@ pub fn stops_find_what_was_asked()
         (found None (2 ∷ []) None) → ⊥ }
     ensures call_of_another { FindsAsked (working (2 ∷ [])) first_call (Some causes.CloudStore)
         (found None (1 ∷ []) None) → ⊥ }
-    ensures not_worked { FindsAsked (noting config) first_call (Some causes.Stop) (found None (1 ∷ []) None) → ⊥ }
+    ensures not_worked { FindsAsked (appending config) first_call (Some causes.Stop) (found None (1 ∷ []) None) → ⊥ }
     ensures not_the_directors { FindsAsked (working (1 ∷ [])) first_call (Some causes.CloudStore)
         (found (Some (upd_begin 1 (web 0))) [] None) → ⊥ }
     ensures not_the_clouds { FindsAsked (working (1 ∷ [])) first_call (Some causes.Store) (found None (1 ∷ []) None) → ⊥ }

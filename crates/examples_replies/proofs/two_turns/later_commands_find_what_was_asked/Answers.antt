@@ -3,7 +3,7 @@ use Rattle.std.specs.Prelude.{None, Some}
 use Rattle.bosh_base.specs.declared.moves.Cause.TheVariants.{Store}
 use Rattle.bosh_base.specs.declared.moves.Move.TheVariants.{Halt}
 use Rattle.bosh_base.specs.declared.reply.Reply.TheVariants as replies
-use Rattle.bosh_due.specs.UnderWay.UnderWay.{idle, noting}
+use Rattle.bosh_due.specs.UnderWay.UnderWay.{idle, appending}
 use Rattle.examples_histories.specs.Scenes.{stop}
 use Rattle.examples_replies.proofs.Later.{not_found}
 use Rattle.examples_replies.specs.TwoTurns.{stemcell, store_fault}
@@ -13,7 +13,7 @@ pub returns-clause-asked : goal.returns-clause-asked
 returns-clause-asked c = record {
   are = refl;
   makes = record {
-    left = noting stemcell;
+    left = appending stemcell;
     goes_on = record { is_open = refl; has_number = refl; has_kept = refl; has_shelf = refl };
     makes = (
       record { none = refl; goes_on = refl },
