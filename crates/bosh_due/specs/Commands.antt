@@ -63,7 +63,7 @@ unhalted_outcome b k commands.Cloud = Answers (cloud_reply b.moment.effects)
 -- a block that is kept, and what is to fail or to stop, print nothing
 unhalted_outcome b k (commands.File path) = Answers replies.Nothing
 unhalted_outcome b k (commands.FailCall doom) = Answers replies.Nothing
-unhalted_outcome b k (commands.FailStore fate appends) = Answers replies.Nothing
+unhalted_outcome b k (commands.FailStore how appends) = Answers replies.Nothing
 unhalted_outcome b k (commands.StopCall stop) = Answers replies.Nothing
 unhalted_outcome b k (commands.StopStore when appends) = Answers replies.Nothing
 -- what files say, and commands that take others along or stand for others, are not settled here
