@@ -1,8 +1,9 @@
--- What a director does with a command, whatever it is over: it answers it; it opens its task; it carries tasks to their
--- ends (this project's profile). The moves `was` are those before, and `now` those after; `under` is what was under way
+-- What a director does, whatever it is over: it is loaded; it notes replies; it answers a command; it opens its task; it
+-- carries tasks to their ends (this project's profile). The moves `was` are those before, and `now` those after; `under` is what was under way
 -- before, and `left` what is after. Where no call is open on a director that goes on, none is open on it afterwards.
-use Rattle.std.specs.Prelude.{◌≡◌, ◌++◌, true, false, ℕ, List, IfOk, OnErr, OnOk, Result}
+use Rattle.std.specs.Prelude.{◌≡◌, ◌++◌, true, false, ℕ, List, [], ◌∷◌, IfOk, OnErr, OnOk, Result}
 use Rattle.std.specs.List.{list_all}
+use Rattle.bosh_answers.specs.declared.files.KeptFile.{KeptFile}
 use Rattle.bosh_base.specs.declared.moves.Move.{Move}
 use Rattle.bosh_base.specs.declared.reply.Reply.{Reply}
 use Rattle.bosh_due.specs.Before.{Before, HasSettledCalls, before_of}
@@ -10,16 +11,38 @@ use Rattle.bosh_due.specs.Commands.{asks_alone}
 use Rattle.bosh_due.specs.Due.{Due, MakesNone, MakesOnly}
 use Rattle.bosh_due.specs.Ends.{Makes, Meets, leaves_under_way}
 use Rattle.bosh_due.specs.Files.{FilesRead}
+use Rattle.bosh_due.specs.Generating.{said_reply}
+use Rattle.bosh_due.specs.InTurn.{loaded_moves}
 use Rattle.bosh_due.specs.Outcomes.{Outcome, end_reply, may_be_left}
 use Rattle.bosh_due.specs.Together.{Came, ComesAt, OpensAtMost, OpensOrTells, halts_in_work, is_run, run_leaves}
+use Rattle.bosh_due.specs.Turns.{kept_after}
 use Rattle.bosh_due.specs.UnderWay.{UnderWay}
+use Rattle.bosh_due.specs.UnderWay.UnderWay.{idle}
 use Rattle.bosh_history.specs.Moments.{Opening}
 use Rattle.bosh_input.specs.declared.request.Request.{Request}
 
+-- ---- the load, and replies
+
+-- A director is loaded: the tasks that it finds open end, and nothing is under way.
+pub record IsLoaded (o : Opening) (now : List Move) (left : UnderWay) : Type 0 where
+  pub ends : now ≡ loaded_moves o
+  pub rests : left ≡ idle
+
+-- The reply of the command of a number is noted, and nothing else happens; for want of memory it is not.
+pub record SaysReply {T F : Type 0} (was : List Move) (under : UnderWay) (number : ℕ) (reply : Reply)
+    (result : Result T F) (now : List Move) (left : UnderWay) : Type 0 where
+  pub said : OnOk result (now ≡ was ++ said_reply number reply ∷ [])
+  pub unsaid : OnErr result (now ≡ was)
+  pub stays : left ≡ under
+
+-- ---- commands
+
 -- A command is carried out and answered; for want of memory no reply comes, and nothing is done but what it asks for.
--- One that takes others along or stands for others is left to the session.
+-- One that takes others along or stands for others is left to the session. `kept` are the files that blocks kept before,
+-- and `keeps` those after.
 pub record AnswersCommand {F : Type 0} (o : Opening) (was : List Move) (under : UnderWay) (request : Request)
-    (files : FilesRead) (result : Result Reply F) (now : List Move) (left : UnderWay) : Type 0 where
+    (kept : List KeptFile) (files : FilesRead) (result : Result Reply F) (now : List Move) (left : UnderWay)
+    (keeps : List KeptFile) : Type 0 where
   pub more : List Move
   pub comes : now ≡ was ++ more
   pub due :
@@ -27,6 +50,8 @@ pub record AnswersCommand {F : Type 0} (o : Opening) (was : List Move) (under : 
   pub only : asks_alone request.asked ≡ true → OnErr result (MakesOnly o was under request files more left)
   pub none : asks_alone request.asked ≡ false → MakesNone (before_of o was under) more left
   pub settles : HasSettledCalls (before_of o was under) → HasSettledCalls (before_of o now left)
+  pub finds : files.kept ≡ kept
+  pub file : OnOk result (keeps ≡ kept_after request kept)
 
 -- the same of what a command stands for
 pub record AnswersAsked {F : Type 0} (Comes : Before → Outcome → Type 0) (o : Opening) (was : List Move)
@@ -48,7 +73,7 @@ pub record OpensAs
 
 -- .. or for want of memory nothing comes of it, and no work is done for its task
 pub record OpensTaskOf {F : Type 0} (o : Opening) (was : List Move) (under : UnderWay) (request : Request)
-    (files : FilesRead) (result : Result Came F) (now : List Move) (left : UnderWay) : Type 0 where
+    (kept : List KeptFile) (files : FilesRead) (result : Result Came F) (now : List Move) (left : UnderWay) : Type 0 where
   pub more : List Move
   pub comes : now ≡ was ++ more
   pub opens : IfOk result (OpensAs (before_of o was under) request files more left)
@@ -56,6 +81,7 @@ pub record OpensTaskOf {F : Type 0} (o : Opening) (was : List Move) (under : Und
       OnErr result
       (OpensAtMost (ComesAt (before_of o was under) files request.asked) (before_of o was under) more left)
   pub settles : HasSettledCalls (before_of o was under) → HasSettledCalls (before_of o now left)
+  pub finds : files.kept ≡ kept
 
 -- tasks that are open are carried to their ends; one is left where the director halts or has no room
 pub record CarriesTasksOut {T F : Type 0} (o : Opening) (was : List Move) (under : UnderWay) (tasks : List ℕ)

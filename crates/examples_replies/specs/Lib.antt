@@ -10,6 +10,7 @@ pub mod Others
 pub mod Releases
 pub mod Replies
 pub mod Scenes
+pub mod Served
 pub mod Shelves
 pub mod Stemcells
 pub mod TwoTurns

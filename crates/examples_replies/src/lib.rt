@@ -11,6 +11,7 @@ mod one_turn;
 mod others;
 mod releases;
 mod restarts;
+mod served;
 mod shelves;
 mod tasks;
 mod together;
@@ -32,6 +33,7 @@ pub use others::{
 };
 pub use releases::releases_are_told;
 pub use restarts::{restarts_are_told, restarts_find_what_was_asked};
+pub use served::{blocks_keep_files, directors_are_loaded, replies_are_noted};
 pub use shelves::{failures_are_counted, kept_files_are_read};
 pub use tasks::{clean_ups_are_told, deploys_are_told, tasks_are_refused_in_order};
 pub use together::tasks_open_in_order;

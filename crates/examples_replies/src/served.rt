@@ -1,0 +1,30 @@
+ghost use Rattle.std.specs.Prelude.{[], ◌∷◌, codes};
+ghost use Rattle.bosh_base.specs.declared.reply.Reply.TheVariants as replies;
+ghost use Rattle.bosh_due.specs.Generating.{said_reply};
+ghost use Rattle.bosh_due.specs.Serving.{IsLoaded};
+ghost use Rattle.bosh_due.specs.UnderWay.UnderWay.{idle, working};
+ghost use Rattle.bosh_history.specs.Moments.{nothing};
+ghost use Rattle.examples_replies.specs.Kept.{file};
+ghost use Rattle.examples_replies.specs.Served.{IsNotedSo, Keeps};
+
+/// A director that finds no entry is loaded without a move.
+pub fn directors_are_loaded()
+    ensures loaded { IsLoaded nothing [] idle }
+    ensures silent { IsLoaded nothing (said_reply 1 replies.Nothing ∷ []) idle → ⊥ }
+    ensures idle { IsLoaded nothing [] (working (1 ∷ [])) → ⊥ }
+{}
+
+/// A file that a block keeps is there afterwards, and no other one.
+pub fn blocks_keep_files()
+    ensures kept { Keeps [] (file (codes "a") (codes "1") ∷ []) }
+    ensures not_kept { Keeps [] [] → ⊥ }
+    ensures other { Keeps [] (file (codes "a") (codes "2") ∷ []) → ⊥ }
+    ensures found { Keeps (file (codes "b") (codes "2") ∷ []) (file (codes "a") (codes "1") ∷ []) → ⊥ }
+{}
+
+/// A reply is noted under the number of its command, and no more.
+pub fn replies_are_noted()
+    ensures noted { IsNotedSo (said_reply 1 replies.Nothing ∷ []) idle }
+    ensures other_number { IsNotedSo (said_reply 2 replies.Nothing ∷ []) idle → ⊥ }
+    ensures under_way { IsNotedSo (said_reply 1 replies.Nothing ∷ []) (working (1 ∷ [])) → ⊥ }
+{}
