@@ -12,6 +12,8 @@ use Rattle.bosh_due.specs.UnderWay.{UnderWay}
 use Rattle.bosh_due.specs.UnderWay.UnderWay.{idle}
 use Rattle.bosh_history.specs.Learn.{known_of}
 use Rattle.bosh_history.specs.Moments.{Opening}
+use Rattle.bosh_input.specs.Ended.{bounded_request}
+use Rattle.bosh_input.specs.declared.request.Request.{Request}
 
 -- what a turn read, the files that it found, and its moves
 pub record TurnMade : Type 0 where
@@ -87,6 +89,15 @@ loaded_moves o = map (λ end. moves.Note end) (interruptions (known_of o.entries
 abbrev pub at_first : Opening → SessionSoFar
 at_first o = record { said = loaded_moves o; under_way = idle; kept = []; commands = 0; has_ended = false }
 
+-- the commands that a turn read
+abbrev pub requests_in : TurnMade → List Request
+requests_in turn = turn.read.first.request ∷ map (λ it. it.request) turn.read.others
+
+-- .. and those that the one read that was cut off
+abbrev pub last_requests : Option TurnMade → List Request
+last_requests (Some turn) = requests_in turn
+last_requests None = []
+
 -- the moves of turns
 abbrev pub segments_of : List TurnMade → List Move
 segments_of turns = flat_map (λ turn. turn.segment) turns
@@ -102,11 +113,13 @@ last_failures (Some turn) = turn.files.failures
 last_failures None = 0
 
 -- The moves of a session from an opening pair on: those of its load, of its turns, and of one that was cut off, or none.
+-- The turns read these commands, which are those of its input, in order; a block of too many bytes makes a line no command.
 -- The shelf is told to have failed as often as the count of its faults rose in the session, at most.
 pub record MakesSession
-    (o : Opening) (moves : List Move) (shelf : Option Shelved) (failures : ℕ) (turns : List TurnMade)
+    (o : Opening) (requests : List Request) (moves : List Move) (shelf : Option Shelved) (failures : ℕ) (turns : List TurnMade)
     (cut : Option TurnMade) : Type 0
   where
+    pub read : map bounded_request requests ≡ flat_map requests_in turns ++ last_requests cut
     pub are : moves ≡ loaded_moves o ++ (segments_of turns ++ last_segment cut)
     pub makes : MakesTurns o shelf (at_first o) turns cut
     pub failed : sum (map (λ turn. turn.files.failures) turns) + last_failures cut ≤ failures

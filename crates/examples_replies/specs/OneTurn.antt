@@ -1,9 +1,10 @@
 -- A session of one line.
-use Rattle.std.specs.Prelude.{ℕ, Bool, false, true, [], ◌∷◌, codes, Option, None, Some}
+use Rattle.std.specs.Prelude.{ℕ, Bool, false, true, List, [], ◌∷◌, codes, map, Option, None, Some}
 use Rattle.bosh_base.specs.declared.reply.Reply.TheVariants as replies
 use Rattle.bosh_due.specs.Files.{Shelved}
 use Rattle.bosh_due.specs.Generating.{said_reply}
 use Rattle.bosh_due.specs.InTurn.{MakesSession, TurnMade}
+use Rattle.bosh_due.specs.Together.{Numbered}
 use Rattle.bosh_history.specs.Moments.{nothing}
 use Rattle.bosh_lines.specs.declared.command.Command.TheVariants as commands
 use Rattle.examples_replies.specs.AtOnce.{asks}
@@ -20,16 +21,22 @@ asks_for_tasks number is_end = record {
 -- the session of a new director is this one line, under a number, over a shelf that has told this
 abbrev pub IsSessionOver : Option Shelved → ℕ → Type 0
 IsSessionOver shelf number =
-    MakesSession nothing (said_reply number (replies.Tasks []) ∷ []) shelf 0
+    MakesSession nothing ((asks 1 commands.Tasks).request ∷ []) (said_reply number (replies.Tasks []) ∷ []) shelf 0
     (asks_for_tasks number false ∷ []) None
 
 abbrev pub IsSessionOf : ℕ → Type 0
 IsSessionOf number = IsSessionOver (Some []) number
 
+-- .. this line stands in the input in its place, or none
+abbrev pub IsSessionReading : List Numbered → Type 0
+IsSessionReading lines =
+    MakesSession nothing (map (λ it. it.request) lines) (said_reply 1 (replies.Tasks []) ∷ []) (Some []) 0
+    (asks_for_tasks 1 false ∷ []) None
+
 -- .. though it takes no others along, the input is told to end
 abbrev pub IsToldToEnd : Type 0
 IsToldToEnd =
-    MakesSession nothing (said_reply 1 (replies.Tasks []) ∷ []) (Some []) 0 (asks_for_tasks 1 true ∷ []) None
+    MakesSession nothing ((asks 1 commands.Tasks).request ∷ []) (said_reply 1 (replies.Tasks []) ∷ []) (Some []) 0 (asks_for_tasks 1 true ∷ []) None
 
 -- a shelf of one file
 abbrev pub one_file : Shelved

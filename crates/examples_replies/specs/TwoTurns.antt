@@ -42,6 +42,7 @@ finds entry = makes_one 2 commands.Restart (stop (Some entry) [] None) replies.R
 abbrev pub IsFound : Entry → Type 0
 IsFound entry =
     MakesSession nothing
+    ((asks 1 (commands.UploadStemcell (jammy (codes "1.2")))).request ∷ (asks 2 commands.Restart).request ∷ [])
     (Halt Store
     ∷ said_reply 1 store_fault
     ∷ stop (Some entry) [] None

@@ -25,7 +25,9 @@ pub use files::{configs_are_told, files_are_kept, files_are_looked_for_first};
 pub use jobs::{disks_are_written_and_read, machines_are_lost_and_shown};
 pub use laws::{nothing_is_left, what_is_due_may_be_made};
 pub use listings::{instances_are_listed, records_are_listed, the_cloud_is_listed};
-pub use one_turn::{commands_are_numbered, shelves_may_tell_later};
+pub use one_turn::{
+    commands_are_numbered, commands_are_those_of_the_input, shelves_may_tell_later,
+};
 pub use others::{
     calls_end_before_room_is_out, halts_come_before_ends, lines_and_room_are_told,
     some_commands_have_their_own_rules, stops_find_what_was_asked, tasks_are_told_by_end,

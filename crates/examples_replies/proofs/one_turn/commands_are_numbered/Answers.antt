@@ -5,6 +5,7 @@ use Rattle.examples_replies.proofs.one_turn.commands_are_numbered.Goals as goal
 
 pub returns-clause-first : goal.returns-clause-first
 returns-clause-first c = record {
+  read = refl;
   are = refl;
   makes = record {
     left = idle;

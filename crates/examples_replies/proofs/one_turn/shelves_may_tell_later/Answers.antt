@@ -5,6 +5,7 @@ use Rattle.examples_replies.proofs.one_turn.shelves_may_tell_later.Goals as goal
 
 pub returns-clause-later : goal.returns-clause-later
 returns-clause-later c = record {
+  read = refl;
   are = refl;
   makes = record {
     left = idle;

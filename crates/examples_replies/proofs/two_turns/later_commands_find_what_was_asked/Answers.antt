@@ -11,6 +11,7 @@ use Rattle.examples_replies.proofs.two_turns.later_commands_find_what_was_asked.
 
 pub returns-clause-asked : goal.returns-clause-asked
 returns-clause-asked c = record {
+  read = refl;
   are = refl;
   makes = record {
     left = appending stemcell;
