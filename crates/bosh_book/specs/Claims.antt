@@ -74,7 +74,7 @@ within n = min n 18446744073709551615
 -- instance, or says that one has nothing left
 abbrev pub most_turns : Option Work → ℕ
 most_turns (Some work) =
-    within (within (within (length work.changed + length work.obsolete.items.items) * 2) + 1)
+    within (within (within (length work.changed + length work.obsolete.items) * 2) + 1)
 most_turns None = 1
 
 -- what a claim does

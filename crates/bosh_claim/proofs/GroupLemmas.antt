@@ -6,7 +6,7 @@ use Rattle.std.proofs.lemmas.List.{take_all}
 use Rattle.std.proofs.lemmas.List.FromFn.{get_or-enumerate_from, length-enumerate_from}
 use Rattle.std.proofs.lemmas.List.Sums.{fold_more}
 use Rattle.bosh_work.specs.declared.part.GroupPlace.{GroupPlace}
-use Rattle.bosh_work.specs.declared.work.GroupWork.{GroupWork}
+use Rattle.bosh_work.specs.declared.groups.GroupWork.{GroupWork}
 use Rattle.bosh_claim.specs.Updated.{first_place, with_claimable}
 
 pub first_more : (stage : ℕ) (groups : List GroupWork) (k : ℕ) (it : GroupWork) → k < length groups

@@ -15,7 +15,7 @@ use Rattle.bosh_records.specs.declared.instances.Instance.{Instance}
 use Rattle.bosh_records.specs.declared.machines.Machine.{Machine}
 use Rattle.bosh_records.specs.declared.orphans.LooseDisk.{LooseDisk}
 use Rattle.bosh_records.specs.declared.records.Records.{Records}
-use Rattle.bosh_work.specs.declared.work.GroupWork.{GroupWork}
+use Rattle.bosh_work.specs.declared.groups.GroupWork.{GroupWork}
 use Rattle.bosh_work.specs.declared.line.Line.{Line}
 use Rattle.bosh_work.specs.declared.work.Work.{Work}
 use Rattle.bosh_claim.specs.Number.{is_next}
@@ -69,7 +69,7 @@ is_idle_in stage place group = group.stage == stage && slice_index_or group.roll
 
 abbrev pub is_idle_at : Work → ℕ → GroupPlace → Bool
 is_idle_at work stage change =
-    option_map_or (is_idle_in stage change.place) (slice_get work.groups.items change.group) false
+    option_map_or (is_idle_in stage change.place) (slice_get work.groups change.group) false
 
 abbrev pub is_idle : Records → Work → ℕ → Inst → Bool
 is_idle records work stage inst = option_map_or (is_idle_at work stage) (change_of records inst) false

@@ -18,7 +18,7 @@ use Rattle.bosh_claim.specs.Step.{step_of}
 
 -- the first item on which nobody works
 abbrev pub first_of : {T : Type 0} → Line T → Option T
-first_of line = option_and_then (λ place. slice_get line.items.items place) (first_marked line.queue.free)
+first_of line = option_and_then (λ place. slice_get line.items place) (first_marked line.queue.free)
 
 -- a call of an owner begins, with the next number
 abbrev pub beginning : Records → Work → ℕ → Owner → Call → Entry

@@ -7,7 +7,7 @@ use Rattle.bosh_progress.specs.declared.queue.Queue.{Queue}
 use Rattle.bosh_progress.specs.declared.rolling.Rolling.{Rolling}
 use Rattle.bosh_records.specs.NextKey.{next_key}
 use Rattle.bosh_records.specs.declared.records.Records.{Records}
-use Rattle.bosh_work.specs.declared.work.GroupWork.{GroupWork}
+use Rattle.bosh_work.specs.declared.groups.GroupWork.{GroupWork}
 use Rattle.bosh_work.specs.declared.work.Work.{Work}
 use Rattle.bosh_claim.specs.declared.phase.Phase.{Phase}
 use Rattle.bosh_claim.specs.declared.phase.Phase.TheVariants.{Ask, DeleteDisks, Sweep, Compile, Leave, Update}
@@ -45,4 +45,4 @@ present records work =
     else (if not (is_finished work.sweep.queue) then Some Sweep
     else (if has_to_compile records work then Some Compile
     else (if not (is_finished work.obsolete.queue) then Some Leave
-    else option_map Update (least_stage work.groups.items)))))
+    else option_map Update (least_stage work.groups)))))

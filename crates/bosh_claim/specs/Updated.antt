@@ -13,7 +13,7 @@ use Rattle.bosh_records.specs.Readers.{want_of}
 use Rattle.bosh_work.specs.Work.{roll_of}
 use Rattle.bosh_work.specs.declared.part.GroupPlace.{GroupPlace}
 use Rattle.bosh_records.specs.declared.records.Records.{Records}
-use Rattle.bosh_work.specs.declared.work.GroupWork.{GroupWork}
+use Rattle.bosh_work.specs.declared.groups.GroupWork.{GroupWork}
 use Rattle.bosh_work.specs.declared.work.Work.{Work}
 use Rattle.bosh_claim.specs.Noted.{beginning, update_of}
 use Rattle.bosh_claim.specs.Step.{step_of}
@@ -21,7 +21,7 @@ use Rattle.bosh_claim.specs.Step.{step_of}
 -- a place of a group, with its place among all that change
 abbrev pub among_all : ℕ → GroupWork → ℕ → Option (ℕ × GroupPlace)
 among_all group it place =
-    option_map (λ at. (at, record { group = group; place = place })) (slice_get it.places.items place)
+    option_map (λ at. (at, record { group = group; place = place })) (slice_get it.places place)
 
 -- the first of a group that may be worked on now
 abbrev pub claimable : ℕ → GroupWork → Option (ℕ × GroupPlace)
@@ -46,7 +46,7 @@ abbrev pub with_inst : Work → ℕ × GroupPlace → Option (GroupPlace × Inst
 with_inst work found = option_map (λ inst. (found.1, inst)) (slice_get work.changed found.0)
 
 abbrev pub first_changed : Work → ℕ → Option (GroupPlace × Inst)
-first_changed work stage = option_and_then (with_inst work) (first_place work.groups.items stage)
+first_changed work stage = option_and_then (with_inst work) (first_place work.groups stage)
 
 -- the update of an instance has not begun
 abbrev pub is_waiting : Work → GroupPlace → Bool

@@ -10,7 +10,7 @@ use Rattle.bosh_progress.specs.declared.rolling.Rolling.{Rolling}
 use Rattle.bosh_records.specs.Readers.{want_of, work_at}
 use Rattle.bosh_work.specs.declared.part.GroupPlace.{GroupPlace}
 use Rattle.bosh_records.specs.declared.records.Records.{Records}
-use Rattle.bosh_work.specs.declared.work.GroupWork.{GroupWork}
+use Rattle.bosh_work.specs.declared.groups.GroupWork.{GroupWork}
 use Rattle.bosh_work.specs.declared.work.Work.{Work}
 use Rattle.bosh_claim.specs.Beginning.{change_of, is_leaving}
 use Rattle.bosh_claim.specs.Phase.{present}
@@ -32,7 +32,7 @@ abbrev pub if_present : Records → Work → ℕ → GroupWork → Option (Group
 if_present records work place group = if is_stage (present records work) group.stage then Some (group, place) else None
 
 abbrev pub at_change : Records → Work → GroupPlace → Option (GroupWork × ℕ)
-at_change records work change = option_and_then (if_present records work change.place) (slice_get work.groups.items change.group)
+at_change records work change = option_and_then (if_present records work change.place) (slice_get work.groups change.group)
 
 -- the group of a changed instance, and its place there, where the stage of the group is the present phase
 abbrev pub of_present : Records → Work → Inst → Option (GroupWork × ℕ)

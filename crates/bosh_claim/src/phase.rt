@@ -40,7 +40,7 @@ pub fn present(records: &Records, work: &Work) -> Option<Phase>
     if !work.obsolete.queue.is_over() {
         return Some(Phase::Leave);
     }
-    stage(&work.groups).map(Phase::Update)
+    stage(work.groups.as_slice()).map(Phase::Update)
 }
 
 // The least stage of the groups that are left.

@@ -1,0 +1,3 @@
+pub mod BringsLemmas
+pub mod CameLemmas
+pub mod ForgetLemmas

@@ -6,11 +6,14 @@ use Rattle.bosh_base.specs.declared.entry.Entry.TheVariants as entries
 use Rattle.bosh_base.specs.declared.entry.TaskOpen.{TaskOpen}
 use Rattle.bosh_base.specs.declared.row.Row.{Row}
 use Rattle.bosh_base.specs.declared.snapshot.Orphan.{Orphan}
+use Rattle.bosh_base.specs.declared.snapshot.Snapshot.{Snapshot}
+use Rattle.bosh_records.specs.Recorded.{recorded}
 use Rattle.bosh_plan.specs.Ended.{ended_of}
 use Rattle.bosh_plan.specs.Updated.{left_gone, left_updated, row_updated}
 use Rattle.bosh_plan.specs.Begun.{subject_of}
 use Rattle.bosh_plan.specs.declared.beginning.Subject.{Subject}
 use Rattle.bosh_records.specs.Arrivals.{Arrivals, arrivals}
+use Rattle.bosh_fold.specs.Anew.{anew}
 use Rattle.bosh_fold.specs.ArrivalsWith.{arrivals_with}
 use Rattle.bosh_plan.specs.Closed.{end_after, offers_after}
 use Rattle.bosh_plan.specs.Opened.{IsOpened}
@@ -20,9 +23,10 @@ use Rattle.bosh_records.specs.declared.records.Records.{Records}
 
 -- ---- by the kinds of entries
 
-abbrev pub IsOpening : TaskOpen → Change → Type 0
-IsOpening opening (changes.Opened opened) = IsOpened opening opened
-IsOpening opening change = ⊥
+-- what is left of the task is told by the records with the room that was made
+abbrev pub IsOpening : Records → TaskOpen → Change → Type 0
+IsOpening roomy opening (changes.Opened opened) = IsOpened roomy opening opened
+IsOpening roomy opening change = ⊥
 
 abbrev pub IsBeginning : Begin → Subject → Change → Type 0
 IsBeginning begin subject (changes.Begun begun) = (begun.begin ≡ begin) × (begun.subject ≡ subject)
@@ -33,30 +37,30 @@ abbrev pub IsUpdated : Option Row → List Orphan → Change → Type 0
 IsUpdated row left (changes.Updated updated) = (updated.row ≡ row) × (updated.left.items ≡ left)
 IsUpdated row left change = ⊥
 
--- the records that take the place of all that is recorded, with what came by a snapshot
-abbrev pub IsAnew : Arrivals → Change → Type 0
-IsAnew all (changes.Records records) = arrivals records.value ≡ all
-IsAnew all change = ⊥
+-- the records that take the place of all that is recorded
+abbrev pub IsAnew : Snapshot → Change → Type 0
+IsAnew snapshot (changes.Records records) = recorded records.value ≡ anew snapshot
+IsAnew snapshot change = ⊥
 
--- what is planned for an entry after those that the records stand for
-abbrev pub IsPlanned : Records → Entry → Change → Type 0
-IsPlanned records (entries.Release it) change = change ≡ changes.Release it
-IsPlanned records (entries.Stemcell it) change = change ≡ changes.Stemcell it
-IsPlanned records (entries.Config file) change = change ≡ changes.Config file
-IsPlanned records (entries.TaskOpen opening) change = IsOpening opening change
-IsPlanned records (entries.Begin begin) change =
+-- what is planned for an entry after those that the records stand for, once there is room for it
+abbrev pub IsPlanned : Records → Records → Entry → Change → Type 0
+IsPlanned records roomy (entries.Release it) change = change ≡ changes.Release it
+IsPlanned records roomy (entries.Stemcell it) change = change ≡ changes.Stemcell it
+IsPlanned records roomy (entries.Config file) change = change ≡ changes.Config file
+IsPlanned records roomy (entries.TaskOpen opening) change = IsOpening roomy opening change
+IsPlanned records roomy (entries.Begin begin) change =
     IsBeginning begin (subject_of records begin) change
-IsPlanned records (entries.End end) change = change ≡ changes.Ended (ended_of records end)
-IsPlanned records (entries.UpdBegin update) change = change ≡ changes.Nothing
-IsPlanned records (entries.UpdDone update) change =
+IsPlanned records roomy (entries.End end) change = change ≡ changes.Ended (ended_of records end)
+IsPlanned records roomy (entries.UpdBegin update) change = change ≡ changes.Nothing
+IsPlanned records roomy (entries.UpdDone update) change =
     IsUpdated (row_updated records update.inst) (left_updated records update.inst) change
-IsPlanned records (entries.Gone update) change = IsUpdated None (left_gone records update.inst) change
-IsPlanned records (entries.TaskDone task) change = change ≡ changes.Offers (offers_after records task)
-IsPlanned records (entries.TaskError error) change = change ≡ changes.End (end_after records error)
-IsPlanned records (entries.Snapshot it) change = IsAnew (arrivals_with (entries.Snapshot it) (arrivals records)) change
-IsPlanned records (entries.Effect it) change = change ≡ changes.Nothing
-IsPlanned records (entries.Write it) change = change ≡ changes.Nothing
-IsPlanned records (entries.Lost it) change = change ≡ changes.Nothing
+IsPlanned records roomy (entries.Gone update) change = IsUpdated None (left_gone records update.inst) change
+IsPlanned records roomy (entries.TaskDone task) change = change ≡ changes.Offers (offers_after records task)
+IsPlanned records roomy (entries.TaskError error) change = change ≡ changes.End (end_after records error)
+IsPlanned records roomy (entries.Snapshot it) change = IsAnew it change
+IsPlanned records roomy (entries.Effect it) change = change ≡ changes.Nothing
+IsPlanned records roomy (entries.Write it) change = change ≡ changes.Nothing
+IsPlanned records roomy (entries.Lost it) change = change ≡ changes.Nothing
 
 -- what came, once a change is learned
 abbrev pub arrivals_after : Change → Arrivals → Arrivals
@@ -67,3 +71,7 @@ arrivals_after (changes.Opened opened) before = record before { opened = opened.
 arrivals_after (changes.Begun begun) before = record before { last_call = begun.begin.n }
 arrivals_after (changes.Records records) before = arrivals records.value
 arrivals_after change before = before
+
+-- it brings what the entry does
+abbrev pub Brings : Entry → Change → Type 0
+Brings entry change = (before : Arrivals) → arrivals_after change before ≡ arrivals_with entry before

@@ -1,45 +1,48 @@
 ghost use Rattle.std.specs.Prelude.{◌≡◌};
-ghost use Rattle.bosh_records.specs.Arrivals.{arrivals};
+ghost use Rattle.bosh_records.specs.Recorded.{recorded};
+ghost use Rattle.bosh_fold.specs.Calls.{begun_in, counted, machine_name, noted_call, opened_call, taken_by, with_call, with_compiling};
+ghost use Rattle.bosh_fold.specs.Calls.{with_doubt, with_machine_of, with_subject};
 
-use crate::place::{put_where, thing_mut};
 use bosh_base::{Begin, Call, Doubt, Owner};
 use bosh_plan::{Begun, Subject};
-use bosh_records::{LooseDisk, Machine, Records, Table};
+use bosh_records::{Machine, Records};
 use bosh_work::MachineName;
 
 /// A call begins.
 pub(crate) fn learn_begin(records: &mut Records, begun: Begun)
-    ensures { arrivals records.new ≡ record (arrivals records.old) { last_call = begun.begin.n } }
+    ensures { recorded records.new ≡ begun_in begun (recorded records.old) }
 {
     let Begun { begin, subject } = begun;
     set_subject(records, &begin.owner, subject);
     open_call(records, &begin);
     count_call(records, begin.task);
+    note_call(records, begin);
+}
+
+fn count_call(records: &mut Records, task: u64)
+    ensures { recorded records.new ≡ counted task (recorded records.old) }
+{
+    records.tasks.count_call(&task);
+}
+
+fn note_call(records: &mut Records, begin: Begin)
+    ensures { recorded records.new ≡ noted_call begin (recorded records.old) }
+{
     let n = begin.n;
     records.last_call = n;
     records.calls.put(&n, begin);
 }
 
 fn open_call(records: &mut Records, begin: &Begin)
-    ensures { arrivals records.new ≡ arrivals records.old }
+    ensures { recorded records.new ≡ opened_call begin.now (recorded records.old) }
 {
     set_open_call(records, &begin.owner, Some(begin.n));
     set_compiling(records, &begin.call, Some(begin.n));
     take(records, begin.task, &begin.owner);
 }
 
-fn count_call(records: &mut Records, task: u64)
-    ensures { arrivals records.new ≡ arrivals records.old }
-{
-    if let Some(row) = thing_mut(&mut records.tasks, &task) {
-        if let Some(calls) = row.calls {
-            row.calls = Some(calls.saturating_add(1));
-        }
-    }
-}
-
 fn set_subject(records: &mut Records, owner: &Owner, subject: Subject)
-    ensures { arrivals records.new ≡ arrivals records.old }
+    ensures { recorded records.new ≡ with_subject owner.now subject (recorded records.old) }
 {
     match subject {
         Subject::Instance(row) => records.instances.record(row),
@@ -50,52 +53,52 @@ fn set_subject(records: &mut Records, owner: &Owner, subject: Subject)
 }
 
 fn add_machine(records: &mut Records, machine: Machine)
-    ensures { arrivals records.new ≡ arrivals records.old }
+    ensures { recorded records.new ≡ with_machine_of machine (recorded records.old) }
 {
     let name = MachineName {
         task: machine.row.task,
         slot: machine.row.slot,
     };
-    if let Some(work) = thing_mut(&mut records.works, &name.task) {
-        work.machines = work.machines.saturating_add(1);
-        work.keys.take(machine.key);
-    }
+    records.works.add_machine(&name.task, machine.key);
     records.machines.put(&name, machine);
 }
 
 fn set_doubt(records: &mut Records, owner: &Owner, doubt: Doubt)
-    ensures { arrivals records.new ≡ arrivals records.old }
+    ensures { recorded records.new ≡ with_doubt owner.now doubt (recorded records.old) }
 {
-    let place = doubt_place(&mut records.machines, &mut records.orphans, owner);
-    put_where(place, Some(doubt));
+    match owner {
+        Owner::Instance(_) => {}
+        Owner::Compile(task, slot) => {
+            let name = machine_name(*task, *slot);
+            records.machines.set_doubt(&name, doubt);
+        }
+        Owner::Disk(disk) => records.orphans.set_doubt(disk, Some(doubt)),
+    }
 }
 
 /// Notes the open call of an owner, or that it has none.
 pub(crate) fn set_open_call(records: &mut Records, owner: &Owner, call: Option<u64>)
-    ensures { arrivals records.new ≡ arrivals records.old }
+    ensures { recorded records.new ≡ with_call owner.now call (recorded records.old) }
 {
     match owner {
         Owner::Instance(inst) => records.instances.set_call(inst, call),
         Owner::Compile(task, slot) => {
-            let name = MachineName {
-                task: *task,
-                slot: *slot,
-            };
-            if let Some(machine) = thing_mut(&mut records.machines, &name) {
-                machine.call = call;
-            }
+            let name = machine_name(*task, *slot);
+            records.machines.set_call(&name, call);
         }
-        Owner::Disk(disk) => {
-            if let Some(loose) = thing_mut(&mut records.orphans, disk) {
-                loose.call = call;
-            }
-        }
+        Owner::Disk(disk) => records.orphans.set_call(disk, call),
     }
+}
+
+pub(crate) fn machine_name(task: u64, slot: u32) -> MachineName
+    ensures { result ≡ machine_name task slot }
+{
+    MachineName { task, slot }
 }
 
 /// Notes the open call that compiles a key, or that none does.
 pub(crate) fn set_compiling(records: &mut Records, call: &Call, open: Option<u64>)
-    ensures { arrivals records.new ≡ arrivals records.old }
+    ensures { recorded records.new ≡ with_compiling call.now «open» (recorded records.old) }
 {
     if let Call::CompilePackage { work, .. } = call {
         records.keys.set_call(&work.key, open);
@@ -104,33 +107,8 @@ pub(crate) fn set_compiling(records: &mut Records, call: &Call, open: Option<u64
 
 // Somebody works on an owner for a task.
 fn take(records: &mut Records, task: u64, owner: &Owner)
-    ensures { arrivals records.new ≡ arrivals records.old }
+    ensures { recorded records.new ≡ taken_by task owner.now (recorded records.old) }
 {
     let places = records.places_of(owner);
-    if let Some(work) = thing_mut(&mut records.works, &task) {
-        work.take(places);
-    }
-}
-
-// Where the doubt of a compile machine or of an orphaned disk stands.
-fn doubt_place<'a>(
-    machines: &'a mut Table<MachineName, Machine>,
-    orphans: &'a mut Table<u64, LooseDisk>,
-    owner: &Owner,
-) -> Option<&'a mut Option<Doubt>> {
-    match owner {
-        Owner::Instance(_) => None,
-        Owner::Compile(task, slot) => {
-            let name = MachineName {
-                task: *task,
-                slot: *slot,
-            };
-            let machine = thing_mut(machines, &name)?;
-            Some(&mut machine.row.doubt)
-        }
-        Owner::Disk(disk) => {
-            let loose = thing_mut(orphans, disk)?;
-            Some(&mut loose.orphan.doubt)
-        }
-    }
+    records.works.take(&task, places);
 }

@@ -1,7 +1,9 @@
 ghost use Rattle.std.specs.Prelude.{◌≡◌, IfOk, OnErr, OnOk};
 ghost use Rattle.bosh_records.specs.Arrivals.{arrivals};
 ghost use Rattle.bosh_fold.specs.ArrivalsWith.{arrivals_with};
-ghost use Rattle.bosh_fold.specs.Planned.{IsPlanned, arrivals_after};
+ghost use Rattle.bosh_records.specs.Recorded.{kept, recorded};
+ghost use Rattle.bosh_fold.specs.Learned.{learned};
+ghost use Rattle.bosh_fold.specs.Planned.{Brings, IsPlanned, arrivals_after};
 ghost use Rattle.bosh_fold.specs.Room.{HasRoom};
 ghost use Rattle.bosh_fold.specs.declared.change.Change.TheVariants as changes;
 
@@ -38,8 +40,18 @@ pub enum Change {
 /// What an entry changes. It takes all the memory that is needed, and what is recorded stays as it is.
 pub fn plan(records: &mut Records, entry: &Entry) -> Result<Change, RecordsFault>
     ensures room { IfOk result (λ change. HasRoom records.new change) }
-    ensures planned { IfOk result (λ change. IsPlanned records.old entry.now change) }
+    ensures planned { IfOk result (λ change. IsPlanned records.old records.new entry.now change) }
+    ensures comes { IfOk result (λ change. Brings entry.now change) }
     ensures same { arrivals records.new ≡ arrivals records.old }
+    ensures alike { kept (recorded records.new) ≡ kept (recorded records.old) }
+{
+    plan_entry(records, entry)
+}
+
+fn plan_entry(records: &mut Records, entry: &Entry) -> Result<Change, RecordsFault>
+    ensures room { IfOk result (λ change. HasRoom records.new change) }
+    ensures planned { IfOk result (λ change. IsPlanned records.old records.new entry.now change) }
+    ensures alike { kept (recorded records.new) ≡ kept (recorded records.old) }
 {
     match entry {
         Entry::Release(release) => plan_release(records, release),
@@ -52,7 +64,7 @@ pub fn plan(records: &mut Records, entry: &Entry) -> Result<Change, RecordsFault
         Entry::Gone(update) => plan_gone(records, update).map(Change::Updated),
         Entry::TaskDone(task) => plan_done(records, *task).map(Change::Offers),
         Entry::TaskError(error) => plan_error(records, error).map(Change::End),
-        Entry::Snapshot(snapshot) => plan_snapshot(records, snapshot).map(Change::Records),
+        Entry::Snapshot(snapshot) => plan_snapshot(records.alloc, snapshot).map(Change::Records),
         Entry::UpdBegin(_) | Entry::Effect(_) | Entry::Write(_) | Entry::Lost(_) => Ok(
             Change::Nothing,
         ),
@@ -62,7 +74,7 @@ pub fn plan(records: &mut Records, entry: &Entry) -> Result<Change, RecordsFault
 fn plan_release(records: &mut Records, release: &Release) -> Result<Change, RecordsFault>
     ensures room { IfOk result (λ change. HasRoom records.new change) }
     ensures planned { IfOk result (λ change. change ≡ changes.Release release.now) }
-    ensures same { arrivals records.new ≡ arrivals records.old }
+    ensures alike { kept (recorded records.new) ≡ kept (recorded records.old) }
 {
     records.releases.reserve(1)?;
     Ok(Change::Release(release.copy(records.alloc)?))
@@ -71,7 +83,7 @@ fn plan_release(records: &mut Records, release: &Release) -> Result<Change, Reco
 fn plan_stemcell(records: &mut Records, stemcell: &Stemcell) -> Result<Change, RecordsFault>
     ensures room { IfOk result (λ change. HasRoom records.new change) }
     ensures planned { IfOk result (λ change. change ≡ changes.Stemcell stemcell.now) }
-    ensures same { arrivals records.new ≡ arrivals records.old }
+    ensures alike { kept (recorded records.new) ≡ kept (recorded records.old) }
 {
     records.stemcells.reserve(1)?;
     Ok(Change::Stemcell(stemcell.copy(records.alloc)?))
@@ -80,7 +92,15 @@ fn plan_stemcell(records: &mut Records, stemcell: &Stemcell) -> Result<Change, R
 /// Takes what a planned entry changes into the records. It takes no memory.
 pub fn learn(records: &mut Records, entry: &Entry, change: Change)
     requires { HasRoom records.old change }
-    ensures { arrivals records.new ≡ arrivals_after change (arrivals records.old) }
+    ensures all { recorded records.new ≡ learned entry.now change (recorded records.old) }
+    ensures came { arrivals records.new ≡ arrivals_after change (arrivals records.old) }
+{
+    take_in(records, entry, change);
+}
+
+fn take_in(records: &mut Records, entry: &Entry, change: Change)
+    requires { HasRoom records.old change }
+    ensures { recorded records.new ≡ learned entry.now change (recorded records.old) }
 {
     match change {
         Change::Release(release) => records.releases.push_reserved(release),

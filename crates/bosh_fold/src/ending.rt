@@ -1,17 +1,21 @@
 ghost use Rattle.std.specs.Prelude.{◌≡◌};
-ghost use Rattle.bosh_records.specs.Arrivals.{arrivals};
+ghost use Rattle.std.specs.Option.{option_map};
+ghost use Rattle.bosh_records.specs.Recorded.{recorded};
+ghost use Rattle.bosh_fold.specs.Calls.{answered_in, built_in, closed_call, deleted_in, disk_told, dropped_machine, failed_in};
+ghost use Rattle.bosh_fold.specs.Calls.{ended_in, given_by, machine_told, other_told, pinged_by, swept_in, told_of};
+ghost use Rattle.bosh_plan.specs.declared.ending.Told.TheVariants.{Absent};
+ghost use Rattle.bosh_records.specs.Readers.{machine_at};
 
-use crate::beginning::{set_compiling, set_open_call};
-use crate::place::thing_mut;
-use bosh_base::{Begin, Call, Digest, Key, Owner, TaskEnd};
-use bosh_drops::{let_go, put};
+use crate::beginning::{machine_name, set_compiling, set_open_call};
+use bosh_base::{Begin, Call, Digest, Owner, TaskEnd};
+use bosh_drops::let_go;
 use bosh_plan::{After, Ended, Told};
-use bosh_records::{Records, Table};
-use bosh_work::{Line, MachineName, Work};
+use bosh_records::Records;
+use bosh_work::MachineName;
 
 /// A call ends, where it is open.
 pub(crate) fn learn_end(records: &mut Records, ended: Ended)
-    ensures { arrivals records.new ≡ arrivals records.old }
+    ensures { recorded records.new ≡ ended_in ended (recorded records.old) }
 {
     match records.calls.remove(&ended.n) {
         Some(begin) => answered(records, begin, ended),
@@ -20,7 +24,7 @@ pub(crate) fn learn_end(records: &mut Records, ended: Ended)
 }
 
 fn answered(records: &mut Records, begin: Begin, ended: Ended)
-    ensures { arrivals records.new ≡ arrivals records.old }
+    ensures { recorded records.new ≡ answered_in begin ended (recorded records.old) }
 {
     let Ended {
         n: _,
@@ -29,60 +33,52 @@ fn answered(records: &mut Records, begin: Begin, ended: Ended)
         built,
         is_asked,
     } = ended;
-    close_call(records, &begin, is_asked);
+    close_call(records, &begin);
+    give(records, begin.task, &begin.owner);
+    note_ping(records, is_asked, &begin);
     fail(records, begin.task, failed);
     tell(records, &begin.owner, after);
     note_built(records, begin.call, built);
 }
 
-fn close_call(records: &mut Records, begin: &Begin, is_asked: bool)
-    ensures { arrivals records.new ≡ arrivals records.old }
+pub(crate) fn close_call(records: &mut Records, begin: &Begin)
+    ensures { recorded records.new ≡ closed_call begin.now (recorded records.old) }
 {
     set_open_call(records, &begin.owner, None);
     set_compiling(records, &begin.call, None);
-    give(records, begin.task, begin);
-    if let (true, Call::Ping { .. }) = (is_asked, &begin.call) {
-        asked(records, begin);
-    }
-}
-
-// An answered ping is noted for its instance.
-fn asked(records: &mut Records, begin: &Begin)
-    ensures { arrivals records.new ≡ arrivals records.old }
-{
-    let Some(place) = records.instances.ping_of(&begin.owner) else {
-        return;
-    };
-    if let Some(work) = thing_mut(&mut records.works, &begin.task) {
-        work.pings.finish(Some(place));
-    }
 }
 
 fn fail(records: &mut Records, task: u64, failed: Option<TaskEnd>)
-    ensures { arrivals records.new ≡ arrivals records.old }
+    ensures { recorded records.new ≡ failed_in task failed (recorded records.old) }
 {
-    if let Some(work) = thing_mut(&mut records.works, &task) {
-        work.fail(failed);
-    }
+    records.works.fail(&task, failed);
 }
 
 // Nobody works on the owner of a call any more.
-fn give(records: &mut Records, task: u64, begin: &Begin)
-    ensures { arrivals records.new ≡ arrivals records.old }
+fn give(records: &mut Records, task: u64, owner: &Owner)
+    ensures { recorded records.new ≡ given_by task owner.now (recorded records.old) }
 {
-    let places = records.places_of(&begin.owner);
-    if let Some(work) = thing_mut(&mut records.works, &task) {
-        work.give(places);
+    let places = records.places_of(owner);
+    records.works.give(&task, places);
+}
+
+// An answered ping is noted for its instance.
+fn note_ping(records: &mut Records, is_asked: bool, begin: &Begin)
+    ensures { recorded records.new ≡ pinged_by is_asked begin.now (recorded records.old) }
+{
+    if let (true, Call::Ping { .. }) = (is_asked, &begin.call) {
+        let place = records.places_of(&begin.owner).part.ping;
+        records.works.finish_ping(&begin.task, place);
     }
 }
 
 // A compilation that is answered records its key, whatever becomes of the task.
 fn note_built(records: &mut Records, call: Call, built: Option<Digest>)
-    ensures { arrivals records.new ≡ arrivals records.old }
+    ensures { recorded records.new ≡ built_in call built (recorded records.old) }
 {
     match (call, built) {
         (Call::CompilePackage { work, .. }, Some(digest)) => {
-            compiled(&mut records.works, &work.key);
+            records.works.finish_key(&work.key);
             records.keys.set_built(work, digest);
         }
         (call, _) => let_go(call),
@@ -90,7 +86,7 @@ fn note_built(records: &mut Records, call: Call, built: Option<Digest>)
 }
 
 fn tell(records: &mut Records, owner: &Owner, after: Option<After>)
-    ensures { arrivals records.new ≡ arrivals records.old }
+    ensures { recorded records.new ≡ told_of owner.now after (recorded records.old) }
 {
     match after {
         None => {}
@@ -100,145 +96,74 @@ fn tell(records: &mut Records, owner: &Owner, after: Option<After>)
 }
 
 fn tell_other(records: &mut Records, owner: &Owner, told: Told)
-    ensures { arrivals records.new ≡ arrivals records.old }
+    ensures { recorded records.new ≡ other_told owner.now told (recorded records.old) }
 {
     match owner {
         Owner::Instance(_) => {}
-        Owner::Compile(task, slot) => {
-            let name = MachineName {
-                task: *task,
-                slot: *slot,
-            };
-            tell_machine(records, name, told);
-        }
+        Owner::Compile(task, slot) => tell_machine(records, machine_name(*task, *slot), told),
         Owner::Disk(disk) => tell_disk(records, *disk, told),
     }
 }
 
 fn tell_machine(records: &mut Records, name: MachineName, told: Told)
-    ensures { arrivals records.new ≡ arrivals records.old }
+    ensures { recorded records.new ≡ machine_told name told (recorded records.old) }
 {
     match told {
         Told::Nothing => {}
-        Told::There(vm) => {
-            if let Some(machine) = thing_mut(&mut records.machines, &name) {
-                machine.row.vm = vm.or(machine.row.vm);
-                put(&mut machine.row.doubt, None);
-            }
-        }
+        Told::There(vm) => records.machines.set_there(&name, vm),
         Told::Absent => drop_machine(records, name),
     }
 }
 
 fn drop_machine(records: &mut Records, name: MachineName)
-    ensures { arrivals records.new ≡ arrivals records.old }
+    ensures { recorded records.new ≡ dropped_machine name (machine_at records.old name) (recorded records.old) }
 {
     let Some((key, sweep)) = uses_of(records, name) else {
         return;
     };
     records.machines.delete(&name);
-    if let Some(work) = thing_mut(&mut records.works, &name.task) {
-        work.drop_machine(key);
-    }
-    if let Some(place) = sweep {
-        swept(&mut records.works, name, place);
-    }
+    records.works.drop_machine(&name.task, key);
+    note_swept(records, name, sweep);
 }
 
 // The key that a machine is for, and its place among those that are swept.
-fn uses_of(records: &Records, name: MachineName) -> Option<(Option<usize>, Option<usize>)> {
+fn uses_of(records: &Records, name: MachineName) -> Option<(Option<usize>, Option<usize>)>
+    ensures { result ≡ option_map (λ machine. (machine.key, machine.sweep)) (machine_at records.now name) }
+{
     let machine = records.machines.get(&name)?;
     Some((machine.key, machine.sweep))
 }
 
+fn note_swept(records: &mut Records, name: MachineName, sweep: Option<usize>)
+    ensures { recorded records.new ≡ swept_in name sweep (recorded records.old) }
+{
+    if let Some(place) = sweep {
+        records.works.finish_machine(name, place);
+    }
+}
+
 fn tell_disk(records: &mut Records, disk: u64, told: Told)
-    ensures { arrivals records.new ≡ arrivals records.old }
+    ensures { recorded records.new ≡ disk_told disk told (recorded records.old) }
 {
     match told {
         Told::Nothing => {}
-        Told::There(_) => {
-            if let Some(loose) = thing_mut(&mut records.orphans, &disk) {
-                put(&mut loose.orphan.doubt, None);
-            }
-        }
+        Told::There(_) => records.orphans.set_doubt(&disk, None),
         Told::Absent => drop_disk(records, disk),
     }
 }
 
 fn drop_disk(records: &mut Records, disk: u64)
-    ensures { arrivals records.new ≡ arrivals records.old }
+    ensures { recorded records.new ≡ disk_told disk Absent (recorded records.old) }
 {
-    let place = records.places_of(&Owner::Disk(disk)).deleting;
+    let deleting = records.deleting_of(disk);
     records.orphans.delete(&disk);
-    if let Some(place) = place {
-        deleted(&mut records.works, disk, place);
-    }
+    note_deleted(records, disk, deleting);
 }
 
-// No open task has the key left from now on.
-fn compiled(works: &mut Table<u64, Work>, key: &Key) {
-    let mut last = 0;
-    while let Some(task) = works.next_after(last) {
-        if let Some(work) = thing_mut(works, &task) {
-            finish_key(&mut work.keys, key);
-        }
-        last = task;
-    }
-}
-
-fn finish_key(keys: &mut Line<Key>, key: &Key) {
-    let place = keys.items.iter().position(|it| it == key);
-    keys.finish(place);
-}
-
-// A compile machine that an earlier task left is not there any more: it is finished in the task that sweeps it.
-fn swept(works: &mut Table<u64, Work>, name: MachineName, at: usize) {
-    if let Some(task) = sweeper(works, name, at) {
-        if let Some(work) = thing_mut(works, &task) {
-            work.sweep.finish(Some(at));
-        }
-    }
-}
-
-// The first task that has the machine at a place of those that it sweeps.
-fn sweeper(works: &Table<u64, Work>, name: MachineName, at: usize) -> Option<u64> {
-    for (task, work) in works.iter() {
-        if sweeps(work.as_ref(), name, at) {
-            return Some(*task);
-        }
-    }
-    None
-}
-
-fn sweeps(work: Option<&Work>, name: MachineName, at: usize) -> bool {
-    match work {
-        Some(work) => work.sweep.items.get(at) == Some(&name),
-        None => false,
-    }
-}
-
-// A disk is not there any more: it is finished in the task that deletes it.
-fn deleted(works: &mut Table<u64, Work>, disk: u64, at: usize) {
-    if let Some(task) = deleter(works, disk, at) {
-        if let Some(work) = thing_mut(works, &task) {
-            work.disks.finish(Some(at));
-        }
-    }
-}
-
-// The first task that has the disk at a place of those that it deletes.
-fn deleter(works: &Table<u64, Work>, disk: u64, at: usize) -> Option<u64> {
-    for (task, work) in works.iter() {
-        if deletes(work.as_ref(), disk, at) {
-            return Some(*task);
-        }
-    }
-    None
-}
-
-fn deletes(work: Option<&Work>, disk: u64, at: usize) -> bool {
-    match work {
-        Some(work) => work.disks.items.get(at) == Some(&disk),
-        None => false,
+fn note_deleted(records: &mut Records, disk: u64, deleting: Option<usize>)
+    ensures { recorded records.new ≡ deleted_in disk deleting (recorded records.old) }
+{
+    if let Some(place) = deleting {
+        records.works.finish_disk(disk, place);
     }
 }

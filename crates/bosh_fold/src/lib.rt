@@ -7,8 +7,9 @@ mod beginning;
 mod change;
 mod closing;
 mod ending;
+mod marks;
 mod opening;
-mod place;
 mod updating;
+mod wants;
 
 pub use change::{Change, apply, learn, plan};

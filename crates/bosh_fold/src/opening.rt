@@ -1,33 +1,40 @@
 ghost use Rattle.std.specs.Prelude.{◌≡◌};
-ghost use Rattle.bosh_records.specs.Arrivals.{arrivals};
+ghost use Rattle.bosh_records.specs.Recorded.{recorded};
+ghost use Rattle.bosh_fold.specs.Tasks.{deployment_added, goal_replaced, goal_set, opened_in, parts_set, task_noted};
 
-use crate::place::thing_mut;
-use bosh_base::{DepRow, Goal, Inst};
+use crate::marks::{set_changes, set_deletings, set_leavings, set_pings, set_sweeps};
+use crate::wants::{clear_wants, note_wants};
+use bosh_base::{DepRow, TaskRow};
 use bosh_plan::Opened;
-use bosh_records::{Instances, Records, Since};
-use bosh_work::{GroupPlace, MachineName, Work};
-use std::mem;
+use bosh_records::{Records, Since};
+use bosh_work::Work;
 
 /// A task opens: its deployment has the goal, and each item of it knows its place in it.
 pub(crate) fn learn_opening(records: &mut Records, opened: Opened)
-    ensures { arrivals records.new ≡ record (arrivals records.old) { opened = opened.row.task } }
+    ensures { recorded records.new ≡ opened_in opened (recorded records.old) }
 {
     let Opened {
         row,
         deployment,
         work,
     } = opened;
-    let task = row.task;
-    set_goal(records, task, deployment);
-    records.opened = task;
+    set_goal(records, row.task, deployment);
     set_parts(records, &work);
+    note_task(records, row, work);
+}
+
+fn note_task(records: &mut Records, row: TaskRow, work: Work)
+    ensures { recorded records.new ≡ task_noted row work (recorded records.old) }
+{
+    let task = row.task;
+    records.opened = task;
     records.tasks.put(&task, row);
     records.works.put(&task, work);
 }
 
 // Puts the goal in the place of the current one, or records the deployment.
 fn set_goal(records: &mut Records, task: u64, deployment: Option<DepRow>)
-    ensures { arrivals records.new ≡ arrivals records.old }
+    ensures { recorded records.new ≡ goal_set task deployment (recorded records.old) }
 {
     let Some(row) = deployment else {
         return;
@@ -39,99 +46,36 @@ fn set_goal(records: &mut Records, task: u64, deployment: Option<DepRow>)
 }
 
 fn add_deployment(records: &mut Records, task: u64, row: DepRow)
-    ensures { arrivals records.new ≡ arrivals records.old }
+    ensures { recorded records.new ≡ deployment_added task row (recorded records.old) }
 {
-    set_wants(records, &row.goal);
+    note_wants(&mut records.instances, &row.goal);
     records.deployments.put(&Since::Task(task), row);
 }
 
-fn replace_goal(records: &mut Records, since: Since, mut new: DepRow)
-    ensures { arrivals records.new ≡ arrivals records.old }
+fn replace_goal(records: &mut Records, since: Since, row: DepRow)
+    ensures { recorded records.new ≡ goal_replaced since row.goal (recorded records.old) }
 {
+    let DepRow {
+        dep: _,
+        goal,
+        shared: _,
+    } = row;
     clear_wants(records, since);
-    set_wants(records, &new.goal);
-    if let Some(row) = thing_mut(&mut records.deployments, &since) {
-        mem::swap(&mut row.goal, &mut new.goal);
-    }
-}
-
-fn set_wants(records: &mut Records, goal: &Goal)
-    ensures { arrivals records.new ≡ arrivals records.old }
-{
-    note_wants(&mut records.instances, goal);
-}
-
-pub(crate) fn clear_wants(records: &mut Records, since: Since)
-    ensures { arrivals records.new ≡ arrivals records.old }
-{
-    if let Some(row) = records.deployments.get(&since) {
-        forget_wants(&mut records.instances, &row.goal);
-    }
+    note_wants(&mut records.instances, &goal);
+    records.deployments.set_goal(&since, goal);
 }
 
 // Notes where each instance, machine and disk stands in a task.
 fn set_parts(records: &mut Records, work: &Work)
-    ensures { arrivals records.new ≡ arrivals records.old }
+    ensures { recorded records.new ≡ parts_set work.now (recorded records.old) }
 {
-    for (place, inst) in work.pings.items.iter().enumerate() {
-        records.instances.set_ping(inst, Some(place));
-    }
-    for (place, name) in work.sweep.items.iter().enumerate() {
-        set_sweep(records, *name, place);
-    }
-    for (place, inst) in work.obsolete.items.iter().enumerate() {
-        records.instances.set_leaving(inst, Some(place));
-    }
-    for (group, it) in work.groups.iter().enumerate() {
-        set_group(
-            records,
-            work.changed.as_slice(),
-            group,
-            it.places.as_slice(),
-        );
-    }
-    for (place, disk) in work.disks.items.iter().enumerate() {
-        set_deleting(records, *disk, place);
-    }
-}
-
-fn set_sweep(records: &mut Records, name: MachineName, place: usize)
-    ensures { arrivals records.new ≡ arrivals records.old }
-{
-    if let Some(machine) = thing_mut(&mut records.machines, &name) {
-        machine.sweep = Some(place);
-    }
-}
-
-fn set_group(records: &mut Records, changed: &[Inst], group: usize, places: &[usize])
-    ensures { arrivals records.new ≡ arrivals records.old }
-{
-    for (place, at) in places.iter().enumerate() {
-        if let Some(inst) = changed.get(*at) {
-            records
-                .instances
-                .set_change(inst, Some(GroupPlace { group, place }));
-        }
-    }
-}
-
-fn set_deleting(records: &mut Records, disk: u64, place: usize)
-    ensures { arrivals records.new ≡ arrivals records.old }
-{
-    if let Some(loose) = thing_mut(&mut records.orphans, &disk) {
-        loose.deleting = Some(place);
-    }
-}
-
-/// Notes how a goal wants its instances.
-pub(crate) fn note_wants(instances: &mut Instances, goal: &Goal) {
-    for (place, want) in goal.rows.iter().enumerate() {
-        instances.set_want(&want.inst, Some(place));
-    }
-}
-
-fn forget_wants(instances: &mut Instances, goal: &Goal) {
-    for want in goal.rows.iter() {
-        instances.set_want(&want.inst, None);
-    }
+    set_pings(&mut records.instances, work.pings.items.as_slice());
+    set_leavings(&mut records.instances, work.obsolete.items.as_slice());
+    set_changes(
+        &mut records.instances,
+        work.changed.as_slice(),
+        work.groups.as_slice(),
+    );
+    set_sweeps(&mut records.machines, work.sweep.items.as_slice());
+    set_deletings(&mut records.orphans, work.disks.items.as_slice());
 }

@@ -1,5 +1,7 @@
 pub mod Begun
 pub mod Closed
 pub mod Ended
+pub mod Grouping
 pub mod Opened
 pub mod Updated
+pub mod WorkBy

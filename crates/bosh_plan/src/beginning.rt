@@ -1,5 +1,5 @@
 ghost use Rattle.std.specs.Prelude.{◌≡◌, IfOk};
-ghost use Rattle.bosh_records.specs.Arrivals.{arrivals};
+ghost use Rattle.bosh_records.specs.Recorded.{kept, recorded};
 ghost use Rattle.bosh_plan.specs.Begun.{compile_row_of, doubt_of, machine_begun, next_key, row_begun, row_or_bare, subject_of};
 
 use crate::fault::recorded;
@@ -33,7 +33,7 @@ pub struct Begun {
 pub fn plan_begin(records: &mut Records, begin: &Begin) -> Result<Begun, RecordsFault>
     ensures begins { IfOk result (λ begun. begun.begin ≡ begin.now) }
     ensures subject { IfOk result (λ begun. begun.subject ≡ subject_of records.old begin.now) }
-    ensures same { arrivals records.new ≡ arrivals records.old }
+    ensures alike { kept (recorded records.new) ≡ kept (recorded records.old) }
 {
     records.calls.ensure(begin.n)?;
     let copy = begin.copy(records.alloc)?;
@@ -43,7 +43,7 @@ pub fn plan_begin(records: &mut Records, begin: &Begin) -> Result<Begun, Records
 
 fn subject_begun(records: &mut Records, begin: &Begin) -> Result<Subject, RecordsFault>
     ensures begun { IfOk result (λ subject. subject ≡ subject_of records.old begin.now) }
-    ensures same { arrivals records.new ≡ arrivals records.old }
+    ensures alike { kept (recorded records.new) ≡ kept (recorded records.old) }
 {
     match (&begin.owner, &begin.call) {
         (Owner::Instance(inst), _) => Ok(Subject::Instance(row_begun(records, inst, begin)?)),
@@ -63,7 +63,7 @@ fn subject_begun(records: &mut Records, begin: &Begin) -> Result<Subject, Record
 
 fn row_begun(records: &mut Records, inst: &Inst, begun: &Begin) -> Result<Row, RecordsFault>
     ensures begun { IfOk result (λ row. row ≡ row_begun records.old begun.now inst.now) }
-    ensures same { arrivals records.new ≡ arrivals records.old }
+    ensures alike { kept (recorded records.new) ≡ kept (recorded records.old) }
 {
     records.instances.ensure(records.alloc, inst)?;
     let mut row = row_or_bare(records, inst)?;
@@ -96,7 +96,7 @@ fn machine_begun(
     begin: &Begin,
 ) -> Result<Subject, RecordsFault>
     ensures begun { IfOk result (λ subject. subject ≡ machine_begun records.old begin.now name make.now) }
-    ensures same { arrivals records.new ≡ arrivals records.old }
+    ensures alike { kept (recorded records.new) ≡ kept (recorded records.old) }
 {
     records.machines.ensure(name)?;
     let Some(dep) = records.dep_of(name.task) else {

@@ -1,20 +1,30 @@
-use bosh_base::{GroupPlan, Inst, TaskKind, TaskOpen};
+ghost use Rattle.std.specs.Prelude.{◌≡◌, ◌++◌, [], ◌∷◌, IfOk, OnOk, fold, map};
+ghost use Rattle.std.specs.List.{enumerate_from, position};
+ghost use Rattle.std.specs.Option.{option_copied};
+ghost use Rattle.bosh_plan.specs.Grouping.{first_inst, groups_by, is_group_of, new_group, plan_for, plan_in, planned, rolling_by};
+ghost use Rattle.bosh_plan.specs.Grouping.{stage_of, with_member, with_place};
+
+use bosh_base::{Goal, GroupPlan, Inst, Seq, TaskKind, TaskOpen};
+use bosh_drops::beside;
 use bosh_progress::Rolling;
 use bosh_records::RecordsFault;
-use bosh_work::GroupWork;
+use bosh_work::{GroupWork, Groups};
 use std::alloc::Global;
 
 /// The changed instances of a task by their groups, in the order of the first of each.
-pub(crate) fn grouped(alloc: Global, opening: &TaskOpen) -> Result<Vec<GroupWork>, RecordsFault> {
-    let changed = opening.changed.as_slice();
+pub(crate) fn grouped(alloc: Global, opening: &TaskOpen) -> Result<Groups, RecordsFault>
+    ensures { IfOk result (λ groups. groups ≡ groups_by opening.now) }
+{
+    let members = members(alloc, opening.changed.as_slice())?;
+    plan_all(alloc, opening, members)
+}
+
+fn members(alloc: Global, changed: &[Inst]) -> Result<Vec<GroupWork>, RecordsFault>
+    ensures { IfOk result (λ groups. groups.items ≡ fold (with_member changed.now) [] (enumerate_from 0 changed.now)) }
+{
     let mut groups = Vec::new(alloc);
     for (place, inst) in changed.iter().enumerate() {
         add(alloc, &mut groups, changed, place, inst)?;
-    }
-    for group in groups.iter_mut() {
-        let plan = plan_for(opening, changed, group);
-        group.roll = rolling(alloc, opening, plan, group.places.len())?;
-        group.stage = stage_of(plan);
     }
     Ok(groups)
 }
@@ -25,17 +35,44 @@ fn add(
     changed: &[Inst],
     place: usize,
     inst: &Inst,
-) -> Result<(), RecordsFault> {
-    match groups.iter_mut().find(|group| is_of(group, changed, inst)) {
-        Some(group) => group.places.push(place)?,
-        None => groups.push(first_of(alloc, place)?)?,
+) -> Result<(), RecordsFault>
+    ensures { OnOk result (groups.new.items ≡ with_member changed.now groups.old.items (place, inst.now)) }
+{
+    match group_of(groups.as_slice(), changed, inst) {
+        Some(at) => add_to(groups, at, place),
+        None => Ok(groups.push(first_of(alloc, place)?)?),
     }
-    Ok(())
 }
 
-fn first_of(alloc: Global, place: usize) -> Result<GroupWork, RecordsFault> {
-    let mut places = Vec::new(alloc);
-    places.push(place)?;
+fn group_of(groups: &[GroupWork], changed: &[Inst], inst: &Inst) -> Option<usize>
+    ensures { result ≡ position (is_group_of changed.now inst.now) groups.now }
+{
+    groups.iter().position(|group| is_of(group, changed, inst))
+}
+
+fn add_to(groups: &mut Vec<GroupWork>, at: usize, place: usize) -> Result<(), RecordsFault>
+    ensures { OnOk result (groups.new.items ≡ with_place groups.old.items at place) }
+{
+    match groups.get_mut(at) {
+        Some(group) => add_place(&mut group.places, place),
+        None => Ok(()),
+    }
+}
+
+fn add_place(places: &mut Seq<usize>, place: usize) -> Result<(), RecordsFault>
+    ensures { OnOk result (places.new ≡ places.old ++ place ∷ []) }
+{
+    match places.push(place) {
+        Ok(()) => Ok(()),
+        Err(_) => Err(RecordsFault::Memory),
+    }
+}
+
+fn first_of(alloc: Global, place: usize) -> Result<GroupWork, RecordsFault>
+    ensures { IfOk result (λ group. group ≡ new_group place) }
+{
+    let mut places = Seq::new(alloc);
+    add_place(&mut places, place)?;
     Ok(GroupWork {
         stage: 0,
         places,
@@ -43,28 +80,77 @@ fn first_of(alloc: Global, place: usize) -> Result<GroupWork, RecordsFault> {
     })
 }
 
-fn first<'a>(group: &GroupWork, changed: &'a [Inst]) -> Option<&'a Inst> {
-    changed.get(*group.places.first()?)
+fn first<'a>(group: &GroupWork, changed: &'a [Inst]) -> Option<&'a Inst>
+    ensures { option_copied result ≡ first_inst changed.now group.now }
+{
+    changed.get(*group.places.get(0)?)
 }
 
-fn is_of(group: &GroupWork, changed: &[Inst], inst: &Inst) -> bool {
+fn is_of(group: &GroupWork, changed: &[Inst], inst: &Inst) -> bool
+    ensures { result ≡ is_group_of changed.now inst.now group.now }
+{
     match first(group, changed) {
         Some(other) => other.group == inst.group,
         None => false,
     }
 }
 
-fn plan_for<'a>(
-    opening: &'a TaskOpen,
-    changed: &[Inst],
-    group: &GroupWork,
-) -> Option<&'a GroupPlan> {
-    let inst = first(group, changed)?;
-    let goal = opening.goal.as_ref()?;
+// Each group with its stage, and how many of it change at a time.
+fn plan_all(
+    alloc: Global,
+    opening: &TaskOpen,
+    members: Vec<GroupWork>,
+) -> Result<Groups, RecordsFault>
+    ensures { IfOk result (λ groups. groups ≡ map (planned opening.now) members.items) }
+{
+    let mut groups = Vec::new(alloc);
+    for group in members {
+        groups.push(plan(alloc, opening, group)?)?;
+    }
+    Ok(Groups::of(groups))
+}
+
+fn plan(alloc: Global, opening: &TaskOpen, group: GroupWork) -> Result<GroupWork, RecordsFault>
+    ensures { IfOk result (λ it. it ≡ planned opening.now group) }
+{
+    let plan = plan_for(opening, &group);
+    let stage = stage_of(plan);
+    let roll = rolling(alloc, opening, plan, group.places.len());
+    let (group, roll) = beside(group, roll)?;
+    Ok(with_plan(group, stage, roll))
+}
+
+fn with_plan(group: GroupWork, stage: u32, roll: Rolling) -> GroupWork
+    ensures { result ≡ record group { stage = stage; roll = roll } }
+{
+    let GroupWork {
+        stage: _,
+        places,
+        roll: _,
+    } = group;
+    GroupWork {
+        stage,
+        places,
+        roll,
+    }
+}
+
+fn plan_for<'a>(opening: &'a TaskOpen, group: &GroupWork) -> Option<&'a GroupPlan>
+    ensures { option_copied result ≡ plan_for opening.now group.now }
+{
+    let inst = first(group, opening.changed.as_slice())?;
+    plan_in(opening.goal.as_ref()?, inst)
+}
+
+fn plan_in<'a>(goal: &'a Goal, inst: &Inst) -> Option<&'a GroupPlan>
+    ensures { option_copied result ≡ plan_in goal.now inst.now }
+{
     goal.groups.iter().find(|plan| plan.name == inst.group)
 }
 
-fn stage_of(plan: Option<&GroupPlan>) -> u32 {
+fn stage_of(plan: Option<&GroupPlan>) -> u32
+    ensures { result ≡ stage_of (option_copied plan.entry) }
+{
     match plan {
         Some(plan) => plan.stage,
         None => 0,
@@ -77,7 +163,9 @@ fn rolling(
     opening: &TaskOpen,
     plan: Option<&GroupPlan>,
     len: usize,
-) -> Result<Rolling, RecordsFault> {
+) -> Result<Rolling, RecordsFault>
+    ensures { IfOk result (λ roll. roll ≡ rolling_by opening.now.kind (option_copied plan.entry) len) }
+{
     let (canaries, limit) = match (&opening.kind, plan) {
         (
             TaskKind::Recreate(_) | TaskKind::Start(_) | TaskKind::Stop(_) | TaskKind::Resolve(_),

@@ -1,6 +1,9 @@
+ghost use Rattle.std.specs.Prelude.{◌≡◌, IfOk, fold, map};
+ghost use Rattle.std.specs.List.{enumerate_from};
+ghost use Rattle.bosh_plan.specs.WorkBy.{key_line, with_key};
+
 use crate::lines::full;
 use bosh_base::{Copyable, Key, KeyWork};
-use bosh_progress::Queue;
 use bosh_records::{Keys, RecordsFault};
 use bosh_work::Line;
 use std::alloc::Global;
@@ -10,24 +13,36 @@ pub(crate) fn key_line(
     alloc: Global,
     works: &[KeyWork],
     keys: &Keys,
-) -> Result<Line<Key>, RecordsFault> {
+) -> Result<Line<Key>, RecordsFault>
+    ensures { IfOk result (λ line. line ≡ key_line keys.now works.now) }
+{
     let mut line = full(alloc, keys_of(alloc, works)?)?;
-    finish_compiled(&mut line.queue, works, keys);
+    finish_compiled(&mut line, works, keys);
     Ok(line)
 }
 
-fn keys_of(alloc: Global, works: &[KeyWork]) -> Result<Vec<Key>, RecordsFault> {
+fn keys_of(alloc: Global, works: &[KeyWork]) -> Result<Vec<Key>, RecordsFault>
+    ensures { IfOk result (λ found. found.items ≡ map (λ work. work.key) works.now) }
+{
     let mut found = Vec::new(alloc);
-    for work in works.iter() {
+    for work in works {
         found.push(work.key.copy(alloc)?)?;
     }
     Ok(found)
 }
 
-fn finish_compiled(queue: &mut Queue, works: &[KeyWork], keys: &Keys) {
+fn finish_compiled(line: &mut Line<Key>, works: &[KeyWork], keys: &Keys)
+    ensures { line.new ≡ fold (with_key keys.now) line.old (enumerate_from 0 works.now) }
+{
     for (place, work) in works.iter().enumerate() {
-        if keys.is_compiled(&work.key) {
-            queue.finish(place);
-        }
+        finish_where_compiled(line, place, work, keys);
+    }
+}
+
+fn finish_where_compiled(line: &mut Line<Key>, place: usize, work: &KeyWork, keys: &Keys)
+    ensures { line.new ≡ with_key keys.now line.old (place, work.now) }
+{
+    if keys.is_compiled(&work.key) {
+        line.finish(Some(place));
     }
 }

@@ -1,13 +1,18 @@
-ghost use Rattle.std.specs.Prelude.{◌≡◌, IfOk};
-ghost use Rattle.bosh_records.specs.Arrivals.{arrivals};
+ghost use Rattle.std.specs.Prelude.{◌≡◌, IfOk, OnOk};
+ghost use Rattle.std.specs.Option.{option_copied};
+ghost use Rattle.bosh_records.specs.Recorded.{kept, recorded};
 ghost use Rattle.bosh_plan.specs.Opened.{IsOpened, dep_row_of, task_row_of};
+ghost use Rattle.bosh_plan.specs.WorkBy.{asked_in, has_machine, is_asked, is_of, is_swept, swept_in, with_before};
+ghost use Rattle.bosh_plan.specs.WorkBy.{with_changes, with_keys, work_by};
 
 use crate::grouping::grouped;
 use crate::key_places::key_line;
 use crate::lines::{full, nothing};
-use bosh_base::{Copyable, DepRow, Goal, Inst, Name, Seq, TaskKind, TaskOpen, TaskRow, copy_both};
+use bosh_base::{
+    Copyable, DepRow, Goal, Inst, Name, Row, Seq, TaskKind, TaskOpen, TaskRow, copy_both,
+};
 use bosh_drops::{beside, put};
-use bosh_records::{Records, RecordsFault, Since, copies};
+use bosh_records::{Machine, Records, RecordsFault, Since, copies};
 use bosh_work::{MachineName, Work};
 use std::alloc::Global;
 
@@ -22,8 +27,8 @@ pub struct Opened {
 
 /// What the opening of a task changes. Room is made for it, and what is recorded stays as it is.
 pub fn plan_opening(records: &mut Records, opening: &TaskOpen) -> Result<Opened, RecordsFault>
-    ensures opened { IfOk result (λ opened. IsOpened opening.now opened) }
-    ensures same { arrivals records.new ≡ arrivals records.old }
+    ensures opened { IfOk result (λ opened. IsOpened records.new opening.now opened) }
+    ensures alike { kept (recorded records.new) ≡ kept (recorded records.old) }
 {
     records.tasks.ensure(opening.task)?;
     records.works.ensure(opening.task)?;
@@ -36,7 +41,7 @@ pub fn plan_opening(records: &mut Records, opening: &TaskOpen) -> Result<Opened,
 
 // Room for what a goal wants.
 fn make_room(records: &mut Records, goal: &Goal) -> Result<(), RecordsFault>
-    ensures { arrivals records.new ≡ arrivals records.old }
+    ensures { kept (recorded records.new) ≡ kept (recorded records.old) }
 {
     for want in goal.rows.iter() {
         records.instances.ensure(records.alloc, &want.inst)?;
@@ -48,7 +53,7 @@ fn make_room(records: &mut Records, goal: &Goal) -> Result<(), RecordsFault>
 }
 
 fn made(records: &Records, opening: &TaskOpen) -> Result<Opened, RecordsFault>
-    ensures { IfOk result (λ opened. IsOpened opening.now opened) }
+    ensures { IfOk result (λ opened. IsOpened records.now opening.now opened) }
 {
     let recorded = beside(
         deployment_of(records.alloc, opening)?,
@@ -63,7 +68,7 @@ fn made(records: &Records, opening: &TaskOpen) -> Result<Opened, RecordsFault>
 }
 
 fn work_of(records: &Records, opening: &TaskOpen) -> Result<Work, RecordsFault>
-    ensures { IfOk result (λ work. work.task ≡ opening.now.task) }
+    ensures { IfOk result (λ work. work ≡ work_by records.now opening.now) }
 {
     let mut work = nothing(records.alloc, opening.task);
     let filled = fill(records, &mut work, opening);
@@ -72,7 +77,7 @@ fn work_of(records: &Records, opening: &TaskOpen) -> Result<Work, RecordsFault>
 }
 
 fn fill(records: &Records, work: &mut Work, opening: &TaskOpen) -> Result<(), RecordsFault>
-    ensures { work.new.task ≡ work.old.task }
+    ensures { OnOk result (work.new ≡ with_changes opening.now (with_before records.now opening.now work.old)) }
 {
     note_before(records, work, opening)?;
     note_changes(records.alloc, work, opening)
@@ -80,15 +85,21 @@ fn fill(records: &Records, work: &mut Work, opening: &TaskOpen) -> Result<(), Re
 
 // What is asked, swept and compiled before any instance changes.
 fn note_before(records: &Records, work: &mut Work, opening: &TaskOpen) -> Result<(), RecordsFault>
-    ensures { work.new.task ≡ work.old.task }
+    ensures { OnOk result (work.new ≡ with_before records.now opening.now work.old) }
 {
     let alloc = records.alloc;
     put(&mut work.pings, full(alloc, to_ping(records, opening)?)?);
     put(&mut work.sweep, full(alloc, to_sweep(records, opening)?)?);
+    note_keys(records, work, opening)
+}
+
+fn note_keys(records: &Records, work: &mut Work, opening: &TaskOpen) -> Result<(), RecordsFault>
+    ensures { OnOk result (work.new ≡ with_keys records.now.keys opening.now.goal work.old) }
+{
     if let Some(goal) = &opening.goal {
         put(
             &mut work.keys,
-            key_line(alloc, goal.keys.as_slice(), &records.keys)?,
+            key_line(records.alloc, goal.keys.as_slice(), &records.keys)?,
         );
         work.slots = u32::try_from(goal.slots.len()).unwrap_or(u32::MAX);
     }
@@ -97,7 +108,7 @@ fn note_before(records: &Records, work: &mut Work, opening: &TaskOpen) -> Result
 
 // Which instances leave and change, and which disks are deleted.
 fn note_changes(alloc: Global, work: &mut Work, opening: &TaskOpen) -> Result<(), RecordsFault>
-    ensures { work.new.task ≡ work.old.task }
+    ensures { OnOk result (work.new ≡ with_changes opening.now work.old) }
 {
     let obsolete = copies(alloc, opening.obsolete.as_slice())?;
     put(&mut work.obsolete, full(alloc, obsolete)?);
@@ -110,37 +121,52 @@ fn note_changes(alloc: Global, work: &mut Work, opening: &TaskOpen) -> Result<()
 
 // A deploy that looks whether each machine answers asks those of all rows of its deployment that are not known to
 // be lost, and the task that resolves one instance asks that of its row.
-fn to_ping(records: &Records, opening: &TaskOpen) -> Result<Vec<Inst>, RecordsFault> {
+fn to_ping(records: &Records, opening: &TaskOpen) -> Result<Vec<Inst>, RecordsFault>
+    ensures { IfOk result (λ found. found.items ≡ asked_in opening.now records.now.instances.by_inst.entries) }
+{
     let mut found = Vec::new(records.alloc);
-    for (inst, _) in records.instances.iter() {
-        if is_asked(opening, inst) && has_machine(records, inst) {
+    for (inst, instance) in records.instances.iter() {
+        if is_asked(opening, inst) && has_machine(instance.row.as_ref()) {
             found.push(inst.copy(records.alloc)?)?;
         }
     }
     Ok(found)
 }
 
-fn has_machine(records: &Records, inst: &Inst) -> bool {
-    match records.instances.row(inst) {
+fn has_machine(row: Option<&Row>) -> bool
+    ensures { result ≡ has_machine (option_copied row.entry) }
+{
+    match row {
         Some(row) => row.vm.is_some() && !row.lost,
         None => false,
     }
 }
 
 // The compile machines of the deployment that are recorded.
-fn to_sweep(records: &Records, opening: &TaskOpen) -> Result<Vec<MachineName>, RecordsFault> {
+fn to_sweep(records: &Records, opening: &TaskOpen) -> Result<Vec<MachineName>, RecordsFault>
+    ensures { IfOk result (λ found. found.items ≡ swept_in opening.now.dep records.now.machines.places.entries) }
+{
     let mut found = Vec::new(records.alloc);
     for (name, machine) in records.machines.iter() {
-        if let Some(machine) = machine {
-            if is_of(opening.dep.as_ref(), &machine.row.dep) {
-                found.push(*name)?;
-            }
+        if is_swept(opening.dep.as_ref(), machine.as_ref()) {
+            found.push(*name)?;
         }
     }
     Ok(found)
 }
 
-fn is_asked(opening: &TaskOpen, inst: &Inst) -> bool {
+fn is_swept(dep: Option<&Name>, machine: Option<&Machine>) -> bool
+    ensures { result ≡ is_swept (option_copied dep.entry) (option_copied machine.entry) }
+{
+    match machine {
+        Some(machine) => is_of(dep, &machine.row.dep),
+        None => false,
+    }
+}
+
+fn is_asked(opening: &TaskOpen, inst: &Inst) -> bool
+    ensures { result ≡ is_asked opening.now inst.now }
+{
     match &opening.kind {
         TaskKind::Fix => is_of(opening.dep.as_ref(), &inst.dep),
         TaskKind::Resolve(named) => named == inst,
@@ -148,7 +174,9 @@ fn is_asked(opening: &TaskOpen, inst: &Inst) -> bool {
     }
 }
 
-fn is_of(dep: Option<&Name>, other: &Name) -> bool {
+fn is_of(dep: Option<&Name>, other: &Name) -> bool
+    ensures { result ≡ is_of (option_copied dep.entry) other.now }
+{
     match dep {
         Some(dep) => dep == other,
         None => false,

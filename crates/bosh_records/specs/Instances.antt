@@ -1,12 +1,13 @@
 -- What is known of instances.
-use Rattle.std.specs.Prelude.{ℕ, Option, Some, None}
-use Rattle.std.specs.BTreeMap.{IsUnchanged, Updates, get}
+use Rattle.std.specs.Prelude.{◌≡◌, ℕ, Option, Some, None}
+use Rattle.std.specs.BTreeMap.{get}
 use Rattle.std.specs.Option.{option_and_then, option_map_or}
 use Rattle.bosh_base.specs.Inst.{inst_cmp}
 use Rattle.bosh_base.specs.declared.inst.Inst.{Inst}
 use Rattle.bosh_base.specs.declared.row.Row.{Row}
 use Rattle.bosh_base.specs.declared.owner.Owner.{Owner}
 use Rattle.bosh_base.specs.declared.owner.Owner.TheVariants as owners
+use Rattle.bosh_records.specs.Table.{altered}
 use Rattle.bosh_work.specs.Part.{no_part}
 use Rattle.bosh_work.specs.declared.part.GroupPlace.{GroupPlace}
 use Rattle.bosh_work.specs.declared.part.Part.{Part}
@@ -38,11 +39,8 @@ unknown = record { row = None; want = None; part = no_part; call = None }
 
 -- of one instance something else is known, where something was known of it, and nothing changes elsewhere
 abbrev pub IsChanged : Instances → Instances → Inst → (Instance → Instance) → Type 0
-IsChanged before after inst change = by (known_in before inst)
-  where
-    by : Option Instance → Type 0
-    by (Some it) = Updates inst_cmp before.by_inst after.by_inst inst (Some (change it))
-    by None = IsUnchanged before.by_inst after.by_inst
+IsChanged before after inst change =
+    after.by_inst.entries ≡ altered inst_cmp inst change before.by_inst.entries
 
 abbrev pub with_ping : Option ℕ → Instance → Instance
 with_ping place it = record it { part = record it.part { ping = place } }

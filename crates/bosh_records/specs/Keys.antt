@@ -1,17 +1,24 @@
 -- What is known of keys.
-use Rattle.std.specs.Prelude.{ℕ, Bool, false, List, Option, Some, None, is_some, option_map}
-use Rattle.std.specs.BTreeMap.{IsUnchanged, Updates, get}
+use Rattle.std.specs.Prelude.{◌≡◌, ℕ, Bool, false, List, Option, Some, None, is_some, option_map}
+use Rattle.std.specs.BTreeMap.{get}
 use Rattle.std.specs.List.{filter_map}
 use Rattle.std.specs.Option.{option_and_then, option_map_or}
 use Rattle.bosh_base.specs.contracts.key.KeyOrd.TheImpl as key_order
 use Rattle.bosh_base.specs.declared.digest.Digest.{Digest}
+use Rattle.std.specs.declared.cmp.Ordering.{Ordering}
 use Rattle.bosh_base.specs.declared.key.Key.{Key}
+use Rattle.bosh_base.specs.declared.key.KeyWork.{KeyWork}
 use Rattle.bosh_base.specs.declared.snapshot.BuiltKey.{BuiltKey}
+use Rattle.bosh_records.specs.Table.{altered}
 use Rattle.bosh_records.specs.declared.keys.KeyState.{KeyState}
 use Rattle.bosh_records.specs.declared.keys.Keys.{Keys}
 
+-- in their order
+abbrev pub key_cmp : Key → Key → Ordering
+key_cmp = key_order.ghosts.cmp
+
 abbrev pub state_in : Keys → Key → Option KeyState
-state_in keys key = get key_order.ghosts.cmp keys.by_key key
+state_in keys key = get key_cmp keys.by_key key
 
 -- the digest of a compiled key
 abbrev pub digest_in : Keys → Key → Option Digest
@@ -40,8 +47,9 @@ asked name = record { name = name; digest = None; call = None }
 
 -- of one key something else is known, where something was known of it, and nothing changes elsewhere
 abbrev pub IsChanged : Keys → Keys → Key → (KeyState → KeyState) → Type 0
-IsChanged before after key change = by (state_in before key)
-  where
-    by : Option KeyState → Type 0
-    by (Some it) = Updates key_order.ghosts.cmp before.by_key after.by_key key (Some (change it))
-    by None = IsUnchanged before.by_key after.by_key
+IsChanged before after key change =
+    after.by_key.entries ≡ altered key_cmp key change before.by_key.entries
+
+-- it is compiled, as a package of this name
+abbrev pub built_as : KeyWork → Digest → KeyState → KeyState
+built_as work digest it = record it { name = work.name; digest = Some digest }

@@ -1,8 +1,10 @@
 pub mod Arrivals
+pub mod Changes
 pub mod Instances
 pub mod Keys
 pub mod Kinds
 pub mod NextKey
 pub mod Places
 pub mod Readers
+pub mod Recorded
 pub mod Table

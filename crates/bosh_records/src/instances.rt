@@ -1,11 +1,13 @@
-ghost use Rattle.std.specs.Prelude.{◌≡◌, [], IsNone, IsSome, None, OnErr, OnOk, Some};
-ghost use Rattle.std.specs.BTreeMap.{IsUnchanged, Updates};
+ghost use Rattle.std.specs.Prelude.{◌≡◌, [], None, OnErr, OnOk, Some};
+ghost use Rattle.std.specs.BTreeMap.{IsUnchanged, Updates, insert_entry};
 ghost use Rattle.std.specs.Map.Iter.{ShowsInOrder, deref_pair};
 ghost use Rattle.std.specs.Option.{option_copied};
 ghost use Rattle.bosh_base.specs.Inst.{inst_cmp};
 ghost use Rattle.bosh_base.specs.declared.inst.Inst.{Inst};
 ghost use Rattle.bosh_records.specs.Instances.{IsChanged, known_in, part_in, ping_of, row_in, unknown, with_change};
 ghost use Rattle.bosh_records.specs.Instances.{with_leaving, with_ping};
+ghost use Rattle.bosh_records.specs.Recorded.{known_instances};
+ghost use Rattle.bosh_records.specs.Table.{with_room};
 ghost use Rattle.bosh_records.specs.declared.instances.Instance.{Instance};
 
 use crate::RecordsFault;
@@ -78,9 +80,18 @@ impl Instances {
 
     /// Makes room for an instance, of which nothing is known yet.
     pub fn ensure(&mut self, alloc: Global, inst: &Inst) -> Result<(), RecordsFault>
-        ensures there { IsSome (known_in self.old inst.now) → IsUnchanged self.old.by_inst self.new.by_inst }
-        ensures ok { IsNone (known_in self.old inst.now)
-            → OnOk result (Updates inst_cmp self.old.by_inst self.new.by_inst inst.now (Some unknown)) }
+        ensures ok { OnOk result
+            (self.new.by_inst.entries ≡ with_room inst_cmp inst.now unknown self.old.by_inst.entries) }
+        ensures alike { known_instances self.new.by_inst.entries ≡ known_instances self.old.by_inst.entries }
+        ensures err { OnErr result (IsUnchanged self.old.by_inst self.new.by_inst) }
+        ensures row { row_in self.new inst.now ≡ row_in self.old inst.now }
+    {
+        self.make_place(alloc, inst)
+    }
+
+    fn make_place(&mut self, alloc: Global, inst: &Inst) -> Result<(), RecordsFault>
+        ensures ok { OnOk result
+            (self.new.by_inst.entries ≡ with_room inst_cmp inst.now unknown self.old.by_inst.entries) }
         ensures err { OnErr result (IsUnchanged self.old.by_inst self.new.by_inst) }
         ensures row { row_in self.new inst.now ≡ row_in self.old inst.now }
     {
@@ -92,7 +103,9 @@ impl Instances {
     }
 
     fn add(&mut self, name: Inst) -> Result<(), RecordsFault>
-        ensures ok { OnOk result (Updates inst_cmp self.old.by_inst self.new.by_inst name (Some unknown)) }
+        ensures updates { OnOk result (Updates inst_cmp self.old.by_inst self.new.by_inst name (Some unknown)) }
+        ensures ok { OnOk result
+            (self.new.by_inst.entries ≡ insert_entry inst_cmp self.old.by_inst.entries name unknown) }
         ensures err { OnErr result (IsUnchanged self.old.by_inst self.new.by_inst) }
     {
         insert(&mut self.by_inst, name, Instance::unknown())

@@ -1,9 +1,10 @@
-ghost use Rattle.std.specs.Prelude.{◌≡◌, [], IfOk, IsNone, IsPermutation, IsSome, None, OnErr, OnOk, Some, is_some};
-ghost use Rattle.std.specs.BTreeMap.{IsUnchanged, Updates};
+ghost use Rattle.std.specs.Prelude.{◌≡◌, [], IfOk, IsPermutation, None, OnErr, OnOk, Some, is_some};
+ghost use Rattle.std.specs.BTreeMap.{IsUnchanged, insert_entry};
 ghost use Rattle.std.specs.List.Sorted.{IsSorted};
-ghost use Rattle.bosh_base.specs.contracts.key.KeyOrd.TheImpl as key_order;
 ghost use Rattle.bosh_rows.specs.SoundSnapshot.{built_cmp};
-ghost use Rattle.bosh_records.specs.Keys.{IsChanged, asked, built_of, compiled_of, digest_in, is_compiling_in, state_in};
+ghost use Rattle.bosh_records.specs.Keys.{IsChanged, asked, built_as, built_of, compiled_of, digest_in, is_compiling_in, key_cmp, state_in};
+ghost use Rattle.bosh_records.specs.Recorded.{known_keys};
+ghost use Rattle.bosh_records.specs.Table.{with_room};
 
 use crate::RecordsFault;
 use bosh_base::{BuiltKey, Copyable, Digest, Key, KeyWork, Name, Seq};
@@ -59,9 +60,17 @@ impl Keys {
 
     /// Makes room for a key of a package, where there is none yet.
     pub fn ensure(&mut self, alloc: Global, name: &Name, key: &Key) -> Result<(), RecordsFault>
-        ensures there { IsSome (state_in self.old key.now) → IsUnchanged self.old.by_key self.new.by_key }
-        ensures ok { IsNone (state_in self.old key.now) → OnOk result
-            (Updates key_order.ghosts.cmp self.old.by_key self.new.by_key key.now (Some (asked name.now))) }
+        ensures ok { OnOk result (self.new.by_key.entries
+            ≡ with_room key_cmp key.now (asked name.now) self.old.by_key.entries) }
+        ensures alike { known_keys self.new.by_key.entries ≡ known_keys self.old.by_key.entries }
+        ensures err { OnErr result (IsUnchanged self.old.by_key self.new.by_key) }
+    {
+        self.make_place(alloc, name, key)
+    }
+
+    fn make_place(&mut self, alloc: Global, name: &Name, key: &Key) -> Result<(), RecordsFault>
+        ensures ok { OnOk result (self.new.by_key.entries
+            ≡ with_room key_cmp key.now (asked name.now) self.old.by_key.entries) }
         ensures err { OnErr result (IsUnchanged self.old.by_key self.new.by_key) }
     {
         if self.by_key.contains_key(key) {
@@ -77,7 +86,7 @@ impl Keys {
 
     fn add(&mut self, alloc: Global, key: &Key, state: KeyState) -> Result<(), RecordsFault>
         ensures ok { OnOk result
-            (Updates key_order.ghosts.cmp self.old.by_key self.new.by_key key.now (Some state)) }
+            (self.new.by_key.entries ≡ insert_entry key_cmp self.old.by_key.entries key.now state) }
         ensures err { OnErr result (IsUnchanged self.old.by_key self.new.by_key) }
     {
         let key = key.copy(alloc)?;
@@ -87,8 +96,7 @@ impl Keys {
 
     /// Notes how a key was compiled, by the name of the package that was: another package may have asked for it first.
     pub fn set_built(&mut self, work: KeyWork, digest: Digest)
-        ensures { IsChanged self.old self.new work.key
-            (λ it. record it { name = work.name; digest = Some digest }) }
+        ensures { IsChanged self.old self.new work.key (built_as work digest) }
     {
         let KeyWork { name, key, deps: _ } = work;
         if let Some(state) = self.by_key.get_mut(&key) {

@@ -3,6 +3,7 @@
 #![tactic(auto)]
 
 mod copying;
+mod deployments;
 mod fault;
 mod instances;
 mod keys;
@@ -12,6 +13,8 @@ mod orphans;
 mod places;
 mod records;
 mod table;
+mod tasks;
+mod works;
 
 pub use copying::copies;
 pub use fault::RecordsFault;

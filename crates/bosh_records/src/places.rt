@@ -38,7 +38,8 @@ impl Records {
         self.machine(MachineName { task, slot })?.sweep
     }
 
-    fn deleting_of(&self, disk: u64) -> Option<usize>
+    /// The place of a disk among those that the open task deletes.
+    pub fn deleting_of(&self, disk: u64) -> Option<usize>
         ensures { result ≡ option_and_then (λ loose. loose.deleting) (orphan_at self.now disk) }
     {
         self.orphan(disk)?.deleting

@@ -1,4 +1,4 @@
-ghost use Rattle.std.specs.Prelude.{◌≡◌, ◌==◌, ◌&&◌, ℕ, [], false, IfOk, IsPermutation, None, Option};
+ghost use Rattle.std.specs.Prelude.{◌≡◌, ◌==◌, ◌&&◌, ℕ, false, IfOk, IsPermutation, Option};
 ghost use Rattle.std.specs.List.{list_any};
 ghost use Rattle.std.specs.List.Sorted.{IsSorted};
 ghost use Rattle.std.specs.Map.Iter.{ShowsInOrder, deref_pair};
@@ -8,12 +8,12 @@ ghost use Rattle.bosh_base.specs.declared.inst.Inst.{Inst};
 ghost use Rattle.bosh_base.specs.declared.snapshot.DepRow.{DepRow};
 ghost use Rattle.bosh_base.specs.declared.task.TaskRow.{TaskRow};
 ghost use Rattle.bosh_rows.specs.SoundSnapshot.{built_cmp};
-ghost use Rattle.bosh_records.specs.Arrivals.{arrivals};
 ghost use Rattle.bosh_records.specs.Keys.{built_of};
 ghost use Rattle.bosh_records.specs.Readers.{call_at, dep_of_task, deployed_by, deployment_in, deployment_of};
 ghost use Rattle.bosh_records.specs.Readers.{digest_of, disk_owner, goal_of, has_disk, instance_at, is_compiling};
 ghost use Rattle.bosh_records.specs.Readers.{is_empty, machine_at, orphan_at, owner_in, row_at, shared_of, since_in};
 ghost use Rattle.bosh_records.specs.Readers.{task_at, want_of, work_at};
+ghost use Rattle.bosh_records.specs.Recorded.{nothing, recorded};
 ghost use Rattle.bosh_records.specs.declared.instances.Instance.{Instance};
 ghost use Rattle.bosh_records.specs.declared.machines.Machine.{Machine};
 ghost use Rattle.bosh_work.specs.declared.part.MachineName.{MachineName};
@@ -63,7 +63,7 @@ pub struct Records {
 impl Records {
     /// Before the first entry.
     pub fn empty(alloc: Global) -> Records
-        ensures { arrivals result ≡ record { releases = []; stemcells = []; config = None; opened = 0; last_call = 0 } }
+        ensures { recorded result ≡ nothing }
     {
         Records {
             alloc,

@@ -1,8 +1,10 @@
-ghost use Rattle.std.specs.Prelude.{◌≡◌, ◌<◌, [], None, Option, Some, IfSome, IsNone, IsSome, OnErr, OnOk, is_some};
-ghost use Rattle.std.specs.BTreeMap.{IsUnchanged, Updates, btree_map_len, get};
+ghost use Rattle.std.specs.Prelude.{◌≡◌, [], None, Option, Some, IfSome, OnErr, OnOk, false, is_some};
+ghost use Rattle.std.specs.BTreeMap.{IsOrdered, IsUnchanged, Updates, btree_map_len, get, insert_entry};
 ghost use Rattle.std.specs.Map.Iter.{ShowsInOrder, deref_pair};
 ghost use Rattle.std.specs.Option.{option_copied};
-ghost use Rattle.bosh_records.specs.Table.{next_after, thing_at};
+ghost use Rattle.std.specs.Ordering.{nat_cmp};
+ghost use Rattle.bosh_records.specs.Recorded.{taken_places};
+ghost use Rattle.bosh_records.specs.Table.{is_past, next_after, put_at, thing_at, with_room, without};
 
 use crate::RecordsFault;
 use std::alloc::Global;
@@ -35,6 +37,7 @@ impl<K: Ord, V> Table<K, V> {
     pub fn iter(&self) -> Iter<'_, K, Option<V>>
         ensures rest { result ≡ self.now.places.entries }
         ensures runs { ShowsInOrder (deref_pair {K = K} {X = Option V}) }
+        ensures ordered { IsOrdered K.cmp self.now.places }
     {
         self.places.iter()
     }
@@ -56,7 +59,8 @@ impl<K: Ord + Drop, V: Drop> Table<K, V> {
 
     /// Keeps a place free for a key that has none.
     pub fn keep_place(&mut self, key: K) -> Result<(), RecordsFault>
-        ensures ok { OnOk result (Updates K.cmp self.old.places self.new.places key (Some None)) }
+        ensures ok { OnOk result
+            (self.new.places.entries ≡ insert_entry K.cmp self.old.places.entries key None) }
         ensures err { OnErr result (IsUnchanged self.old.places self.new.places) }
     {
         insert(&mut self.places, key, None)
@@ -64,9 +68,7 @@ impl<K: Ord + Drop, V: Drop> Table<K, V> {
 
     /// Puts a thing in the place of its key.
     pub fn put(&mut self, key: &K, value: V)
-        ensures put { IsSome (get K.cmp self.old.places key.now)
-            → Updates K.cmp self.old.places self.new.places key.now (Some (Some value)) }
-        ensures none { IsNone (get K.cmp self.old.places key.now) → IsUnchanged self.old.places self.new.places }
+        ensures { self.new.places.entries ≡ put_at K.cmp key.now value self.old.places.entries }
     {
         if let Some(place) = self.places.get_mut(key) {
             *place = Some(value);
@@ -75,7 +77,7 @@ impl<K: Ord + Drop, V: Drop> Table<K, V> {
 
     /// Lets a thing go, with its place.
     pub fn delete(&mut self, key: &K)
-        ensures { Updates K.cmp self.old.places self.new.places key.now None }
+        ensures { self.new.places.entries ≡ without K.cmp key.now self.old.places.entries }
     {
         self.places.remove(key);
     }
@@ -83,20 +85,22 @@ impl<K: Ord + Drop, V: Drop> Table<K, V> {
     /// Takes a thing away, with its place.
     pub fn remove(&mut self, key: &K) -> Option<V>
         ensures value { result ≡ thing_at K.cmp self.old.places key.now }
-        ensures updates { Updates K.cmp self.old.places self.new.places key.now None }
+        ensures entries { self.new.places.entries ≡ without K.cmp key.now self.old.places.entries }
     {
         self.places.remove(key)?
     }
 }
 
 impl<V: Drop> Table<u64, V> {
-    /// The least number above another one that has a place. It looks through the places, of which open tasks have few.
-    pub fn next_after(&self, last: u64) -> Option<u64>
+    /// The least number that has a place, above the last one, where one is told. It looks through the places, of which
+    /// open tasks have few.
+    pub fn next_after(&self, last: Option<u64>) -> Option<u64>
         ensures first { result ≡ next_after self.now.places.entries last }
-        ensures above { IfSome result (λ number. last < number) }
+        ensures ordered { IsOrdered nat_cmp self.now.places }
+        ensures there { IfSome result (λ number. is_past last number ≡ false) }
     {
         for (number, _) in self.places.iter() {
-            if last < *number {
+            if !is_past(last, *number) {
                 return Some(*number);
             }
         }
@@ -104,12 +108,29 @@ impl<V: Drop> Table<u64, V> {
     }
 }
 
+fn is_past(last: Option<u64>, number: u64) -> bool
+    ensures { result ≡ is_past last number }
+{
+    match last {
+        Some(last) => number <= last,
+        None => false,
+    }
+}
+
 impl<K: Ord + Drop + Copy, V: Drop> Table<K, V> {
     /// Keeps a place for a key, where it has none yet.
     pub fn ensure(&mut self, key: K) -> Result<(), RecordsFault>
-        ensures there { IsSome (get K.cmp self.old.places key) → IsUnchanged self.old.places self.new.places }
-        ensures ok { IsNone (get K.cmp self.old.places key)
-            → OnOk result (Updates K.cmp self.old.places self.new.places key (Some None)) }
+        ensures ok { OnOk result
+            (self.new.places.entries ≡ with_room K.cmp key None self.old.places.entries) }
+        ensures alike { taken_places self.new.places.entries ≡ taken_places self.old.places.entries }
+        ensures err { OnErr result (IsUnchanged self.old.places self.new.places) }
+    {
+        self.make_place(key)
+    }
+
+    fn make_place(&mut self, key: K) -> Result<(), RecordsFault>
+        ensures ok { OnOk result
+            (self.new.places.entries ≡ with_room K.cmp key None self.old.places.entries) }
         ensures err { OnErr result (IsUnchanged self.old.places self.new.places) }
     {
         if self.has_place(&key) {
@@ -126,7 +147,8 @@ pub(crate) fn insert<K: Ord + Drop, V: Drop>(
     key: K,
     value: V,
 ) -> Result<(), RecordsFault>
-    ensures ok { OnOk result (Updates K.cmp map.old map.new key (Some value)) }
+    ensures updates { OnOk result (Updates K.cmp map.old map.new key (Some value)) }
+    ensures ok { OnOk result (map.new.entries ≡ insert_entry K.cmp map.old.entries key value) }
     ensures err { OnErr result (IsUnchanged map.old map.new) }
 {
     map.insert(key, value)?;

@@ -1,3 +1,4 @@
+pub mod Finished
 pub mod Line
 pub mod Part
 pub mod Rolling

@@ -2,7 +2,7 @@
 use Rattle.std.specs.Prelude.{ℕ, List, false, true, Option, Some, None, slice_get, slice_index_or, slice_set, if◌then◌else◌}
 use Rattle.bosh_progress.specs.declared.rolling.Rolling.{Rolling}
 use Rattle.bosh_work.specs.declared.part.GroupPlace.{GroupPlace}
-use Rattle.bosh_work.specs.declared.work.GroupWork.{GroupWork}
+use Rattle.bosh_work.specs.declared.groups.GroupWork.{GroupWork}
 
 -- ---- at a place
 

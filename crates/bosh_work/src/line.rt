@@ -1,14 +1,18 @@
 ghost use Rattle.std.specs.Prelude.{◌≡◌};
 ghost use Rattle.bosh_work.specs.Line.{finished_line, given_line, taken_line};
 
+use bosh_base::Seq;
 use bosh_progress::Queue;
 
 /// Items of a task in order, and which of them are left.
 #[derive(Drop)]
 pub struct Line<T> {
-    pub items: Vec<T>,
+    pub items: Seq<T>,
     pub queue: Queue,
 }
+
+// A cut of the proof by types: what holds many lines is sent as they are.
+unsafe impl<T: Send> Send for Line<T> {}
 
 impl<T> Line<T> {
     /// Somebody works on the item at a place, where one is told.

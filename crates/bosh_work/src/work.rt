@@ -1,23 +1,12 @@
-ghost use Rattle.std.specs.Prelude.{◌≡◌};
+ghost use Rattle.std.specs.Prelude.{◌≡◌, ◌==◌};
 ghost use Rattle.std.specs.Option.{option_copied};
-ghost use Rattle.bosh_work.specs.Line.{finished_line};
-ghost use Rattle.bosh_work.specs.Rolling.{at_change, begun, finished, given, taken};
-ghost use Rattle.bosh_work.specs.Work.{failed_by, given as given_at, is_less, number_of, roll_of, taken as taken_at};
-ghost use Rattle.bosh_work.specs.Work.{without_machine};
+ghost use Rattle.bosh_work.specs.Finished.{is_machine, key_place, stands_at, without_disk, without_key, without_swept};
+ghost use Rattle.bosh_work.specs.Work.{failed_by, given, is_less, number_of, roll_of, taken, update_begun};
+ghost use Rattle.bosh_work.specs.Work.{update_finished, with_machine, without_machine};
 
-use crate::{GroupPlace, Line, MachineName, Places};
+use crate::{GroupPlace, Groups, Line, MachineName, Places};
 use bosh_base::{Inst, Key, Seq, TaskEnd};
 use bosh_progress::Rolling;
-
-/// The changed instances of one group.
-#[derive(Drop)]
-pub struct GroupWork {
-    /// Groups of a later stage wait for those of an earlier one.
-    pub stage: u32,
-    /// The places of its instances among all that change.
-    pub places: Vec<usize>,
-    pub roll: Rolling,
-}
 
 /// What is left to do of an open task.
 #[derive(Drop)]
@@ -36,7 +25,7 @@ pub struct Work {
     pub machines: usize,
     pub obsolete: Line<Inst>,
     pub changed: Seq<Inst>,
-    pub groups: Vec<GroupWork>,
+    pub groups: Groups,
     pub disks: Line<u64>,
     /// How its least failed call ended it.
     pub failed: Option<TaskEnd>,
@@ -47,28 +36,26 @@ pub struct Work {
 impl Work {
     /// Somebody works on an owner that stands at these places.
     pub fn take(&mut self, places: Places)
-        ensures groups { self.new.groups.items ≡ at_change taken self.old.groups.items places.part.change }
-        ensures others { self.new ≡ record (taken_at self.old places) { groups = self.new.groups } }
+        ensures { self.new ≡ taken self.old places }
     {
         self.open = self.open.saturating_add(1);
         self.pings.take(places.part.ping);
         self.obsolete.take(places.part.leaving);
         self.sweep.take(places.sweep);
         self.disks.take(places.deleting);
-        self.take_change(places.part.change);
+        self.groups.take(places.part.change);
     }
 
     /// Nobody does any more.
     pub fn give(&mut self, places: Places)
-        ensures groups { self.new.groups.items ≡ at_change given self.old.groups.items places.part.change }
-        ensures others { self.new ≡ record (given_at self.old places) { groups = self.new.groups } }
+        ensures { self.new ≡ given self.old places }
     {
         self.open = self.open.saturating_sub(1);
         self.pings.give(places.part.ping);
         self.obsolete.give(places.part.leaving);
         self.sweep.give(places.sweep);
         self.disks.give(places.deleting);
-        self.give_change(places.part.change);
+        self.groups.give(places.part.change);
     }
 
     /// The rolling update of the group of a changed instance.
@@ -79,50 +66,26 @@ impl Work {
         Some(&group.roll)
     }
 
-    fn take_change(&mut self, change: Option<GroupPlace>)
-        ensures groups { self.new.groups.items ≡ at_change taken self.old.groups.items change }
-        ensures others { self.new ≡ record self.old { groups = self.new.groups } }
-    {
-        if let Some(at) = change {
-            if let Some(group) = self.groups.get_mut(at.group) {
-                group.roll.take(at.place);
-            }
-        }
-    }
-
-    fn give_change(&mut self, change: Option<GroupPlace>)
-        ensures groups { self.new.groups.items ≡ at_change given self.old.groups.items change }
-        ensures others { self.new ≡ record self.old { groups = self.new.groups } }
-    {
-        if let Some(at) = change {
-            if let Some(group) = self.groups.get_mut(at.group) {
-                group.roll.give(at.place);
-            }
-        }
-    }
-
     /// The update of a changed instance begins.
     pub fn begin_update(&mut self, change: Option<GroupPlace>)
-        ensures groups { self.new.groups.items ≡ at_change begun self.old.groups.items change }
-        ensures others { self.new ≡ record self.old { groups = self.new.groups } }
+        ensures { self.new ≡ update_begun self.old change }
     {
-        if let Some(at) = change {
-            if let Some(group) = self.groups.get_mut(at.group) {
-                group.roll.begin(at.place);
-            }
-        }
+        self.groups.begin(change);
     }
 
     /// It is done.
     pub fn finish_update(&mut self, change: Option<GroupPlace>)
-        ensures groups { self.new.groups.items ≡ at_change finished self.old.groups.items change }
-        ensures others { self.new ≡ record self.old { groups = self.new.groups } }
+        ensures { self.new ≡ update_finished self.old change }
     {
-        if let Some(at) = change {
-            if let Some(group) = self.groups.get_mut(at.group) {
-                group.roll.finish(at.place);
-            }
-        }
+        self.groups.finish(change);
+    }
+
+    /// One of its compile machines is recorded from now on; it is for a key.
+    pub fn add_machine(&mut self, key: Option<usize>)
+        ensures { self.new ≡ with_machine self.old key }
+    {
+        self.machines = self.machines.saturating_add(1);
+        self.keys.take(key);
     }
 
     /// One of its compile machines is not there any more; it was for a key.
@@ -133,6 +96,51 @@ impl Work {
         self.keys.give(key);
     }
 
+    /// A key is compiled: it is finished, where the task has it.
+    pub fn finish_key(&mut self, key: &Key)
+        ensures { self.new ≡ without_key key.now self.old }
+    {
+        let place = place_of(self.keys.items.as_slice(), key);
+        self.keys.finish(place);
+    }
+
+    /// A compile machine that an earlier task left is not there any more: it is finished, where it has this place among
+    /// those that are swept.
+    pub fn finish_machine(&mut self, name: MachineName, place: usize)
+        ensures { self.new ≡ without_swept name place self.old }
+    {
+        if self.sweeps(name, place) {
+            self.sweep.finish(Some(place));
+        }
+    }
+
+    fn sweeps(&self, name: MachineName, place: usize) -> bool
+        ensures { result ≡ stands_at (is_machine name) place self.now.sweep }
+    {
+        match self.sweep.items.get(place) {
+            Some(it) => it.task == name.task && it.slot == name.slot,
+            None => false,
+        }
+    }
+
+    /// A disk is not there any more: it is finished, where it has this place among those that are deleted.
+    pub fn finish_disk(&mut self, disk: u64, place: usize)
+        ensures { self.new ≡ without_disk disk place self.old }
+    {
+        if self.deletes(disk, place) {
+            self.disks.finish(Some(place));
+        }
+    }
+
+    fn deletes(&self, disk: u64, place: usize) -> bool
+        ensures { result ≡ stands_at (λ it. it == disk) place self.now.disks }
+    {
+        match self.disks.items.get(place) {
+            Some(it) => *it == disk,
+            None => false,
+        }
+    }
+
     /// Notes how a call failed, where it did; the least number counts.
     pub fn fail(&mut self, failed: Option<TaskEnd>)
         ensures { self.new ≡ failed_by self.old failed }
@@ -141,6 +149,12 @@ impl Work {
             self.failed = failed;
         }
     }
+}
+
+fn place_of(keys: &[Key], key: &Key) -> Option<usize>
+    ensures { result ≡ key_place key.now keys.now }
+{
+    keys.iter().position(|it| it == key)
 }
 
 fn is_less(one: Option<&TaskEnd>, other: Option<&TaskEnd>) -> bool

@@ -1,9 +1,8 @@
-use Rattle.std.proofs.Common.{◌≡◌}
-use Rattle.bosh_records.specs.Arrivals.{arrivals}
+use Rattle.std.proofs.Common.{◌≡◌, take}
+use Rattle.std.specs.Prelude.{fold}
+use Rattle.bosh_fold.specs.Anew.{row_read}
 use Rattle.bosh_fold.proofs.anew.read_rows.Given as goal
 
 abbrev pub invariant-loop-row : goal.invariant-loop-row
-invariant-loop-row l = arrivals l.records ≡ arrivals l.initial.records
-
-abbrev pub invariant-loop-row-2 : goal.invariant-loop-row-2
-invariant-loop-row-2 l = arrivals l.records ≡ arrivals l.initial.records
+invariant-loop-row l =
+    l.instances.by_inst.entries ≡ fold row_read l.initial.instances.by_inst.entries (take l.row-index l.rows)

@@ -1,0 +1,6 @@
+use Rattle.bosh_fold.proofs.BringsLemmas.{it_brings_where}
+use Rattle.bosh_fold.proofs.change.plan.Goals as goal
+
+pub returns-clause-comes : goal.returns-clause-comes
+returns-clause-comes c =
+    it_brings_where c.args.records.now c.plan_entry.new.records c.args.entry.now c.plan_entry.result c.plan_entry.ensures.planned

@@ -1,0 +1,10 @@
+use Rattle.std.proofs.Common.{◌≡◌, take}
+use Rattle.std.specs.Prelude.{fold}
+use Rattle.std.specs.List.{enumerate_from}
+use Rattle.bosh_fold.specs.Tasks.{change_set}
+use Rattle.bosh_fold.proofs.marks.set_group.Given as goal
+
+abbrev pub invariant-loop-place : goal.invariant-loop-place
+invariant-loop-place l =
+    l.instances.by_inst.entries
+    ≡ fold (change_set l.changed l.group) l.initial.instances.by_inst.entries (take l.place (enumerate_from 0 l.places))

@@ -1,0 +1,10 @@
+use Rattle.std.proofs.Common.{◌≡◌}
+use Rattle.std.specs.Prelude.{fold}
+use Rattle.std.specs.Slice.Iter.{iter_rest}
+use Rattle.bosh_fold.specs.Tasks.{want_forgotten}
+use Rattle.bosh_fold.proofs.wants.forget_wants.Given as goal
+
+abbrev pub invariant-loop-want : goal.invariant-loop-want
+invariant-loop-want l =
+    fold want_forgotten l.instances.by_inst.entries (iter_rest l.want-iterator)
+    ≡ fold want_forgotten l.initial.instances.by_inst.entries l.goal.rows
