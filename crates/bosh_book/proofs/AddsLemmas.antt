@@ -1,30 +1,41 @@
 -- One call after another.
-use Rattle.std.proofs.Common.{◌≡◌, ◌<◌, ℕ, suc, Bool, false, Option, Some, None, Result, Ok, Err, List, [], ◌∷◌}
-use Rattle.std.proofs.Common.{◌++◌, refl, sym, ◌∙◌, ap, subst, append_assoc, append-nil, arith, length, ◌+◌, ◌-◌}
+use Rattle.std.proofs.Common.{◌≡◌, ℕ, false, Option, Some, None, Result, Ok, Err, List, [], ◌∷◌}
+use Rattle.std.proofs.Common.{◌++◌, refl, sym, ◌∙◌, ap, subst, append_assoc, append-nil, ◌+◌, ◌-◌}
 use Rattle.std.proofs.Math.Nat.{le_refl, le_trans}
-use Rattle.std.proofs.lemmas.List.{length-append}
 use Rattle.std.proofs.lemmas.List.Elements.{All-append, All-cons, All-nil}
 use Rattle.bosh_asks.specs.declared.fault.BookFault.{BookFault}
+use Rattle.bosh_asks.specs.declared.fault.BookFault.TheVariants.{Full}
 use Rattle.bosh_base.specs.declared.entry.Begin as begin
 use Rattle.bosh_base.specs.declared.entry.Entry.{Entry}
 use Rattle.bosh_base.specs.declared.entry.Entry.TheVariants.{Begin}
-use Rattle.bosh_base.specs.declared.entry.Entry.TheVariants as entries
 use Rattle.bosh_book.specs.Adds.{Adds, arrivals_by}
 use Rattle.bosh_fold.specs.ArrivalsWith.{arrivals_with}
+use Rattle.bosh_fold.proofs.LearnsLemmas.{all_of_one, learned_comes, learned_on, one_learned}
+use Rattle.bosh_fold.specs.Learned.{learned}
+use Rattle.bosh_fold.specs.Learns.{IsAlike, Learns, LearnsAll}
+use Rattle.bosh_fold.specs.Planned.{IsPlanned}
+use Rattle.bosh_fold.specs.declared.change.Change.{Change}
+use Rattle.bosh_records.specs.Recorded.{recorded}
+use Rattle.bosh_records.specs.declared.records.Records.{Records}
 use Rattle.bosh_records.specs.Arrivals.{Arrivals, arrivals}
 use Rattle.bosh_book.specs.declared.book.Book.{Book}
-use Rattle.bosh_book.specs.Starts.{Finishes, Interrupts, IsInterruption, Starts, Takes}
-use Rattle.bosh_book.specs.Claims.{Turn, Turns}
+use Rattle.bosh_book.specs.Appends.{Appends, unless_refused}
 use Rattle.bosh_book.specs.Current.{IsFor}
+use Rattle.bosh_book.specs.Made.{NotesMade}
+use Rattle.bosh_book.specs.Uploads.{if_new}
+use Rattle.bosh_book.specs.declared.uploads.Added.{Added}
+use Rattle.bosh_book.specs.declared.uploads.Added.TheVariants.{New}
+use Rattle.std.specs.Prelude.{IfOk}
 use Rattle.bosh_book.specs.Turns.{GivesWhere, IsUpdate, Notes}
 use Rattle.bosh_book.specs.declared.claim.Claim.{Claim}
-use Rattle.bosh_book.specs.declared.claim.Claim.TheVariants.{Wait, Work}
+use Rattle.bosh_book.specs.declared.claim.Claim.TheVariants.{Work}
 use Rattle.bosh_book.specs.declared.granted.Granted.{Granted}
 
 pub nothing_added : {K : Type 0} (bodies : K → Option (List (List ℕ))) (faults : K → ℕ) (book : Book K) →
     Adds bodies faults book [] book
 nothing_added bodies faults book = record {
   entries = sym (append-nil book.journal.entries);
+  learns = refl;
   recorded = refl;
   kept = λ kept. kept;
   count = le_refl (faults book.journal.store);
@@ -32,6 +43,56 @@ nothing_added bodies faults book = record {
   read = refl;
   mended = refl;
 }
+
+unchanged : {K : Type 0} (bodies : K → Option (List (List ℕ))) (faults : K → ℕ) (was now : Book K) → now ≡ was →
+    Adds bodies faults was [] now
+unchanged bodies faults was now same =
+    subst (λ (it : Book _). Adds bodies faults was [] it) (sym same) (nothing_added bodies faults was)
+
+-- an entry that was made is noted, or nothing is
+pub made_added : {K T V : Type 0} (bodies : K → Option (List (List ℕ))) (faults : K → ℕ) (entry_of : T → Entry)
+    (made : Result (T × V) BookFault) (was now : Book K) (result : Result V BookFault) (entry : Entry) →
+    IfOk made (λ it. entry_of it.0 ≡ entry) → NotesMade bodies faults entry_of made was result now →
+    Adds bodies faults was (unless_refused result entry) now
+made_added bodies faults entry_of (Ok it) was now (Ok value) entry is noted =
+    subst (λ (one : Entry). Adds bodies faults was (one ∷ []) now) is noted.2
+made_added bodies faults entry_of (Ok it) was now (Err fault) entry is noted = noted.2
+made_added {V = V} bodies faults entry_of (Err fault) was now result entry is noted =
+    subst (λ (it : Result V BookFault). Adds bodies faults was (unless_refused it entry) now) (sym noted.0)
+    (unchanged bodies faults was now noted.1)
+
+-- the same of an upload
+pub upload_added : {K T : Type 0} (bodies : K → Option (List (List ℕ))) (faults : K → ℕ) (entry_of : T → Entry)
+    (made : Result (T × Added) BookFault) (was now : Book K) (result : Result Added BookFault) (entry : Entry) →
+    IfOk made (λ it. (entry_of it.0 ≡ entry) × (it.1 ≡ New)) → NotesMade bodies faults entry_of made was result now →
+    Adds bodies faults was (if_new result entry) now
+upload_added bodies faults entry_of (Ok it) was now (Ok value) entry is noted =
+    subst (λ (told : Added). Adds bodies faults was (if_new (Ok told) entry) now) (sym (noted.0 ∙ is.1))
+    (subst (λ (one : Entry). Adds bodies faults was (one ∷ []) now) is.0 noted.2)
+upload_added bodies faults entry_of (Ok it) was now (Err fault) entry is noted = noted.2
+upload_added bodies faults entry_of (Err fault) was now result entry is noted =
+    subst (λ (it : Result Added BookFault). Adds bodies faults was (if_new it entry) now) (sym noted.0)
+    (unchanged bodies faults was now noted.1)
+
+told_apart : {A B : Type 0} (made : Result (A × B) BookFault) (one : A) (other : B) → IfOk made (λ it. it ≡ (one, other)) →
+    IfOk made (λ it. (it.0 ≡ one) × (it.1 ≡ other))
+told_apart (Ok it) one other is = (ap (λ both. both.0) is, ap (λ both. both.1) is)
+told_apart (Err fault) one other is = tt
+
+pub stemcell_added : {K : Type 0} (bodies : K → Option (List (List ℕ))) (faults : K → ℕ)
+    (made : Result (Entry × Added) BookFault) (was now : Book K) (result : Result Added BookFault) (entry : Entry) →
+    IfOk made (λ it. it ≡ (entry, New)) → NotesMade {T = Entry} bodies faults (λ it. it) made was result now →
+    Adds bodies faults was (if_new result entry) now
+stemcell_added bodies faults made was now result entry is noted =
+    upload_added {T = Entry} bodies faults (λ it. it) made was now result entry (told_apart made entry New is) noted
+
+-- what comes by entries that are taken in
+pub all_come : (was now : Records) (entries : List Entry) → LearnsAll was entries now →
+    arrivals now ≡ arrivals_by entries (arrivals was)
+all_come was now [] alike = ap (λ all. all.came) alike
+all_come was now (entry ∷ entries) it =
+    all_come it.1 now entries it.4
+    ∙ ap (arrivals_by entries) (learned_comes it.0 it.1 entry it.3 ∙ ap (λ all. arrivals_with entry all.came) it.2)
 
 pub came_after : (one other : List Entry) (before : Arrivals) → arrivals_by (one ++ other) before ≡ arrivals_by other (arrivals_by one before)
 came_after [] other before = refl
@@ -42,6 +103,7 @@ pub more_added : {K : Type 0} (bodies : K → Option (List (List ℕ))) (faults 
     Adds bodies faults first (one ++ other) last
 more_added bodies faults first mid last one other was now = record {
   entries = now.entries ∙ ap (λ all. all ++ other) was.entries ∙ append_assoc first.journal.entries one other;
+  learns = learned_on first.records mid.records last.records one other was.learns now.learns;
   recorded =
       now.recorded ∙ ap (arrivals_by other) was.recorded ∙ sym (came_after one other (arrivals first.records));
   kept = λ kept. now.kept (was.kept kept);
@@ -50,6 +112,27 @@ more_added bodies faults first mid last one other was now = record {
   read = now.read ∙ was.read;
   mended = now.mended ∙ was.mended;
 }
+
+-- an entry that was planned and stored is learned
+pub note_added : {K : Type 0} (bodies : K → Option (List (List ℕ))) (faults : K → ℕ) (was now : Book K) (entry : Entry)
+    (roomy : Records) (change kept : Change) → IsPlanned was.records roomy entry change → IsAlike was.records roomy →
+    kept ≡ change → recorded now.records ≡ learned entry kept (recorded roomy) →
+    Appends {T = Change} bodies faults (Ok kept) was.journal entry now.journal →
+    now.standing ≡ was.standing → now.read ≡ was.read → now.mended ≡ was.mended → Adds bodies faults was (entry ∷ []) now
+note_added bodies faults was now entry roomy change kept planned alike same is appends standing read mended =
+    let learns : Learns was.records entry now.records =
+    one_learned was.records roomy now.records entry change planned alike
+    (is ∙ ap (λ it. learned entry it (recorded roomy)) same) in
+    record {
+      entries = appends.entries;
+      learns = all_of_one was.records now.records entry learns;
+      recorded = learned_comes was.records now.records entry learns;
+      kept = appends.kept;
+      count = appends.count;
+      standing = standing;
+      read = read;
+      mended = mended;
+    }
 
 pub nothing_noted : {K : Type 0} (bodies : K → Option (List (List ℕ))) (faults : K → ℕ) (book : Book K)
     (result : Result (Option Claim) BookFault) → GivesWhere result [] → Notes bodies faults book result book
@@ -96,10 +179,10 @@ call_noted bodies faults was now begun entry granted kept permit begins for valu
   adds = subst (λ (it : Entry). Adds bodies faults was (it ∷ []) now) begins adds;
 }
 
--- a claim that went on has nothing now
-pub waits_noted : {K : Type 0} (bodies : K → Option (List (List ℕ))) (faults : K → ℕ) (was now : Book K) →
-    Notes bodies faults was (Ok None) now → Notes bodies faults was (Ok (Some Wait)) now
-waits_noted bodies faults was now notes = record {
+-- a claim that went on has no room now
+pub full_noted : {K : Type 0} (bodies : K → Option (List (List ℕ))) (faults : K → ℕ) (was now : Book K) →
+    Notes bodies faults was (Ok None) now → Notes bodies faults was (Err Full) now
+full_noted bodies faults was now notes = record {
   updates = notes.updates;
   are_updates = notes.are_updates;
   last = notes.last;
@@ -147,146 +230,3 @@ pub noted_last : {K : Type 0} (bodies : K → Option (List (List ℕ))) (faults 
     Notes bodies faults first result last
 noted_last bodies faults first mid last result noted notes =
     more_noted bodies faults first mid last result noted.notes notes
-
--- the turns so far, and as many as are left of those that there may be
-pub record AreTaken {K : Type 0}
-    (bodies : K → Option (List (List ℕ))) (faults : K → ℕ) (task worker turns left : ℕ) (first now : Book K) : Type 0
-  where
-    pub noted : AreNoted bodies faults first now
-    pub rest :
-        (result : Result Claim BookFault) (last : Book K) → Turns bodies faults task worker left now result last
-        → Turns bodies faults task worker turns first result last
-
--- a turn that gave an answer is the last one
-pub answered_last : {K : Type 0} (bodies : K → Option (List (List ℕ))) (faults : K → ℕ)
-    (task worker turns left : ℕ) (first mid last : Book K) (found : Option Claim) (claim : Claim) →
-    found ≡ Some claim → AreTaken bodies faults task worker turns (suc left) first mid →
-    Turn bodies faults task worker mid (Ok found) last → Turns bodies faults task worker turns first (Ok claim) last
-answered_last bodies faults task worker turns left first mid last found claim is taken turn =
-    taken.rest (Ok claim) last (
-      Ok (Some claim),
-      last,
-      subst (λ (it : Option Claim). Turn bodies faults task worker mid (Ok it) last) is turn,
-      (refl, refl),
-    )
-
--- .. and so is one that was refused
-pub refused_last : {K : Type 0} (bodies : K → Option (List (List ℕ))) (faults : K → ℕ)
-    (task worker turns left : ℕ) (first mid last : Book K) (fault : BookFault) →
-    AreTaken bodies faults task worker turns (suc left) first mid →
-    Turn bodies faults task worker mid (Err fault) last → Turns bodies faults task worker turns first (Err fault) last
-refused_last bodies faults task worker turns left first mid last fault taken turn =
-    taken.rest (Err fault) last (Err fault, last, turn, (refl, refl))
-
--- after another one there is one less
-pub went_on : {K : Type 0} (bodies : K → Option (List (List ℕ))) (faults : K → ℕ)
-    (task worker turns left : ℕ) (first mid last : Book K) (found : Option Claim) → found ≡ None →
-    AreTaken bodies faults task worker turns (suc left) first mid → Notes bodies faults mid (Ok found) last →
-    last.journal.is_broken ≡ mid.journal.is_broken → Turn bodies faults task worker mid (Ok found) last →
-    AreTaken bodies faults task worker turns left first last
-went_on bodies faults task worker turns left first mid last found is taken notes whole turn = record {
-  noted =
-      noted_on bodies faults first mid last taken.noted
-      (subst (λ (it : Option Claim). Notes bodies faults mid (Ok it) last) is notes) whole;
-  rest = λ result end after. taken.rest result end (
-    Ok None,
-    last,
-    subst (λ (it : Option Claim). Turn bodies faults task worker mid (Ok it) last) is turn,
-    after,
-  );
-}
-
--- as many are left before a turn as after it, and one
-pub one_less : (turns taken : ℕ) → taken < turns → turns - taken ≡ suc (turns - (taken + 1))
-one_less turns taken more = omega arith
-
--- an interruption brings no upload, and no task and no call
-interrupted_same : (entry : Entry) (before : Arrivals) → IsInterruption entry → arrivals_with entry before ≡ before
-interrupted_same (entries.TaskError error) before is = refl
-interrupted_same (entries.Release it) before is = absurd is
-interrupted_same (entries.Stemcell it) before is = absurd is
-interrupted_same (entries.Config it) before is = absurd is
-interrupted_same (entries.TaskOpen it) before is = absurd is
-interrupted_same (entries.Begin it) before is = absurd is
-interrupted_same (entries.End it) before is = absurd is
-interrupted_same (entries.UpdBegin it) before is = absurd is
-interrupted_same (entries.UpdDone it) before is = absurd is
-interrupted_same (entries.Gone it) before is = absurd is
-interrupted_same (entries.TaskDone it) before is = absurd is
-interrupted_same (entries.Snapshot it) before is = absurd is
-interrupted_same (entries.Effect it) before is = absurd is
-interrupted_same (entries.Write it) before is = absurd is
-interrupted_same (entries.Lost it) before is = absurd is
-
-pub none_ended : {K : Type 0} (bodies : K → Option (List (List ℕ))) (faults : K → ℕ) (book : Book K) →
-    Interrupts bodies faults book book
-none_ended bodies faults book = record {
-  ended = [];
-  are_ended = All-nil IsInterruption;
-  adds = nothing_added bodies faults book;
-  same_came = refl;
-}
-
--- one is ended, or that is refused
-pub one_ended : {K : Type 0} (bodies : K → Option (List (List ℕ))) (faults : K → ℕ) (was now : Book K)
-    (entry : Entry) → IsInterruption entry → Adds bodies faults was (entry ∷ []) now → Interrupts bodies faults was now
-one_ended bodies faults was now entry is adds = record {
-  ended = entry ∷ [];
-  are_ended = All-cons IsInterruption entry [] is (All-nil IsInterruption);
-  adds = adds;
-  same_came = adds.recorded ∙ interrupted_same entry (arrivals was.records) is;
-}
-
-pub refused_ended : {K : Type 0} (bodies : K → Option (List (List ℕ))) (faults : K → ℕ) (was now : Book K) →
-    Adds bodies faults was [] now → Interrupts bodies faults was now
-refused_ended bodies faults was now adds = record {
-  ended = [];
-  are_ended = All-nil IsInterruption;
-  adds = adds;
-  same_came = adds.recorded;
-}
-
--- some are ended, and then others
-pub more_ended : {K : Type 0} (bodies : K → Option (List (List ℕ))) (faults : K → ℕ) (first mid last : Book K) →
-    Interrupts bodies faults first mid → Interrupts bodies faults mid last → Interrupts bodies faults first last
-more_ended bodies faults first mid last was now = record {
-  ended = was.ended ++ now.ended;
-  are_ended = All-append IsInterruption was.ended now.ended was.are_ended now.are_ended;
-  adds = more_added bodies faults first mid last was.ended now.ended was.adds now.adds;
-  same_came = now.same_came ∙ was.same_came;
-}
-
--- a book that started: what it read was taken in, tasks were ended, and this is kept of it
-pub started : {K : Type 0} (bodies : K → Option (List (List ℕ))) (faults : K → ℕ) (compacts : Bool)
-    (was mid now : Book K) → Takes bodies faults compacts was mid → Finishes bodies faults mid now →
-    Starts bodies faults compacts was now
-started bodies faults compacts was mid now takes finishes = record {
-  taken = mid.journal.entries;
-  is_taken = takes.taken;
-  ended = finishes.ended;
-  are_ended = finishes.are_ended;
-  entries = finishes.entries;
-  read = finishes.read;
-  mended = finishes.mended;
-  kept = λ kept. finishes.kept (takes.kept kept);
-  count = le_trans takes.count finishes.count;
-}
-
--- .. and how that is told
-pub told_start : {K : Type 0} (bodies : K → Option (List (List ℕ))) (faults : K → ℕ) (was now : Book K)
-    (read : ℕ) (mended : Option ℕ) (ended : Interrupts bodies faults was now) → read ≡ length now.journal.entries →
-    mended ≡ Some (length now.journal.entries - length was.journal.entries) →
-    Finishes bodies faults was (record now { read = read; mended = mended })
-told_start bodies faults was now read mended ended count told =
-    let long : length now.journal.entries ≡ length was.journal.entries + length ended.ended =
-    ap length ended.adds.entries ∙ length-append was.journal.entries ended.ended in
-    record {
-      ended = ended.ended;
-      are_ended = ended.are_ended;
-      entries = ended.adds.entries;
-      read = count;
-      mended = told ∙ ap Some (grind arith);
-      kept = ended.adds.kept;
-      count = ended.adds.count;
-      standing = ended.adds.standing;
-    }

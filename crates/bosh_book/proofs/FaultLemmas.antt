@@ -12,7 +12,7 @@ use Rattle.bosh_asks.specs.declared.ask.Ask.{Ask}
 use Rattle.bosh_asks.specs.declared.ask.Ask.TheVariants as asks
 use Rattle.bosh_book.specs.Running.{is_running, is_stopped}
 use Rattle.bosh_book.specs.declared.book.Book.{Book}
-use Rattle.bosh_book.specs.Faults.{FailsAs, IsDiffering, IsNoteFault, IsOpenFault, IsQuiet, IsUploadFault}
+use Rattle.bosh_book.specs.Faults.{FailsAs, IsClaimFault, IsDiffering, IsNoteFault, IsOpenFault, IsQuiet, IsTurnFault, IsUploadFault}
 use Rattle.bosh_journal.specs.JournalView.{JournalView}
 use Rattle.bosh_ports.specs.Faults.{NeverFalls, Rose}
 
@@ -181,3 +181,11 @@ pub differs_as_upload : {K T : Type 0} (was : Book K) (told : List ℕ) (Cause :
     is_stopped was ≡ false → IfErr result (IsDiffering told Cause) → IfErr result (IsUploadFault was told Cause)
 differs_as_upload was told Cause (Ok value) runs differs = tt
 differs_as_upload was told Cause (Err fault) runs differs = differing_as was told Cause fault runs differs
+
+-- a claim of a book that goes on is refused as its turns are
+pub turn_refused : {K : Type 0} (was now : Book K) (fault : BookFault) → is_stopped was ≡ false → IsTurnFault now fault →
+    IsClaimFault was now fault
+turn_refused was now book.Full runs is = (runs, is)
+turn_refused was now book.StoreFault runs is = is
+turn_refused was now book.Memory runs is = is
+turn_refused was now fault runs is = absurd is

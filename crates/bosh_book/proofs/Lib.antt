@@ -1,6 +1,9 @@
 pub mod AddsLemmas
 pub mod ConfigLemmas
 pub mod FaultLemmas
+pub mod FoldsLemmas
 pub mod GrantLemmas
 pub mod JournalLemmas
+pub mod PendingLemmas
 pub mod StartLemmas
+pub mod TurnLemmas

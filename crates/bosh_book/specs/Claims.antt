@@ -1,20 +1,19 @@
 -- What a claim does, turn by turn: what comes next in the task is noted (this project's profile).
-use Rattle.std.specs.Prelude.{◌≡◌, ◌⊎◌, ◌+◌, ◌*◌, ℕ, zero, suc, List, length, min, Option, Some, None, Result, Ok, Err}
+use Rattle.std.specs.Prelude.{◌≡◌, ◌⊎◌, ℕ, zero, suc, List, Option, Some, None, Result, Ok, Err}
 use Rattle.bosh_asks.specs.declared.fault.BookFault.{BookFault}
-use Rattle.bosh_asks.specs.declared.fault.BookFault.TheVariants.{Memory}
+use Rattle.bosh_asks.specs.declared.fault.BookFault.TheVariants.{Full, Memory}
 use Rattle.bosh_base.specs.declared.entry.Begin as begin
 use Rattle.bosh_base.specs.declared.entry.Entry.{Entry}
 use Rattle.bosh_base.specs.declared.entry.Entry.TheVariants.{Begin, UpdBegin, UpdDone, Gone}
 use Rattle.bosh_book.specs.Current.{dep_of, permit_of}
 use Rattle.bosh_book.specs.Made.{Noted}
+use Rattle.bosh_book.specs.Running.{room_left}
 use Rattle.bosh_book.specs.declared.book.Book.{Book}
 use Rattle.bosh_book.specs.declared.claim.Claim.{Claim}
 use Rattle.bosh_book.specs.declared.claim.Claim.TheVariants as claims
 use Rattle.bosh_claim.specs.Choice.{choice_of}
 use Rattle.bosh_claim.specs.declared.choice.Choice.{Choice}
 use Rattle.bosh_claim.specs.declared.choice.Choice.TheVariants as choices
-use Rattle.bosh_records.specs.Readers.{work_at}
-use Rattle.bosh_work.specs.declared.work.Work.{Work}
 
 -- nothing is noted, and this is answered
 abbrev pub Answers : {K T : Type 0} → Result T BookFault → Book K → Result T BookFault → Book K → Type 0
@@ -58,27 +57,16 @@ GoesOn Rest (Ok (Some claim)) mid result now = Answers (Ok claim) mid result now
 GoesOn Rest (Ok None) mid result now = Rest mid
 GoesOn Rest (Err fault) mid result now = Answers (Err fault) mid result now
 
--- so many turns at most, after which the worker waits
+-- One turn after another, while there is room: each that gives no answer notes an entry, and once so many were noted the
+-- book is full.
 abbrev pub Turns : {K : Type 0} → (K → Option (List (List ℕ))) → (K → ℕ) → ℕ → ℕ → ℕ →
     Book K → Result Claim BookFault → Book K → Type 0
-Turns bodies faults task worker zero was result now = Answers (Ok claims.Wait) was result now
-Turns {K} bodies faults task worker (suc turns) was result now =
+Turns bodies faults task worker zero was result now = Answers (Err Full) was result now
+Turns {K} bodies faults task worker (suc room) was result now =
     (turned : Result (Option Claim) BookFault) × (mid : Book K) × Turn bodies faults task worker was turned mid
-    × GoesOn (λ it. Turns bodies faults task worker turns it result now) turned mid result now
-
--- the greatest number of 64 bits stays the last
-abbrev pub within : ℕ → ℕ
-within n = min n 18446744073709551615
-
--- no more entries than these come before a call begins or nothing can be done: each begins or ends the update of an
--- instance, or says that one has nothing left
-abbrev pub most_turns : Option Work → ℕ
-most_turns (Some work) =
-    within (within (within (length work.changed + length work.obsolete.items) * 2) + 1)
-most_turns None = 1
+    × GoesOn (λ it. Turns bodies faults task worker room it result now) turned mid result now
 
 -- what a claim does
 abbrev pub Claims : {K : Type 0} → (K → Option (List (List ℕ))) → (K → ℕ) → ℕ → ℕ →
     Book K → Result Claim BookFault → Book K → Type 0
-Claims bodies faults task worker was result now =
-    Turns bodies faults task worker (most_turns (work_at was.records task)) was result now
+Claims bodies faults task worker was result now = Turns bodies faults task worker (room_left was) was result now

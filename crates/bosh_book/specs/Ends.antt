@@ -1,6 +1,8 @@
 -- How a task ends.
 use Rattle.std.specs.Prelude.{◌≡◌, ◌==◌, ℕ, List, [], ◌∷◌, Option, Some, None, is_none, if◌then◌else◌}
 use Rattle.std.specs.Option.{option_and_then}
+use Rattle.bosh_asks.specs.declared.fault.BookFault.{BookFault}
+use Rattle.bosh_asks.specs.declared.fault.BookFault.TheVariants.{StoreFault}
 use Rattle.bosh_base.specs.declared.entry.Entry.{Entry}
 use Rattle.bosh_base.specs.declared.entry.Entry.TheVariants.{TaskDone, TaskError}
 use Rattle.bosh_base.specs.declared.failure.Failure.TheVariants as failures
@@ -9,6 +11,8 @@ use Rattle.bosh_base.specs.declared.task.TaskEnd.TheVariants as ends
 use Rattle.bosh_book.specs.Adds.{Adds}
 use Rattle.bosh_book.specs.declared.book.Book.{Book}
 use Rattle.bosh_claim.specs.Phase.{present}
+use Rattle.bosh_journal.specs.Appends.{added}
+use Rattle.bosh_journal.specs.JournalView.{JournalView}
 use Rattle.bosh_records.specs.Readers.{task_at, work_at}
 use Rattle.bosh_records.specs.declared.records.Records.{Records}
 use Rattle.bosh_work.specs.declared.work.Work.{Work}
@@ -45,6 +49,12 @@ pub record EndsTask {K : Type 0}
   pub is_open : end_of was.records task ≡ None
   pub comes : coming_end was.records task ≡ Some end
   pub adds : Adds bodies faults was (closing task end ∷ []) now
+
+-- where the store failed, that is pending
+abbrev pub EndsPending : {K : Type 0} → Records → ℕ → JournalView K → BookFault → Type 0
+EndsPending records task now StoreFault =
+    (end : TaskEnd) × (coming_end records task ≡ Some end) × (now.pending ≡ Some (added (closing task end)))
+EndsPending records task now fault = Unit {0}
 
 -- something is left of a task that has no end, or it is not recorded
 abbrev pub IsAtWork : Records → ℕ → Type 0

@@ -1,5 +1,5 @@
 -- Why a book refuses what it is asked.
-use Rattle.std.specs.Prelude.{◌≡◌, ◌<◌, ℕ, List, is_some, true, false, Result, Err}
+use Rattle.std.specs.Prelude.{◌≡◌, ℕ, List, is_some, true, false, Result, Err}
 use Rattle.bosh_asks.specs.Asked.{dep_of}
 use Rattle.bosh_asks.specs.Cause.{IsCause}
 use Rattle.bosh_asks.specs.Goals.{config_in}
@@ -11,8 +11,10 @@ use Rattle.bosh_asks.specs.declared.fault.BookFault.TheVariants as book
 use Rattle.bosh_base.specs.Answer.{is_kind}
 use Rattle.bosh_base.specs.Call.{method_of}
 use Rattle.bosh_base.specs.declared.answer.Answer.{Answer}
+use Rattle.bosh_base.specs.declared.entry.Entry.{Entry}
 use Rattle.bosh_book.specs.Current.{IsCurrent}
 use Rattle.bosh_book.specs.Ends.{IsAtWork}
+use Rattle.bosh_book.specs.Folds.{IsDamaged, IsStop}
 use Rattle.bosh_book.specs.Running.{is_full, is_stopped}
 use Rattle.bosh_book.specs.declared.book.Book.{Book}
 use Rattle.bosh_book.specs.declared.granted.Granted.{Granted}
@@ -20,6 +22,7 @@ use Rattle.bosh_journal.specs.JournalView.{JournalView}
 use Rattle.bosh_journal.specs.declared.fault.JournalFault.{JournalFault}
 use Rattle.bosh_journal.specs.declared.fault.JournalFault.TheVariants as journal
 use Rattle.bosh_ports.specs.Faults.{Rose}
+use Rattle.bosh_records.specs.declared.records.Records.{Records}
 use Rattle.bosh_manifest_names.specs.declared.fault.GoalFault.TheVariants as goal
 
 -- how the refusal of a journal is told as one of the book's
@@ -50,15 +53,25 @@ abbrev pub IsCallFault : {K : Type 0} → Book K → BookFault → Type 0
 IsCallFault was book.Stopped = is_stopped was ≡ true
 IsCallFault was fault = IsNoteFault fault
 
--- the same of a book that may have no room either
-abbrev pub IsClaimFault : {K : Type 0} → Book K → BookFault → Type 0
-IsClaimFault was book.Full = (is_stopped was ≡ false) × (is_full was ≡ true)
-IsClaimFault was fault = IsCallFault was fault
+-- the same of one turn after another, after which there may be no room
+abbrev pub IsTurnFault : {K : Type 0} → Book K → BookFault → Type 0
+IsTurnFault now book.Full = is_full now ≡ true
+IsTurnFault now fault = IsNoteFault fault
 
--- to start is refused where an entry may not stand at its place, where the store fails, or for want of memory
-abbrev pub IsStartFault : ℕ → BookFault → Type 0
-IsStartFault count (book.Damaged place) = place < count
-IsStartFault count fault = IsNoteFault fault
+-- the same of a book that may be stopped
+abbrev pub IsClaimFault : {K : Type 0} → Book K → Book K → BookFault → Type 0
+IsClaimFault was now book.Full = (is_stopped was ≡ false) × (is_full now ≡ true)
+IsClaimFault was now fault = IsCallFault was fault
+
+-- to start is refused at the first entry that may not stand at its place, where the store fails, or for want of memory
+abbrev pub IsStartFault : List Entry → BookFault → Type 0
+IsStartFault entries (book.Damaged place) = IsDamaged entries place
+IsStartFault entries fault = IsNoteFault fault
+
+-- of entries that were taken in up to a place, one may not stand, or memory was short
+abbrev pub StopsAs : Records → List Entry → ℕ → BookFault → Type 0
+StopsAs records entries count (book.Damaged place) = IsStop records entries count place
+StopsAs records entries count fault = fault ≡ book.Memory
 
 -- a call may end with an answer: its permit is current, and the answer of its kind
 abbrev pub MayEnd : {K : Type 0} → Book K → Granted → Answer → Type 0

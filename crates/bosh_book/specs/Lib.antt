@@ -4,6 +4,7 @@ pub mod Claims
 pub mod Current
 pub mod Ends
 pub mod Faults
+pub mod Folds
 pub mod Made
 pub mod Opens
 pub mod Running

@@ -1,5 +1,5 @@
 -- Whether a book goes on, and has room.
-use Rattle.std.specs.Prelude.{◌-◌, nat_le, length, Bool, true, false, not, ◌||◌}
+use Rattle.std.specs.Prelude.{ℕ, ◌+◌, ◌-◌, nat_le, length, Bool, true, false, not, ◌||◌}
 use Rattle.bosh_book.specs.declared.book.Book.{Book}
 use Rattle.bosh_book.specs.declared.standing.Standing.{Standing}
 use Rattle.bosh_book.specs.declared.standing.Standing.TheVariants.{Running}
@@ -15,6 +15,10 @@ is_stopped book = book.journal.is_broken || not (is_running book.standing)
 -- so many entries were noted since it started that no more are (this project's profile)
 abbrev pub is_long : {K : Type 0} → Book K → Bool
 is_long book = nat_le 1000000 (length book.journal.entries - book.read)
+
+-- how many entries may still be noted before that
+abbrev pub room_left : {K : Type 0} → Book K → ℕ
+room_left book = (book.read + 1000000) - length book.journal.entries
 
 -- .. or so many calls were made that there are no more numbers for them (this project's profile)
 abbrev pub is_full : {K : Type 0} → Book K → Bool

@@ -1,78 +1,139 @@
 -- What a book is once it has started.
-use Rattle.std.specs.Prelude.{◌≡◌, ◌⊎◌, ℕ, Bool, true, false, List, [], ◌∷◌, ◌++◌, length, All, Option, None, Some}
-use Rattle.std.specs.Prelude.{Result, Ok, Err, IfErr, OnOk}
+use Rattle.std.specs.Prelude.{◌≡◌, ◌⊎◌, ◌&&◌, ℕ, Bool, true, false, List, [], ◌∷◌, ◌++◌, length, map, nat_lt, Option, None, Some}
+use Rattle.std.specs.Prelude.{Result, Ok, Err, IfErr, OnOk, is_none}
+use Rattle.std.specs.List.{filter}
+use Rattle.std.specs.Option.{option_map_or}
 use Rattle.bosh_asks.specs.declared.fault.BookFault.{BookFault}
 use Rattle.bosh_base.specs.declared.entry.Entry.{Entry}
-use Rattle.bosh_base.specs.declared.entry.Entry.TheVariants.{TaskError}
+use Rattle.bosh_base.specs.declared.entry.Entry.TheVariants as entries
 use Rattle.bosh_base.specs.declared.failure.Failure.TheVariants.{Interrupted}
+use Rattle.bosh_base.specs.declared.snapshot.Snapshot.{Snapshot}
+use Rattle.bosh_base.specs.declared.task.TaskRow.{TaskRow}
 use Rattle.bosh_book.specs.Adds.{Adds, IsRecorded}
 use Rattle.bosh_book.specs.declared.book.Book.{Book}
 use Rattle.bosh_book.specs.Faults.{FailsAs, IsNoteFault, IsStartFault, of_journal}
+use Rattle.bosh_book.specs.Folds.{IsRead}
 use Rattle.bosh_book.specs.declared.standing.Standing.{Standing}
 use Rattle.bosh_book.specs.declared.standing.Standing.TheVariants.{Running, Unread}
-use Rattle.bosh_journal.specs.Director.{is_snapshot}
+use Rattle.bosh_fold.specs.Learns.{LearnsAll}
 use Rattle.bosh_journal.specs.Kept.{IsKept}
 use Rattle.bosh_journal.specs.Reads.{Reads}
 use Rattle.bosh_journal.specs.declared.fault.JournalFault.{JournalFault}
 use Rattle.bosh_ports.specs.Faults.{NeverFalls}
-use Rattle.bosh_records.specs.Arrivals.{arrivals}
+use Rattle.bosh_records.specs.declared.records.Records.{Records}
+use Rattle.bosh_views.specs.Snapshot.{IsSnapshot}
 
-abbrev pub IsInterruption : Entry → Type 0
-IsInterruption (TaskError error) = error.cause ≡ Interrupted
-IsInterruption entry = ⊥
+-- ---- the entries that are taken in
 
--- the entries that were read, or a snapshot in their place where that is asked for
-abbrev pub IsTaken : Bool → List Entry → List Entry → Type 0
-IsTaken compacts read taken =
-    (taken ≡ read)
-    ⊎ ((compacts ≡ true) × ((snapshot : Entry) × (is_snapshot snapshot ≡ true) × (taken ≡ snapshot ∷ [])))
+-- so many entries give way to a snapshot, where that is asked for (this project's profile)
+abbrev pub gives_way : Bool → List Entry → Bool
+gives_way compacts read = compacts && nat_lt 4096 (length read)
 
--- the entries that were read are taken in
-pub record Takes {K : Type 0}
-    (bodies : K → Option (List (List ℕ))) (faults : K → ℕ) (compacts : Bool) (was now : Book K) : Type 0 where
-  pub taken : IsTaken compacts was.journal.entries now.journal.entries
+-- a snapshot of what is recorded stands in their place, unless that was refused
+abbrev pub Gives : {T : Type 0} → Result T BookFault → Records → List Entry → List Entry → Type 0
+Gives (Ok value) records read taken = (it : Snapshot) × IsSnapshot records it × (taken ≡ entries.Snapshot it ∷ [])
+Gives (Err fault) records read taken = taken ≡ read
+
+abbrev pub GivesIf : {T : Type 0} → Bool → Result T BookFault → Records → List Entry → List Entry → Type 0
+GivesIf true result records read taken = Gives result records read taken
+GivesIf false result records read taken = taken ≡ read
+
+-- a snapshot stands in their place
+abbrev pub shortened : {T : Type 0} → Result T BookFault → Entry → List Entry → List Entry
+shortened (Ok value) snapshot read = snapshot ∷ []
+shortened (Err fault) snapshot read = read
+
+-- where they are let be or shortened, nothing else changes but the store
+pub record Compacts {K : Type 0} (bodies : K → Option (List (List ℕ))) (faults : K → ℕ) (was now : Book K) : Type 0 where
+  pub kept : IsKept bodies was.journal → IsKept bodies now.journal
+  pub count : NeverFalls (faults was.journal.store) (faults now.journal.store)
+  pub records : now.records ≡ was.records
+  pub standing : now.standing ≡ was.standing
+
+-- the records stand for what was read, where it is not refused
+abbrev pub ReadsAll : {T : Type 0} → Result T BookFault → List Entry → Records → Type 0
+ReadsAll (Ok value) read records = IsRead read records
+ReadsAll (Err fault) read records = Unit {0}
+
+-- The entries that were read are taken in, and many give way to a snapshot. A refusal leaves them.
+pub record Takes {K T : Type 0}
+    (bodies : K → Option (List (List ℕ))) (faults : K → ℕ) (compacts : Bool) (was : Book K) (result : Result T BookFault)
+    (now : Book K) : Type 0 where
+  pub reads : ReadsAll result was.journal.entries now.records
+  pub taken :
+      GivesIf (gives_way compacts was.journal.entries) result now.records was.journal.entries now.journal.entries
   pub kept : IsKept bodies was.journal → IsKept bodies now.journal
   pub count : NeverFalls (faults was.journal.store) (faults now.journal.store)
   pub standing : now.standing ≡ was.standing
 
--- tasks are ended as interrupted
-pub record Interrupts {K : Type 0}
-    (bodies : K → Option (List (List ℕ))) (faults : K → ℕ) (was now : Book K) : Type 0 where
+-- ---- the tasks that are ended
+
+-- a task is recorded, and has no end
+abbrev pub is_open : Option TaskRow → Bool
+is_open row = option_map_or (λ it. is_none it.end) row false
+
+abbrev pub open_in : List (ℕ × Option TaskRow) → List ℕ
+open_in places = map (λ place. place.0) (filter (λ place. is_open place.1) places)
+
+-- the tasks that are open, by number
+abbrev pub open_tasks : Records → List ℕ
+open_tasks records = open_in records.tasks.places.entries
+
+-- the entry by which a task ends because the director stopped
+abbrev pub interruption : ℕ → Entry
+interruption task = entries.TaskError (record { task = task; cause = Interrupted })
+
+-- each of some tasks is ended, in their order, or the first ones are, where that was refused
+abbrev pub AreEnded : {T : Type 0} → Result T BookFault → List ℕ → List Entry → Type 0
+AreEnded (Ok value) tasks ended = ended ≡ map interruption tasks
+AreEnded (Err fault) tasks ended = (done rest : List ℕ) × (tasks ≡ done ++ rest) × (ended ≡ map interruption done)
+
+-- the tasks that are open are ended as interrupted
+pub record Interrupts {K T : Type 0}
+    (bodies : K → Option (List (List ℕ))) (faults : K → ℕ) (tasks : List ℕ) (was : Book K) (result : Result T BookFault)
+    (now : Book K) : Type 0 where
   pub ended : List Entry
-  pub are_ended : All IsInterruption ended
+  pub are_ended : AreEnded result tasks ended
   pub adds : Adds bodies faults was ended now
-  pub same_came : arrivals now.records ≡ arrivals was.records
+
+-- where entries were taken in they are; else nothing changes
+abbrev pub InterruptsWhere : {K S T : Type 0} → (K → Option (List (List ℕ))) → (K → ℕ) → Result S BookFault → Book K →
+    Result T BookFault → Book K → Type 0
+InterruptsWhere bodies faults (Ok value) was result now =
+    Interrupts bodies faults (open_tasks was.records) was result now
+InterruptsWhere bodies faults (Err fault) was result now = now ≡ was
+
+-- .. and so none is ended
+abbrev pub AreEndedWhere : {S T : Type 0} → Result S BookFault → Result T BookFault → List ℕ → List Entry → Type 0
+AreEndedWhere (Ok value) result tasks ended = AreEnded result tasks ended
+AreEndedWhere (Err fault) result tasks ended = ended ≡ []
 
 -- .. and their number is told, and how many entries there are now
-pub record Finishes {K : Type 0}
-    (bodies : K → Option (List (List ℕ))) (faults : K → ℕ) (was now : Book K) : Type 0 where
+pub record Finishes {K S T : Type 0}
+    (bodies : K → Option (List (List ℕ))) (faults : K → ℕ) (was : Book K) (taken : Result S BookFault)
+    (result : Result T BookFault) (now : Book K) : Type 0 where
   pub ended : List Entry
-  pub are_ended : All IsInterruption ended
+  pub are_ended : AreEndedWhere taken result (open_tasks was.records) ended
   pub entries : now.journal.entries ≡ was.journal.entries ++ ended
+  pub learns : LearnsAll was.records ended now.records
   pub read : now.read ≡ length now.journal.entries
   pub mended : now.mended ≡ Some (length ended)
   pub kept : IsKept bodies was.journal → IsKept bodies now.journal
   pub count : NeverFalls (faults was.journal.store) (faults now.journal.store)
-  pub standing : now.standing ≡ was.standing
 
 -- how that came out, where entries were taken in; else the refusal is handed on, and the journal stays
 abbrev pub ComesOut : {K T : Type 0} → (K → ℕ) → Result T BookFault → Book K → Result T BookFault → Book K → Type 0
 ComesOut faults (Ok value) was result now = FailsAs faults result was.journal now.journal × IfErr result IsNoteFault
 ComesOut faults (Err fault) was result now = (result ≡ Err fault) × (now.journal ≡ was.journal)
 
--- The entries that were read are taken in, and tasks that were open are ended as interrupted, whose number is told; how
--- many entries there are now is kept.
-pub record Starts {K : Type 0}
-    (bodies : K → Option (List (List ℕ))) (faults : K → ℕ) (compacts : Bool) (was now : Book K) : Type 0 where
-  pub taken : List Entry
-  pub is_taken : IsTaken compacts was.journal.entries taken
-  pub ended : List Entry
-  pub are_ended : All IsInterruption ended
-  pub entries : now.journal.entries ≡ taken ++ ended
-  pub read : now.read ≡ length now.journal.entries
-  pub mended : now.mended ≡ Some (length ended)
-  pub kept : IsKept bodies was.journal → IsKept bodies now.journal
-  pub count : NeverFalls (faults was.journal.store) (faults now.journal.store)
+-- The entries that were read are taken in, and then the tasks that are open by them are ended as interrupted.
+pub record Starts {K T : Type 0}
+    (bodies : K → Option (List (List ℕ))) (faults : K → ℕ) (compacts : Bool) (was : Book K) (result : Result T BookFault)
+    (now : Book K) : Type 0 where
+  pub taken : Result (Unit {0}) BookFault
+  pub mid : Book K
+  pub takes : Takes bodies faults compacts was taken mid
+  pub finishes : Finishes bodies faults mid taken result now
 
 abbrev pub standing_after : {T : Type 0} → Result T BookFault → Standing
 standing_after (Ok value) = Running
@@ -86,10 +147,10 @@ pub record StartsFrom {K T : Type 0}
   pub first : Book K
   pub reads : Reads bodies faults is_broken store (Ok first.journal.entries) first.journal.store
   pub whole : first.journal.is_broken ≡ false
-  pub starts : Starts bodies faults compacts first now
+  pub starts : Starts bodies faults compacts first result now
   pub recorded : OnOk result (IsRecorded first.journal.entries now.records)
   pub fails : FailsAs faults result first.journal now.journal
-  pub fault : IfErr result (IsStartFault (length first.journal.entries))
+  pub fault : IfErr result (IsStartFault first.journal.entries)
   pub standing : now.standing ≡ standing_after result
 
 -- the reading of the store was refused

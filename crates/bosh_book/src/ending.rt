@@ -5,7 +5,7 @@ ghost use Rattle.bosh_base.specs.declared.entry.Entry.TheVariants as entries;
 ghost use Rattle.bosh_base.specs.declared.failure.Failure.{Failure};
 ghost use Rattle.bosh_book.specs.Adds.{Adds};
 ghost use Rattle.bosh_book.specs.Running.{is_stopped};
-ghost use Rattle.bosh_book.specs.Ends.{EndsTask, IsAtWork, IsTold, closing, coming_end, end_by, end_of};
+ghost use Rattle.bosh_book.specs.Ends.{EndsPending, EndsTask, IsAtWork, IsTold, closing, coming_end, end_by, end_of};
 ghost use Rattle.bosh_book.specs.Faults.{FailsAs, IsEndFault, IsNoteFault};
 ghost use Rattle.bosh_book.specs.Made.{Noted};
 
@@ -19,14 +19,6 @@ use bosh_work::Work;
 use std::alloc::Global;
 
 impl<K: Keeper> Book<K> {
-    /// Whether a task has no end yet.
-    pub(crate) fn is_open(&self, task: u64) -> bool {
-        match self.records.task(task) {
-            Some(row) => row.end.is_none(),
-            None => false,
-        }
-    }
-
     /// Ends a task of which nothing is left, and answers how it ended; one that has ended is only told. A task that has
     /// something left, or that is not recorded, is left to those that work on it.
     pub fn end_task(&mut self, task: u64) -> Result<TaskEnd, BookFault>
@@ -36,6 +28,7 @@ impl<K: Keeper> Book<K> {
         ensures fault { IfErr result (IsEndFault self.old task) }
         ensures stopped { is_stopped self.old ≡ true → IfErr result (λ fault. fault ≡ faults.Stopped) }
         ensures failed { FailsAs K.faults result self.old.journal self.new.journal }
+        ensures pending { IfErr result (EndsPending self.old.records task self.new.journal) }
     {
         self.check_running()?;
         match end_of(&self.records, task) {
@@ -45,6 +38,7 @@ impl<K: Keeper> Book<K> {
     }
 
     // Ends a task that has no end.
+    #[tactic(auto, using(crate::proofs::PendingLemmas::ends_pending))]
     fn end_open(&mut self, task: u64) -> Result<TaskEnd, BookFault>
         requires open { end_of self.old.records task ≡ None }
         requires whole { self.old.journal.is_broken ≡ false }
@@ -53,6 +47,7 @@ impl<K: Keeper> Book<K> {
         ensures fault { IfErr result (λ fault. IsNoteFault fault
             ⊎ (fault ≡ faults.Locked task) × IsAtWork self.old.records task) }
         ensures failed { FailsAs K.faults result self.old.journal self.new.journal }
+        ensures pending { IfErr result (EndsPending self.old.records task self.new.journal) }
     {
         match coming_end(self.alloc, &self.records, task)? {
             Some(end) => self.close(task, end),

@@ -1,7 +1,7 @@
 ghost use Rattle.std.specs.Prelude.{◌≡◌, ◌⊎◌, [], ◌∷◌, IfErr, IfOk, IsTrue, Ok, OnErr, OnOk, false, true};
 ghost use Rattle.bosh_asks.specs.declared.fault.BookFault.TheVariants as faults;
 ghost use Rattle.bosh_book.specs.Adds.{Adds};
-ghost use Rattle.bosh_book.specs.Appends.{unless_refused};
+ghost use Rattle.bosh_book.specs.Appends.{LeavesPending, unless_refused};
 ghost use Rattle.bosh_book.specs.Running.{is_full, is_long, is_stopped};
 ghost use Rattle.bosh_book.specs.Faults.{FailsAs, IsNoteFault};
 ghost use Rattle.bosh_book.specs.Made.{NotesMade};
@@ -28,6 +28,7 @@ impl<K: Keeper> Book<K> {
         ensures adds { Adds K.bodies K.faults self.old (unless_refused result entry.now) self.new }
         ensures failed { FailsAs K.faults result self.old.journal self.new.journal }
         ensures fault { IfErr result IsNoteFault }
+        ensures pending { LeavesPending result entry.now self.new.journal }
     {
         let change = plan(&mut self.records, entry)?;
         let change = kept_with(&mut self.journal, entry, change)?;
@@ -60,6 +61,7 @@ impl<K: Keeper> Book<K> {
         ensures adds { Adds K.bodies K.faults self.old (unless_refused result entry.now) self.new }
         ensures failed { FailsAs K.faults result self.old.journal self.new.journal }
         ensures fault { IfErr result IsNoteFault }
+        ensures pending { LeavesPending result entry.now self.new.journal }
     {
         match self.note(entry) {
             Ok(()) => Ok(value),
@@ -106,7 +108,7 @@ impl<K: Keeper> Book<K> {
         self.is_long() || self.records.last_call() >= LAST_CALL
     }
 
-    fn is_long(&self) -> bool
+    pub(crate) fn is_long(&self) -> bool
         ensures { result ≡ is_long self.now }
     {
         self.entries().len().saturating_sub(self.read) >= MOST_ENTRIES

@@ -3,6 +3,7 @@ ghost use Rattle.std.specs.Option.{option_copied};
 ghost use Rattle.bosh_asks.specs.declared.fault.BookFault.TheVariants as faults;
 ghost use Rattle.bosh_base.specs.declared.entry.Entry.TheVariants as entries;
 ghost use Rattle.bosh_book.specs.Adds.{Adds};
+ghost use Rattle.bosh_book.specs.Appends.{LeavesPending};
 ghost use Rattle.bosh_book.specs.Running.{is_stopped};
 ghost use Rattle.bosh_book.specs.Current.{IsCurrent, IsOpenCall};
 ghost use Rattle.bosh_book.specs.Faults.{FailsAs, IsSettleFault, MayEnd};
@@ -42,6 +43,8 @@ impl<K: Keeper> Book<K> {
         ensures whole { OnOk result (self.new.journal.is_broken ≡ self.old.journal.is_broken) }
         ensures failed { IfErr result (λ back.
             FailsAs {T = Unit {0}} K.faults (Err back.2) self.old.journal self.new.journal) }
+        ensures pending { IfErr result (λ back. LeavesPending {T = Unit {0}} (Err back.2)
+            (entries.End (record { n = permit.n; answer = answer })) self.new.journal) }
     {
         match self.end_call(&permit, &answer) {
             Ok(()) => {
@@ -60,6 +63,8 @@ impl<K: Keeper> Book<K> {
         ensures fault { IfErr result (IsSettleFault self.old permit.now answer.now) }
         ensures stopped { is_stopped self.old ≡ true → IfErr result (λ fault. fault ≡ faults.Stopped) }
         ensures failed { FailsAs K.faults result self.old.journal self.new.journal }
+        ensures pending { LeavesPending result
+            (entries.End (record { n = permit.now.n; answer = answer.now })) self.new.journal }
     {
         self.check_running()?;
         if !self.is_current(permit) || !answer.is_kind(permit.call().method()) {

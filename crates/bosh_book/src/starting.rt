@@ -1,14 +1,15 @@
-ghost use Rattle.std.specs.Prelude.{◌≡◌, ◌⊎◌, [], IfErr, IfOk, IfSome, IsTrue, None, Ok, OnOk, false, is_ok, length, true};
-ghost use Rattle.bosh_base.specs.declared.entry.Entry.TheVariants as entries;
-ghost use Rattle.bosh_base.specs.declared.failure.Failure.TheVariants.{Interrupted};
-ghost use Rattle.bosh_book.specs.Adds.{IsRecorded};
+ghost use Rattle.std.specs.Prelude.{◌≡◌, ◌⊎◌, IfErr, IfOk, IfSome, IsTrue, Ok, OnOk, false, is_ok, true};
+ghost use Rattle.std.specs.Option.{option_copied};
+ghost use Rattle.bosh_asks.specs.declared.fault.BookFault.TheVariants as faults;
+ghost use Rattle.bosh_book.specs.Adds.{Adds, IsRecorded};
+ghost use Rattle.bosh_book.specs.Appends.{unless_refused};
 ghost use Rattle.bosh_book.specs.Faults.{FailsAs, IsNoteFault, IsStartFault};
-ghost use Rattle.bosh_book.specs.Starts.{ComesOut, Finishes, Interrupts, IsNotLoaded, IsNotReloaded, Starts};
-ghost use Rattle.bosh_book.specs.Starts.{StartsFrom, Takes, standing_after};
+ghost use Rattle.bosh_book.specs.Starts.{Compacts, ComesOut, Finishes, Gives, GivesIf, Interrupts, InterruptsWhere};
+ghost use Rattle.bosh_book.specs.Starts.{IsNotLoaded, IsNotReloaded, Starts, StartsFrom, Takes};
+ghost use Rattle.bosh_book.specs.Starts.{gives_way, interruption, is_open, open_tasks, shortened, standing_after};
 ghost use Rattle.bosh_book.specs.declared.standing.Standing.TheVariants.{Unread};
 ghost use Rattle.bosh_journal.specs.Director.{is_snapshot};
 ghost use Rattle.bosh_journal.specs.Kept.{IsKept};
-ghost use Rattle.bosh_records.specs.Arrivals.{arrivals};
 
 use crate::Book;
 use crate::faults::of_journal;
@@ -16,7 +17,7 @@ use crate::folding::folded;
 use crate::made::Made;
 use crate::standing::Standing;
 use bosh_asks::BookFault;
-use bosh_base::{Entry, Failure, TaskError};
+use bosh_base::{Entry, Failure, TaskError, TaskRow};
 use bosh_drops::put;
 use bosh_journal::Journal;
 use bosh_ports::Keeper;
@@ -64,14 +65,14 @@ impl<K: Keeper> Book<K> {
 
     // Takes in the entries that were read, in shorter form where there are many and that is asked for, and ends the
     // tasks that are open.
-    #[tactic(auto, using(crate::proofs::AddsLemmas::started, crate::proofs::FaultLemmas::fails_later))]
+    #[tactic(auto, using(crate::proofs::StartLemmas::started, crate::proofs::FaultLemmas::fails_later))]
     fn start(&mut self, compacts: bool) -> Result<(), BookFault>
         requires whole { self.old.journal.is_broken ≡ false }
         requires unread { self.old.standing ≡ Unread }
-        ensures starts { Starts K.bodies K.faults compacts self.old self.new }
+        ensures starts { Starts K.bodies K.faults compacts self.old result self.new }
         ensures recorded { OnOk result (IsRecorded self.old.journal.entries self.new.records) }
         ensures failed { FailsAs K.faults result self.old.journal self.new.journal }
-        ensures fault { IfErr result (IsStartFault (length self.old.journal.entries)) }
+        ensures fault { IfErr result (IsStartFault self.old.journal.entries) }
         ensures standing { self.new.standing ≡ standing_after result }
     {
         let taken = self.take_in(compacts);
@@ -83,12 +84,12 @@ impl<K: Keeper> Book<K> {
     }
 
     // Ends the tasks that are open, where the entries were taken in, and keeps what is told of the start.
-    #[tactic(auto, using(crate::proofs::AddsLemmas::told_start))]
+    #[tactic(auto, using(crate::proofs::StartLemmas::told_start))]
     fn finish(&mut self, taken: Result<(), BookFault>) -> Result<(), BookFault>
         requires { OnOk taken (self.old.journal.is_broken ≡ false) }
-        ensures finishes { Finishes K.bodies K.faults self.old self.new }
+        ensures finishes { Finishes K.bodies K.faults self.old taken result self.new }
+        ensures standing { self.new.standing ≡ self.old.standing }
         ensures taken { OnOk result (is_ok taken ≡ true) }
-        ensures came { arrivals self.new.records ≡ arrivals self.old.records }
         ensures comes_out { ComesOut K.faults taken self.old result self.new }
     {
         let before = self.entries().len();
@@ -98,10 +99,11 @@ impl<K: Keeper> Book<K> {
         ended
     }
 
-    #[tactic(auto, using(crate::proofs::AddsLemmas::none_ended))]
+    #[tactic(auto, using(crate::proofs::StartLemmas::none_ended, crate::proofs::StartLemmas::all_ended))]
     fn interrupt_after(&mut self, taken: Result<(), BookFault>) -> Result<(), BookFault>
         requires { OnOk taken (self.old.journal.is_broken ≡ false) }
-        ensures interrupts { Interrupts K.bodies K.faults self.old self.new }
+        ensures interrupts { InterruptsWhere K.bodies K.faults taken self.old result self.new }
+        ensures standing { self.new.standing ≡ self.old.standing }
         ensures taken { OnOk result (is_ok taken ≡ true) }
         ensures comes_out { ComesOut K.faults taken self.old result self.new }
     {
@@ -112,18 +114,30 @@ impl<K: Keeper> Book<K> {
     }
 
     // Folds the entries that were read, and puts a snapshot in their place where there are many and that is asked for.
-    #[tactic(auto, using(crate::proofs::FaultLemmas::fails_quietly))]
+    #[tactic(auto, using(crate::proofs::FaultLemmas::fails_quietly, crate::proofs::StartLemmas::is_note))]
     fn take_in(&mut self, compacts: bool) -> Result<(), BookFault>
         requires { self.old.journal.is_broken ≡ false }
-        ensures takes { Takes K.bodies K.faults compacts self.old self.new }
+        ensures takes { Takes K.bodies K.faults compacts self.old result self.new }
         ensures recorded { OnOk result (IsRecorded self.old.journal.entries self.new.records) }
         ensures failed { FailsAs K.faults result self.old.journal self.new.journal }
-        ensures fault { IfErr result (IsStartFault (length self.old.journal.entries)) }
+        ensures fault { IfErr result (IsStartFault self.old.journal.entries) }
     {
         let records = folded(self.alloc, self.entries())?;
         put(&mut self.records, records);
+        self.shorten(compacts)
+    }
+
+    // Puts a snapshot in the place of many entries, where that is asked for.
+    fn shorten(&mut self, compacts: bool) -> Result<(), BookFault>
+        requires { self.old.journal.is_broken ≡ false }
+        ensures gives { GivesIf (gives_way compacts self.old.journal.entries) result self.old.records
+            self.old.journal.entries self.new.journal.entries }
+        ensures compacts { Compacts K.bodies K.faults self.old self.new }
+        ensures failed { FailsAs K.faults result self.old.journal self.new.journal }
+        ensures fault { IfErr result IsNoteFault }
+    {
         if compacts && self.entries().len() > MOST_LOADED {
-            self.compact()?;
+            return self.compact();
         }
         Ok(())
     }
@@ -131,8 +145,8 @@ impl<K: Keeper> Book<K> {
     // Puts a snapshot in the place of all entries.
     fn compact(&mut self) -> Result<(), BookFault>
         requires { self.old.journal.is_broken ≡ false }
-        ensures takes { Takes K.bodies K.faults true self.old self.new }
-        ensures records { self.new.records ≡ self.old.records }
+        ensures gives { Gives result self.old.records self.old.journal.entries self.new.journal.entries }
+        ensures compacts { Compacts K.bodies K.faults self.old self.new }
         ensures failed { FailsAs K.faults result self.old.journal self.new.journal }
         ensures fault { IfErr result IsNoteFault }
     {
@@ -144,8 +158,9 @@ impl<K: Keeper> Book<K> {
     fn compact_to<T: Made + Drop>(&mut self, snapshot: T) -> Result<(), BookFault>
         requires snapshot { IsTrue (is_snapshot (T.entry_of snapshot)) }
         requires whole { self.old.journal.is_broken ≡ false }
-        ensures takes { Takes K.bodies K.faults true self.old self.new }
-        ensures records { self.new.records ≡ self.old.records }
+        ensures entries { self.new.journal.entries ≡
+            shortened result (T.entry_of snapshot) self.old.journal.entries }
+        ensures compacts { Compacts K.bodies K.faults self.old self.new }
         ensures failed { FailsAs K.faults result self.old.journal self.new.journal }
         ensures fault { IfErr result IsNoteFault }
     {
@@ -156,15 +171,29 @@ impl<K: Keeper> Book<K> {
     }
 
     // Ends each task that is open.
-    #[tactic(auto, using(crate::proofs::AddsLemmas::none_ended, crate::proofs::AddsLemmas::more_ended))]
     fn interrupt(&mut self) -> Result<(), BookFault>
         requires { self.old.journal.is_broken ≡ false }
-        ensures interrupts { Interrupts K.bodies K.faults self.old self.new }
+        ensures interrupts { Interrupts K.bodies K.faults (open_tasks self.old.records) self.old result self.new }
+        ensures standing { self.new.standing ≡ self.old.standing }
         ensures failed { FailsAs K.faults result self.old.journal self.new.journal }
         ensures fault { IfErr result IsNoteFault }
     {
-        for before in 0..self.records.tasks_opened() {
-            match self.interrupt_one(before.saturating_add(1)) {
+        match open_tasks(self.alloc, &self.records) {
+            Ok(tasks) => self.interrupt_all(&tasks),
+            Err(fault) => Err(fault),
+        }
+    }
+
+    // Ends each of some tasks, in their order.
+    fn interrupt_all(&mut self, tasks: &[u64]) -> Result<(), BookFault>
+        requires { self.old.journal.is_broken ≡ false }
+        ensures interrupts { Interrupts K.bodies K.faults tasks.now self.old result self.new }
+        ensures standing { self.new.standing ≡ self.old.standing }
+        ensures failed { FailsAs K.faults result self.old.journal self.new.journal }
+        ensures fault { IfErr result IsNoteFault }
+    {
+        for task in tasks {
+            match self.interrupt_one(*task) {
                 Ok(()) => {}
                 Err(fault) => return Err(fault),
             }
@@ -172,18 +201,36 @@ impl<K: Keeper> Book<K> {
         Ok(())
     }
 
-    // Ends a task, where it is open.
-    #[tactic(auto, using(crate::proofs::AddsLemmas::none_ended, crate::proofs::AddsLemmas::one_ended, crate::proofs::AddsLemmas::refused_ended))]
     fn interrupt_one(&mut self, task: u64) -> Result<(), BookFault>
         requires { self.old.journal.is_broken ≡ false }
-        ensures interrupts { Interrupts K.bodies K.faults self.old self.new }
+        ensures adds { Adds K.bodies K.faults self.old (unless_refused result (interruption task)) self.new }
         ensures failed { FailsAs K.faults result self.old.journal self.new.journal }
         ensures fault { IfErr result IsNoteFault }
     {
-        if !self.is_open(task) {
-            return Ok(());
-        }
         self.note_made(Ok((interrupted(task), ())))
+    }
+}
+
+// The tasks that are open, by number.
+fn open_tasks(alloc: Global, records: &Records) -> Result<Vec<u64>, BookFault>
+    ensures tasks { IfOk result (λ tasks. tasks.items ≡ open_tasks records.now) }
+    ensures memory { IfErr result (λ fault. fault ≡ faults.Memory) }
+{
+    let mut tasks = Vec::new(alloc);
+    for (task, row) in records.tasks.iter() {
+        if is_open(row.as_ref()) {
+            tasks.push(*task)?;
+        }
+    }
+    Ok(tasks)
+}
+
+fn is_open(row: Option<&TaskRow>) -> bool
+    ensures { result ≡ is_open (option_copied row.entry) }
+{
+    match row {
+        Some(row) => row.end.is_none(),
+        None => false,
     }
 }
 
@@ -203,7 +250,7 @@ fn unread<K: Keeper>(alloc: Global, journal: Journal<K>) -> Book<K>
 
 // The entry by which a task ends because the director stopped.
 fn interrupted(task: u64) -> Entry
-    ensures { result ≡ entries.TaskError (record { task = task; cause = Interrupted }) }
+    ensures { result ≡ interruption task }
 {
     Entry::TaskError(TaskError {
         task,

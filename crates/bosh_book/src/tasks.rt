@@ -3,11 +3,11 @@ ghost use Rattle.std.specs.Option.{option_copied};
 ghost use Rattle.bosh_asks.specs.declared.fault.BookFault.TheVariants as faults;
 ghost use Rattle.bosh_base.specs.declared.entry.Entry.TheVariants as entries;
 ghost use Rattle.bosh_book.specs.Adds.{Adds};
-ghost use Rattle.bosh_book.specs.Claims.{Begins, Claims, TakesOn, Turn, Turns, most_turns};
+ghost use Rattle.bosh_book.specs.Claims.{Begins, Claims, TakesOn, Turn};
 ghost use Rattle.bosh_book.specs.Current.{IsFor, dep_of, permit_of};
-ghost use Rattle.bosh_book.specs.Faults.{FailsAs, IsClaimFault, IsNoteFault, IsOpenFault, IsQuiet};
+ghost use Rattle.bosh_book.specs.Faults.{FailsAs, IsClaimFault, IsNoteFault, IsOpenFault, IsQuiet, IsTurnFault};
 ghost use Rattle.bosh_book.specs.Made.{Noted};
-ghost use Rattle.bosh_book.specs.Opens.{IsOpeningOf, OpensTask};
+ghost use Rattle.bosh_book.specs.Opens.{IsOpeningOf, OpensTask, OpensPending};
 ghost use Rattle.bosh_book.specs.Running.{is_full, is_stopped};
 ghost use Rattle.bosh_book.specs.Turns.{IsUpdate, Notes, some};
 ghost use Rattle.bosh_book.specs.declared.claim.Claim.TheVariants as claims;
@@ -20,15 +20,15 @@ use bosh_asks::{Ask, BookFault, opening};
 use bosh_base::{Begin, CopyFault, Entry, TaskOpen};
 use bosh_claim::{Choice, choose};
 use bosh_ports::Keeper;
-use bosh_work::Work;
 
 impl<K: Keeper> Book<K> {
     /// Opens the task that does what is asked, and answers its number.
-    #[tactic(auto, using(crate::proofs::FaultLemmas::notes_open, crate::proofs::FaultLemmas::fails_quietly))]
+    #[tactic(auto, using(crate::proofs::FaultLemmas::notes_open, crate::proofs::FaultLemmas::fails_quietly, crate::proofs::PendingLemmas::opens_pending, crate::proofs::PendingLemmas::opens_nothing))]
     pub fn begin_task(&mut self, ask: &Ask) -> Result<u64, BookFault>
         ensures opens { IfOk result (λ task. OpensTask K.bodies K.faults self.old ask.now task self.new) }
         ensures refused { OnErr result (Adds K.bodies K.faults self.old [] self.new) }
         ensures failed { FailsAs K.faults result self.old.journal self.new.journal }
+        ensures pending { IfErr result (OpensPending self.old.records ask.now self.new.journal) }
         ensures fault { IfErr result (IsOpenFault self.old ask.now) }
         ensures stopped { is_stopped self.old ≡ true → result ≡ Err faults.Stopped }
         ensures room { OnOk result (is_full self.old ≡ false) }
@@ -71,13 +71,13 @@ impl<K: Keeper> Book<K> {
 
     /// Claims work of a task for a worker: what the rules ask for on the way is noted. A task that is not recorded is
     /// over.
-    #[tactic(auto, using(crate::proofs::AddsLemmas::nothing_noted))]
+    #[tactic(auto, using(crate::proofs::AddsLemmas::nothing_noted, crate::proofs::FaultLemmas::turn_refused))]
     pub fn claim(&mut self, task: u64, worker: u8) -> Result<Claim, BookFault>
         ensures claims { is_stopped self.old ≡ false → is_full self.old ≡ false
             → Claims K.bodies K.faults task worker self.old result self.new }
         ensures notes { Notes K.bodies K.faults self.old (some result) self.new }
         ensures failed { FailsAs K.faults result self.old.journal self.new.journal }
-        ensures fault { IfErr result (IsClaimFault self.old) }
+        ensures fault { IfErr result (IsClaimFault self.old self.new) }
         ensures stopped { is_stopped self.old ≡ true → result ≡ Err faults.Stopped }
         ensures full { is_stopped self.old ≡ false → is_full self.old ≡ true → result ≡ Err faults.Full }
     {
@@ -87,35 +87,23 @@ impl<K: Keeper> Book<K> {
         }
     }
 
-    // The same of a book that goes on and has room.
+    // The same of a book that goes on and has room. Each turn that gives no answer notes an entry, so that it ends.
+    #[tactic(auto, using(crate::proofs::AddsLemmas::full_noted, crate::proofs::AddsLemmas::noted_last, crate::proofs::AddsLemmas::nothing_noted))]
     fn claim_next(&mut self, task: u64, worker: u8) -> Result<Claim, BookFault>
         requires { self.old.journal.is_broken ≡ false }
         ensures claims { Claims K.bodies K.faults task worker self.old result self.new }
         ensures notes { Notes K.bodies K.faults self.old (some result) self.new }
         ensures failed { FailsAs K.faults result self.old.journal self.new.journal }
-        ensures fault { IfErr result IsNoteFault }
+        ensures fault { IfErr result (IsTurnFault self.new) }
     {
-        let turns = most_turns(self.records.work(task));
-        self.claim_within(turns, task, worker)
-    }
-
-    // The same with so many turns at most.
-    #[tactic(auto, using(crate::proofs::AddsLemmas::noted_on, crate::proofs::AddsLemmas::noted_last, crate::proofs::AddsLemmas::waits_noted))]
-    fn claim_within(&mut self, turns: u64, task: u64, worker: u8) -> Result<Claim, BookFault>
-        requires { self.old.journal.is_broken ≡ false }
-        ensures claims { Turns K.bodies K.faults task worker turns self.old result self.new }
-        ensures notes { Notes K.bodies K.faults self.old (some result) self.new }
-        ensures failed { FailsAs K.faults result self.old.journal self.new.journal }
-        ensures fault { IfErr result IsNoteFault }
-    {
-        for _ in 0..turns {
+        while !self.is_long() {
             match self.turn(task, worker) {
                 Ok(None) => {}
                 Ok(Some(claim)) => return Ok(claim),
                 Err(fault) => return Err(fault),
             }
         }
-        Ok(Claim::Wait)
+        Err(BookFault::Full)
     }
 
     // What the rules choose is noted, where there is something to note. A claim is answered, or that one goes on.
@@ -223,21 +211,5 @@ impl<K: Keeper> Book<K> {
     {
         self.note(entry)?;
         Ok(None)
-    }
-}
-
-// No more entries than these come before a call begins or nothing can be done: each begins or ends the update of an
-// instance, or says that one has nothing left.
-fn most_turns(work: Option<&Work>) -> u64
-    ensures { result ≡ most_turns (option_copied work.entry) }
-{
-    match work {
-        Some(work) => {
-            let instances = (work.changed.len() as u64).saturating_add(
-                work.obsolete.items.len() as u64,
-            );
-            instances.saturating_mul(2).saturating_add(1)
-        }
-        None => 1,
     }
 }

@@ -6,7 +6,7 @@ ghost use Rattle.bosh_asks.specs.declared.fault.BookFault.TheVariants as faults;
 ghost use Rattle.bosh_base.specs.Version.{IsVersion};
 ghost use Rattle.bosh_base.specs.declared.entry.Entry.TheVariants as entries;
 ghost use Rattle.bosh_book.specs.Adds.{Adds};
-ghost use Rattle.bosh_book.specs.Appends.{unless_refused};
+ghost use Rattle.bosh_book.specs.Appends.{LeavesPending, unless_refused};
 ghost use Rattle.bosh_book.specs.Faults.{FailsAs, IsConfigFault, IsDiffering, IsNoConfig, IsQuiet, IsUploadFault};
 ghost use Rattle.bosh_book.specs.Running.{is_stopped};
 ghost use Rattle.bosh_book.specs.Uploads.{AreSame, GoesWith, IsAdded, IsOther, IsUpload};
@@ -41,6 +41,7 @@ impl<K: Keeper> Book<K> {
         ensures adds { Adds K.bodies K.faults self.old (if_new result (entries.Release release)) self.new }
         ensures told { IfOk result (IsUpload self.old.records.releases.items release) }
         ensures failed { FailsAs K.faults result self.old.journal self.new.journal }
+        ensures pending { LeavesPending result (entries.Release release) self.new.journal }
         ensures fault { IfErr result (IsUploadFault self.old (name_and_version release.name release.version)
             (IsOther self.old.records.releases.items release)) }
         ensures stopped { is_stopped self.old ≡ true → IfErr result (λ fault. fault ≡ faults.Stopped) }
@@ -71,6 +72,8 @@ impl<K: Keeper> Book<K> {
             (if_new result (entries.Stemcell (record { os = os.now; version = version.now }))) self.new }
         ensures told { IfOk result (IsAdded self.old.records.stemcells.items os.now version.now) }
         ensures failed { FailsAs K.faults result self.old.journal self.new.journal }
+        ensures pending { LeavesPending result
+            (entries.Stemcell (record { os = os.now; version = version.now })) self.new.journal }
         ensures fault { IfErr result (IsUploadFault self.old (name_and_version os.now version.now) (¬ IsVersion version.now)) }
         ensures stopped { is_stopped self.old ≡ true → IfErr result (λ fault. fault ≡ faults.Stopped) }
     {
@@ -86,10 +89,11 @@ impl<K: Keeper> Book<K> {
 
     /// Puts a cloud config in the place of the one that is there. A file that spells none is refused as if there were
     /// none.
-    #[tactic(auto, using(crate::proofs::FaultLemmas::fails_quietly))]
+    #[tactic(auto, using(crate::proofs::AddsLemmas::made_added, crate::proofs::FaultLemmas::fails_quietly))]
     pub fn set_config(&mut self, file: &[u8]) -> Result<(), BookFault>
         ensures adds { Adds K.bodies K.faults self.old (unless_refused result (entries.Config file.now)) self.new }
         ensures failed { FailsAs K.faults result self.old.journal self.new.journal }
+        ensures pending { LeavesPending result (entries.Config file.now) self.new.journal }
         ensures spells { OnOk result (is_some (config_in file.now) ≡ true) }
         ensures fault { IfErr result (IsConfigFault self.old file.now) }
         ensures stopped { is_stopped self.old ≡ true → IfErr result (λ fault. fault ≡ faults.Stopped) }

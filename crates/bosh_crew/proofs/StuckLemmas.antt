@@ -15,12 +15,12 @@ use Rattle.bosh_world.specs.declared.site.Site.{Site}
 -- a claim was refused
 pub stuck_in_claim : {K L : Type 0} {k : keeper.Ghosts K} {l : keeper.Ghosts L} (bodies : K → Option (List (List ℕ)))
     (faults : K → ℕ) (was now : Site K L k l) (fault : SiteFault) → RefusesClaim bodies faults was fault now →
-    IsBooks (IsClaimFault was.book) fault → IsStuck now fault
+    IsBooks (IsClaimFault was.book now.book) fault → IsStuck now fault
 stuck_in_claim bodies faults was now (Book book.Stopped) (noted, updates, inl (halted, same)) is =
     (λ j. (same j).history.is_halted) ∙ halted
 stuck_in_claim bodies faults was now (Book book.Stopped) (noted, updates, inr (running, fails)) is = fails.notes.halted
 stuck_in_claim bodies faults was now (Book book.StoreFault) (noted, updates, (running, fails)) is = fails.notes.halted
-stuck_in_claim bodies faults was now (Book book.Full) left is = tt
+stuck_in_claim bodies faults was now (Book book.Full) left is = is.1
 stuck_in_claim bodies faults was now (Book (book.Locked task)) left is = tt
 stuck_in_claim bodies faults was now (Book book.Memory) left is = absurd is
 stuck_in_claim bodies faults was now (Book (book.Damaged place)) left is = absurd is

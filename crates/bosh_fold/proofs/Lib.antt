@@ -1,3 +1,4 @@
 pub mod BringsLemmas
 pub mod CameLemmas
 pub mod ForgetLemmas
+pub mod LearnsLemmas

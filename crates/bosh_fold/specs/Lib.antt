@@ -2,6 +2,7 @@ pub mod Anew
 pub mod ArrivalsWith
 pub mod Calls
 pub mod Learned
+pub mod Learns
 pub mod Planned
 pub mod Room
 pub mod Tasks

@@ -3,6 +3,7 @@ ghost use Rattle.bosh_records.specs.Arrivals.{arrivals};
 ghost use Rattle.bosh_fold.specs.ArrivalsWith.{arrivals_with};
 ghost use Rattle.bosh_records.specs.Recorded.{kept, recorded};
 ghost use Rattle.bosh_fold.specs.Learned.{learned};
+ghost use Rattle.bosh_fold.specs.Learns.{IsAlike, Learns};
 ghost use Rattle.bosh_fold.specs.Planned.{Brings, IsPlanned, arrivals_after};
 ghost use Rattle.bosh_fold.specs.Room.{HasRoom};
 ghost use Rattle.bosh_fold.specs.declared.change.Change.TheVariants as changes;
@@ -43,7 +44,7 @@ pub fn plan(records: &mut Records, entry: &Entry) -> Result<Change, RecordsFault
     ensures planned { IfOk result (λ change. IsPlanned records.old records.new entry.now change) }
     ensures comes { IfOk result (λ change. Brings entry.now change) }
     ensures same { arrivals records.new ≡ arrivals records.old }
-    ensures alike { kept (recorded records.new) ≡ kept (recorded records.old) }
+    ensures alike { IsAlike records.old records.new }
 {
     plan_entry(records, entry)
 }
@@ -118,7 +119,10 @@ fn take_in(records: &mut Records, entry: &Entry, change: Change)
 }
 
 /// Takes one more entry into the records. For want of memory nothing changes.
+#[tactic(auto, using(crate::proofs::LearnsLemmas::one_learned))]
 pub fn apply(records: &mut Records, entry: &Entry) -> Result<(), RecordsFault>
+    ensures learns { OnOk result (Learns records.old entry.now records.new) }
+    ensures alike { OnErr result (IsAlike records.old records.new) }
     ensures ok { OnOk result (arrivals records.new ≡ arrivals_with entry.now (arrivals records.old)) }
     ensures err { OnErr result (arrivals records.new ≡ arrivals records.old) }
 {

@@ -10,7 +10,7 @@ use Rattle.bosh_entry.specs.Reading.{IsBytes}
 use Rattle.bosh_entry.specs.declared.format.Format.TheVariants as formats
 use Rattle.bosh_journal.proofs.SpelledLemmas.{cons_parts, Hold-directors}
 use Rattle.bosh_journal.specs.Director.{is_directors}
-use Rattle.bosh_journal.specs.JournalView.{JournalView}
+use Rattle.bosh_journal.specs.JournalView.{JournalView, Pending}
 use Rattle.bosh_journal.specs.Kept.{Hold, IsKept, Tell, TellAll}
 use Rattle.bosh_journal.specs.Reads.{Reads, Says}
 use Rattle.bosh_journal.specs.Runs.{after_run, AllKeep}
@@ -111,11 +111,11 @@ kept_after : {K : Type 0} (bodies : K → Option (List (List ℕ))) (first : Jou
 kept_after bodies first [] kept all = kept
 kept_after bodies first (next ∷ run) kept all = kept_after bodies next run (all.0 kept) all.1
 
-same_found : (told : Option (List (List ℕ))) (is_broken : Bool) (entries found : List Entry) → is_broken ≡ false →
-    TellAll told is_broken entries → IfSome told (Says (Ok found)) → found ≡ entries
-same_found None is_broken entries found whole kept says = absurd kept
-same_found (Some list) is_broken entries found whole kept says =
-    let holds : Hold list entries = subst (λ (it : Bool). Tell list it entries) whole kept in
+same_found : (told : Option (List (List ℕ))) (is_broken : Bool) (pending : Option Pending) (entries found : List Entry) →
+    is_broken ≡ false → TellAll told is_broken pending entries → IfSome told (Says (Ok found)) → found ≡ entries
+same_found None is_broken pending entries found whole kept says = absurd kept
+same_found (Some list) is_broken pending entries found whole kept says =
+    let holds : Hold list entries = subst (λ (it : Bool). Tell list it pending entries) whole kept in
     one_spelled list found entries says holds.1
 
 pub found_after : {K : Type 0} (bodies : K → Option (List (List ℕ))) (faults : K → ℕ) (is_broken : K → Bool)
@@ -124,5 +124,6 @@ pub found_after : {K : Type 0} (bodies : K → Option (List (List ℕ))) (faults
     Reads bodies faults is_broken (after_run first run).store (Ok entries) store →
     entries ≡ (after_run first run).entries
 found_after bodies faults is_broken first run store entries kept all whole reads =
-    same_found (bodies (after_run first run).store) (after_run first run).is_broken (after_run first run).entries entries
+    same_found (bodies (after_run first run).store) (after_run first run).is_broken
+    (after_run first run).pending (after_run first run).entries entries
     whole (kept_after bodies first run kept all) reads.says

@@ -1,6 +1,7 @@
 -- What it gives to read a store.
 use Rattle.std.specs.Prelude.{◌≡◌, ◌⊎◌, ℕ, ◌++◌, [], ◌∷◌, Bool, true, false, List, slice_get, Option, Some, None, IfSome, Result, Ok, Err}
 use Rattle.bosh_base.specs.declared.entry.Entry.{Entry}
+use Rattle.bosh_journal.specs.JournalView.{Pending}
 use Rattle.bosh_journal.specs.Spelled.{entry_in, format_of, IsDamagedIn, SpellIn, written_in}
 use Rattle.bosh_journal.specs.declared.fault.JournalFault.{JournalFault}
 use Rattle.bosh_journal.specs.declared.fault.JournalFault.TheVariants.{StoreFault, Damaged, Broken, Memory}
@@ -91,3 +92,8 @@ abbrev pub is_broken_after : {T : Type 0} → Result T JournalFault → Bool →
 is_broken_after (Ok value) was = false
 is_broken_after (Err Memory) was = was
 is_broken_after (Err fault) was = true
+
+-- what is pending then: nothing, once it was read
+abbrev pub pending_after : {T : Type 0} → Result T JournalFault → Option Pending → Option Pending
+pending_after (Ok value) was = None
+pending_after (Err fault) was = was

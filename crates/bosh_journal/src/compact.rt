@@ -1,6 +1,6 @@
 ghost use Rattle.std.specs.Prelude.{◌≡◌, ◌∷◌, [], false, IfErr, IfOk, IsFalse, IsTrue, OnErr, OnOk, Some};
 ghost use Rattle.bosh_entry.specs.Body.{entry_of, spelling};
-ghost use Rattle.bosh_journal.specs.Appends.{Changes, Puts};
+ghost use Rattle.bosh_journal.specs.Appends.{Changes, Pends, Puts, alone};
 ghost use Rattle.bosh_journal.specs.Director.{is_snapshot};
 ghost use Rattle.bosh_journal.specs.declared.fault.JournalFault.TheVariants.{Memory};
 
@@ -8,6 +8,7 @@ use crate::fault::is_store_fault;
 use crate::translate::push_spelled;
 use crate::{Journal, JournalFault};
 use bosh_base::{Copyable, Entry};
+use bosh_drops::put;
 use bosh_ports::{Bodies, Keeper};
 use std::alloc::Global;
 
@@ -18,7 +19,7 @@ impl<K: Keeper> Journal<K> {
     pub fn compact(&mut self, snapshot: &Entry) -> Result<(), JournalFault>
         requires whole { self.old.is_broken ≡ false }
         requires snapshot { IsTrue (is_snapshot snapshot.now) }
-        ensures { Changes K.bodies K.faults K.is_broken result self.old (snapshot.now ∷ [])
+        ensures { Changes K.bodies K.faults K.is_broken result self.old (alone snapshot.now)
             (λ _. spelling snapshot.now ∷ []) self.new }
     {
         let bodies = single(self.alloc, snapshot)?;
@@ -28,9 +29,10 @@ impl<K: Keeper> Journal<K> {
             snapshot,
             &mut self.store,
             &bodies,
+            &mut self.pending,
         );
-        let failed = is_store_fault(&kept);
-        self.is_broken = failed;
+        self.is_broken = is_store_fault(&kept);
+        self.is_alone = true;
         kept
     }
 }
@@ -46,7 +48,8 @@ fn single(alloc: Global, entry: &Entry) -> Result<Bodies, JournalFault>
     Ok(bodies)
 }
 
-/// Puts a copy of an item in the place of a list, once its bodies are in the store in the place of the list there.
+/// Puts a copy of an item in the place of a list, once its bodies are in the store in the place of the list there. Where
+/// the store fails, it is pending.
 // It is generic, since an entry that is dropped where the store fails is dear to prove.
 fn replace<T: Copyable, K: Keeper>(
     alloc: Global,
@@ -54,16 +57,25 @@ fn replace<T: Copyable, K: Keeper>(
     item: &T,
     store: &mut K,
     bodies: &Bodies,
+    pending: &mut Option<T>,
 ) -> Result<(), JournalFault>
     requires { IsFalse (K.is_broken store.old) }
     ensures ok { OnOk result (items.new.items ≡ item.now ∷ []) }
     ensures refused { OnErr result (items.new.items ≡ items.old.items) }
     ensures store { Puts K.bodies K.faults K.is_broken result store.old (λ _. bodies.now) store.new }
+    ensures pends { Pends result item.now pending.new }
 {
     items.reserve(1)?;
     let copy = item.copy(alloc)?;
-    store.replace(bodies)?;
-    items.clear();
-    items.push_reserved(copy);
-    Ok(())
+    match store.replace(bodies) {
+        Ok(()) => {
+            items.clear();
+            items.push_reserved(copy);
+            Ok(())
+        }
+        Err(fault) => {
+            put(pending, Some(copy));
+            Err(JournalFault::from(fault))
+        }
+    }
 }

@@ -12,10 +12,15 @@ pub struct Journal<K: Keeper> {
     pub(crate) store: K,
     pub(crate) entries: Vec<Entry>,
     pub(crate) is_broken: bool,
+    /// What its store failed at last, which it may have all the same.
+    pub(crate) pending: Option<Entry>,
+    /// Whether that was to stand in the place of all entries.
+    pub(crate) is_alone: bool,
 }
 
 impl<K: Keeper> Model for Journal<K> {
     ghost use Rattle.std.specs.Prelude.{◌≡◌, false};
+    ghost use Rattle.std.specs.Prelude.{option_map};
     ghost use Rattle.bosh_journal.specs.JournalView.{JournalView};
 
     ghost Value = { JournalView K };
@@ -24,6 +29,7 @@ impl<K: Keeper> Model for Journal<K> {
       store = journal.store;
       entries = journal.entries.items;
       is_broken = journal.is_broken;
+      pending = option_map (λ entry. record { entry = entry; is_alone = journal.is_alone }) journal.pending;
     } };
 
     ghost invariant = { λ journal. journal.is_broken ≡ false → K.is_broken journal.store ≡ false };

@@ -1,12 +1,13 @@
 ghost use Rattle.std.specs.Prelude.{◌≡◌, [], false, Ok, Err, IfErr, IfOk, IfSome};
 ghost use Rattle.bosh_journal.specs.Kept.{Hold, IsKept};
-ghost use Rattle.bosh_journal.specs.Reads.{is_broken_after, Reads, with_entries};
+ghost use Rattle.bosh_journal.specs.Reads.{is_broken_after, pending_after, Reads, with_entries};
 
 use crate::format::Format;
 use crate::read::{format_in, read_bodies};
 use crate::translate::write_all;
 use crate::{Journal, JournalFault};
 use bosh_base::Entry;
+use bosh_drops::put;
 use bosh_ports::Keeper;
 use std::alloc::Global;
 
@@ -29,6 +30,8 @@ impl<K: Keeper> Journal<K> {
                 store,
                 entries,
                 is_broken: false,
+                pending: None,
+                is_alone: false,
             }),
             Err(fault) => Err((store, fault)),
         }
@@ -41,6 +44,7 @@ impl<K: Keeper> Journal<K> {
             (with_entries result self.new.entries) self.new.store }
         ensures refused { IfErr result (λ _. self.new.entries ≡ self.old.entries) }
         ensures broken { self.new.is_broken ≡ is_broken_after result self.old.is_broken }
+        ensures pending { self.new.pending ≡ pending_after result self.old.pending }
         ensures kept { IsKept K.bodies self.old → IsKept K.bodies self.new }
     {
         let mut entries = Vec::new(self.alloc);
@@ -49,6 +53,7 @@ impl<K: Keeper> Journal<K> {
             Ok(()) => {
                 self.entries = entries;
                 self.is_broken = false;
+                put(&mut self.pending, None);
             }
             Err(fault) => self.is_broken = self.is_broken || fault != JournalFault::Memory,
         }

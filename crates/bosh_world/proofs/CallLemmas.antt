@@ -166,6 +166,7 @@ adds_none : {K : Type 0} (bodies : K → Option (List (List ℕ))) (faults : K �
     Adds bodies faults was [] now
 adds_none bodies faults was now same = subst (λ (b : Book _). Adds bodies faults was [] b) (sym same) (record {
   entries = sym (append-nil was.journal.entries);
+  learns = refl;
   recorded = refl;
   kept = λ kept. kept;
   count = omega arith;

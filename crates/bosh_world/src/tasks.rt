@@ -38,7 +38,7 @@ impl<K: Keeper, L: Keeper> Site<K, L> {
     pub fn claim(&mut self, task: u64, worker: u8) -> Result<Claim, SiteFault>
         ensures claims { IfOk result (λ claim. Claims K.bodies K.faults self.old task worker claim self.new) }
         ensures refused { IfErr result (λ fault. RefusesClaim K.bodies K.faults self.old fault self.new) }
-        ensures fault { IfErr result (IsBooks (IsClaimFault self.old.book)) }
+        ensures fault { IfErr result (IsBooks (IsClaimFault self.old.book self.new.book)) }
         ensures grows { Extends (moves_of self.old) (moves_of self.new) }
         ensures silent { IsSilent self.old self.new }
     {
@@ -53,7 +53,7 @@ impl<K: Keeper, L: Keeper> Site<K, L> {
         requires running { self.old.history.is_halted ≡ false }
         ensures claims { IfOk result (λ claim. Claims K.bodies K.faults self.old task worker claim self.new) }
         ensures refused { IfErr result (λ fault. RefusesClaim K.bodies K.faults self.old fault self.new) }
-        ensures fault { IfErr result (IsBooks (IsClaimFault self.old.book)) }
+        ensures fault { IfErr result (IsBooks (IsClaimFault self.old.book self.new.book)) }
         ensures grows { Extends (moves_of self.old) (moves_of self.new) }
         ensures silent { IsSilent self.old self.new }
     {

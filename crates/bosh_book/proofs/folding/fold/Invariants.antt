@@ -1,8 +1,7 @@
-use Rattle.std.proofs.Common.{◌≡◌, take}
-use Rattle.bosh_book.specs.Adds.{arrivals_by}
-use Rattle.bosh_records.specs.Arrivals.{arrivals}
+use Rattle.std.proofs.Common.{take}
+use Rattle.bosh_book.specs.Folds.{StandAll}
 use Rattle.bosh_book.proofs.folding.fold.Given as goal
 
--- what came by the entries so far
+-- those so far are taken in
 abbrev pub invariant-loop-place : goal.invariant-loop-place
-invariant-loop-place l = arrivals l.records ≡ arrivals_by (take l.place l.entries) (arrivals l.fn.records)
+invariant-loop-place l = StandAll 0 l.fn.records (take l.place l.entries) l.records

@@ -43,7 +43,7 @@ returns-clause-refused g c =
       same_opening = λ j. c.args.self.now.opening;
     })
     c.sprung.ensures c.claim-claimed.ensures.notes c.claim-claimed.ensures.failed
-    (not_stopped c.args.self.now.book (IsClaimFault c.args.self.now.book) c.claim-claimed.result
+    (not_stopped c.args.self.now.book (IsClaimFault c.args.self.now.book c.claim-claimed.new.self) c.claim-claimed.result
     (c.args.self.now.is_site.book_runs c.requires.running) (λ is. is) c.claim-claimed.ensures.fault)
     (follows_at c.args.self.now.history c.told.new.history c.claim-claimed.new.self.journal.entries c.entries.result.now
     c.args.self.now.cloud.effects c.effects.result.now (halt_of c.sprung.result c.claim-claimed.result) c.entries.ensures
@@ -51,5 +51,5 @@ returns-clause-refused g c =
 
 pub returns-clause-fault : goal.returns-clause-fault
 returns-clause-fault g c =
-    books_told (IsClaimFault c.args.self.now.book) c.told.result c.claim-claimed.result c.sprung.result c.told.ensures.answer
+    books_told (IsClaimFault c.args.self.now.book c.claim-claimed.new.self) c.told.result c.claim-claimed.result c.sprung.result c.told.ensures.answer
     c.claim-claimed.ensures.fault
