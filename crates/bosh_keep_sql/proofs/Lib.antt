@@ -1,5 +1,10 @@
+pub mod HoldingLemmas
 pub mod KeeperLemmas
 pub mod LoadLemmas
+pub mod RefusalLemmas
 pub mod RewriteLemmas
 pub mod RowLemmas
+pub mod SettledLemmas
 pub mod SurvivalLemmas
+pub mod TextLemmas
+pub mod UndoneLemmas

@@ -70,7 +70,7 @@ other_all (x ∷ xs) (y ∷ ys) is = λ same.
     ]
 
 -- rows about one of them
-split : (rows : List Row) (place : ℕ) (row : Row) → place < length rows → row ≡ get_or rows place row →
+pub split : {A : Type 0} (rows : List A) (place : ℕ) (row : A) → place < length rows → row ≡ get_or rows place row →
     rows ≡ take place rows ++ row ∷ drop (place + 1) rows
 split rows place row within at =
     sym (take-append-drop (place + 1) rows)

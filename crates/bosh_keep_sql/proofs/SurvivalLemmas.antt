@@ -4,7 +4,7 @@ use Rattle.bosh_keep_sql.specs.Statements.{IsOneCommit}
 use Rattle.sqlite.proofs.Callers.{survives_begin}
 use Rattle.sqlite.proofs.StateLemmas.{survives_then, survives_weaker}
 use Rattle.sqlite.specs.Held.{Held, state}
-use Rattle.sqlite.specs.State.{State, Survives}
+use Rattle.sqlite.specs.State.{HasCleanDisk, State, Survives}
 use Rattle.sqlite.specs.Store.{Ghosts}
 use Rattle.sqlite.specs.Tree.{Trees}
 
@@ -58,3 +58,7 @@ pub begun_committed : {S : Type 0} (g : Ghosts S) (old first mid end given : Hel
 begun_committed {S} g old first mid end given is same one two =
     subst (λ (h : Held S). IsOneCommit (state g old) (state g h)) same
     (one_commit (state g old) (state g mid) (state g end) (state g mid).now.trees (begun g old first mid is one) two)
+
+-- a disk that is clean after one commit was so before it
+pub clean_commit : (a b : State) → IsOneCommit a b → HasCleanDisk b → HasCleanDisk a
+clean_commit a b one clean = let falls = one.1.clean in omega (arith, falls, clean)

@@ -1,4 +1,6 @@
+pub mod Ending
 pub mod Faults
+pub mod Holding
 pub mod Loads
 pub mod Rewrites
 pub mod Rows

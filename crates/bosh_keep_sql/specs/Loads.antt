@@ -1,7 +1,8 @@
 -- What a load finds in a database, by what its statements answered, one after the other.
-use Rattle.std.specs.Prelude.{◌≡◌, ◌≢◌, ◌⊎◌, ℕ, List, [], ◌∷◌, Err}
+use Rattle.std.specs.Prelude.{◌≡◌, ◌≢◌, ◌⊎◌, ℕ, List, [], ◌∷◌, Err, IsTrue}
 use Rattle.bosh_keep_sql.specs.declared.fault.LoadFault.{LoadFault}
 use Rattle.bosh_keep_sql.specs.declared.fault.LoadFault.TheVariants.{Foreign, Memory}
+use Rattle.bosh_keep_sql.specs.declared.fault.LoadFault.TheVariants as load
 use Rattle.bosh_keep_sql.specs.declared.table.Contents.{Contents}
 use Rattle.bosh_keep_sql.specs.declared.table.Contents.TheVariants.{Nothing, Table, Other}
 use Rattle.bosh_keep_sql.specs.Faults.{fault_of, load_fault_of}
@@ -66,10 +67,15 @@ module _ {S : Type 0} (g : Ghosts S) where
   abbrev pub Finds : Held S → Held S → List (List ℕ) → Type 0
   Finds old new bodies = (mid : Held S) × IsPrepared old mid × ListsBodies mid new bodies
 
-  -- why a load is refused
+  -- the table cannot be prepared, or its rows cannot be read
+  abbrev pub FailsToFind : Held S → Held S → LoadFault → Type 0
+  FailsToFind old new fault =
+      FailsToPrepare old new fault ⊎ ((mid : Held S) × IsPrepared old mid × FailsToRead mid new fault)
+
+  -- why a load is refused: a transaction is open already, and no statement was run; or there is no table to be read
   abbrev pub FailsToLoad : Held S → Held S → LoadFault → Type 0
   FailsToLoad old new fault =
-      FailsToPrepare old new fault ⊎ ((mid : Held S) × IsPrepared old mid × FailsToRead mid new fault)
+      (IsTrue old.in_transaction × (fault ≡ load.Failed) × (new ≡ old)) ⊎ FailsToFind old new fault
 
   -- the rows that the database lists are not those of these bodies, or the statement was refused
   abbrev pub DiffersFrom : Held S → Held S → List (List ℕ) → Type 0

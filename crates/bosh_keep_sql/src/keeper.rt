@@ -1,18 +1,26 @@
-ghost use Rattle.std.specs.Prelude.{◌≡◌, ◌++◌, [], ◌∷◌, false, length, Err, Some, IfErr, IfOk, OnOk};
+ghost use Rattle.std.specs.Prelude.{◌≡◌, ◌<◌, ◌++◌, [], ◌∷◌, false, length, Err, Some, IfErr, IfOk, OnOk};
+ghost use Rattle.bosh_keep_sql.specs.Ending.{FailsToCopy, StandsAlone};
+ghost use Rattle.bosh_keep_sql.specs.Holding.{IsTied};
 ghost use Rattle.bosh_keep_sql.specs.Loads.{DiffersFrom, FailsToLoad, Finds, ListsBodies};
-ghost use Rattle.bosh_keep_sql.specs.Rewrites.{Rewrites};
+ghost use Rattle.bosh_keep_sql.specs.Rewrites.{RefusesRewrite, Rewrites};
 ghost use Rattle.bosh_keep_sql.specs.Rows.{row_of};
 ghost use Rattle.bosh_keep_sql.specs.SqlView.{Fails};
 ghost use Rattle.bosh_keep_sql.specs.Statements.{insert_text, IsOneCommit, RefusesBody, Runs};
 ghost use Rattle.bosh_ports.specs.Faults.{NeverFalls};
-ghost use Rattle.bosh_ports.specs.Keeper.{FailsByCount, Leaves, TellsBroken, TellsMended};
+ghost use Rattle.bosh_ports.specs.Keeper.{FailsByCount, IsBodyAt, Leaves, TellsBroken, TellsMended};
 ghost use Rattle.sqlite.specs.Held.{state};
+ghost use Rattle.sqlite.specs.Files.{IsClosed};
 ghost use Rattle.sqlite.specs.State.{HasCleanDisk};
+ghost use Rattle.sqlite.specs.WalReads.{AreClean};
+ghost use Rattle.sqlite.specs.View.{IsClean};
+ghost use Rattle.sqlite.specs.FileStore.{view};
 
 use crate::LoadFault;
+use crate::fault::fault_of;
 use crate::store::{check, found, put, put_all};
 use bosh_ports::{Bodies, KeepFault, Keeper};
-use sqlite::{Alter, Connection};
+use sqlite::{Alter, Connection, FileStore, Files};
+use sqlite_disk::Disk;
 use std::alloc::Global;
 use std::marker::Model;
 
@@ -28,6 +36,7 @@ pub struct SqlKeeper<S: Alter + Drop> {
 }
 
 impl<S: Alter + Drop> Model for SqlKeeper<S> {
+    ghost use Rattle.bosh_keep_sql.specs.Holding.{IsTied};
     ghost use Rattle.bosh_keep_sql.specs.SqlView.{SqlView, view_code};
     ghost use Rattle.bosh_ports.specs.Contents.{contents};
 
@@ -41,6 +50,8 @@ impl<S: Alter + Drop> Model for SqlKeeper<S> {
       faults = keeper.faults;
       is_broken = keeper.is_broken;
     } };
+
+    ghost invariant = { λ keeper. IsTied S.Store keeper.connection (contents keeper.bodies.items) };
 }
 
 impl<S: Alter + Drop> SqlKeeper<S> {
@@ -54,10 +65,14 @@ impl<S: Alter + Drop> SqlKeeper<S> {
         ensures fresh { IfOk result (λ keeper. keeper ≡ record keeper { faults = 0; is_broken = false }) }
         ensures found { IfOk result (λ keeper. HasCleanDisk (state S.Store keeper.connection) →
             Finds S.Store connection keeper.connection keeper.bodies) }
+        ensures tied { IfOk result (λ keeper. IsTied S.Store keeper.connection keeper.bodies) }
         ensures refused { IfErr result (λ refused. HasCleanDisk (state S.Store refused.0) →
             FailsToLoad S.Store connection refused.0 refused.1) }
     {
         let mut connection = connection;
+        if !connection.is_autocommit() {
+            return Err((connection, LoadFault::Failed));
+        }
         match found(alloc, &mut connection) {
             Ok(bodies) => Ok(SqlKeeper {
                 alloc,
@@ -74,6 +89,7 @@ impl<S: Alter + Drop> SqlKeeper<S> {
     fn fail(&mut self, fault: KeepFault) -> KeepFault
         ensures fault { result ≡ fault }
         ensures fails { Fails fault self.old self.new }
+        ensures tied { IsTied S.Store self.new.connection self.new.bodies }
         ensures count { NeverFalls self.old.faults self.new.faults }
     {
         match fault {
@@ -84,6 +100,30 @@ impl<S: Alter + Drop> SqlKeeper<S> {
             KeepFault::Broken | KeepFault::Memory => {}
         }
         fault
+    }
+}
+
+impl<D: Disk + Drop> SqlKeeper<FileStore<D>> {
+    /// Ends it: what the log has is copied into the database file, which then has all of it alone. Where that cannot be
+    /// done nothing is lost: the log stays, and the next load finds the same.
+    pub fn close_files(self) -> Result<Files<D>, (FileStore<D>, KeepFault)>
+        ensures copied { IfOk result (λ files. AreClean D.Disk files.log files.db →
+            StandsAlone self.bodies self.connection files) }
+        ensures kept { IfErr result (λ left. IsClosed self.connection left.0) }
+        ensures cause { IfErr result (λ left. IsClean (view left.0) →
+            FailsToCopy self.connection left.0 left.1) }
+    {
+        let SqlKeeper {
+            alloc: _,
+            connection,
+            bodies: _,
+            faults: _,
+            is_broken: _,
+        } = self;
+        match connection.close_files() {
+            Ok(files) => Ok(files),
+            Err((error, store)) => Err((store, fault_of(error))),
+        }
     }
 }
 
@@ -106,7 +146,16 @@ impl<S: Alter + Drop> Keeper for SqlKeeper<S> {
         self.bodies.len() as u64
     }
 
-    fn read(&mut self, alloc: Global, k: u64) -> Result<Vec<u8>, KeepFault> {
+    fn read(&mut self, alloc: Global, k: u64) -> Result<Vec<u8>, KeepFault>
+        requires { k < length self.old.bodies }
+        ensures same { self.new ≡ self.old }
+        ensures tied { IsTied S.Store self.new.connection self.new.bodies }
+        ensures body { IsBodyAt result self.old.bodies k }
+        ensures list { Some self.new.bodies ≡ Some self.old.bodies }
+        ensures broken { TellsBroken result self.old.is_broken self.new.is_broken }
+        ensures count { NeverFalls self.old.faults self.new.faults }
+        ensures failed { FailsByCount result self.old.faults self.new.faults }
+    {
         if self.is_broken {
             return Err(KeepFault::Broken);
         }
@@ -123,6 +172,7 @@ impl<S: Alter + Drop> Keeper for SqlKeeper<S> {
         ensures refused { HasCleanDisk (state S.Store self.new.connection) → result ≡ Err KeepFault.Failed →
             RefusesBody (length self.old.bodies) body.now
             (state S.Store self.old.connection) (state S.Store self.new.connection) KeepFault.Failed }
+        ensures tied { IsTied S.Store self.new.connection self.new.bodies }
         ensures list { Leaves result self.old.bodies (self.old.bodies ++ body.now ∷ []) (Some self.new.bodies) }
         ensures broken { TellsBroken result self.old.is_broken self.new.is_broken }
         ensures count { NeverFalls self.old.faults self.new.faults }
@@ -140,6 +190,9 @@ impl<S: Alter + Drop> Keeper for SqlKeeper<S> {
     fn replace(&mut self, list: &Bodies) -> Result<(), KeepFault>
         ensures rewritten { HasCleanDisk (state S.Store self.new.connection) → OnOk result
             (Rewrites S.Store list.now self.old.connection self.new.connection) }
+        ensures refused { HasCleanDisk (state S.Store self.new.connection) → result ≡ Err KeepFault.Failed →
+            RefusesRewrite S.Store list.now self.old.connection self.new.connection KeepFault.Failed }
+        ensures tied { IsTied S.Store self.new.connection self.new.bodies }
         ensures whole { IsOneCommit (state S.Store self.old.connection) (state S.Store self.new.connection) }
         ensures list { Leaves result self.old.bodies list.now (Some self.new.bodies) }
         ensures broken { TellsBroken result self.old.is_broken self.new.is_broken }
@@ -160,6 +213,7 @@ impl<S: Alter + Drop> Keeper for SqlKeeper<S> {
             (ListsBodies S.Store self.old.connection self.new.connection self.new.bodies) }
         ensures differs { HasCleanDisk (state S.Store self.new.connection) → result ≡ Err KeepFault.Failed →
             DiffersFrom S.Store self.old.connection self.new.connection self.old.bodies }
+        ensures tied { IsTied S.Store self.new.connection self.new.bodies }
         ensures list { Some self.new.bodies ≡ Some self.old.bodies }
         ensures mended { TellsMended result self.old.is_broken self.new.is_broken }
         ensures count { NeverFalls self.old.faults self.new.faults }

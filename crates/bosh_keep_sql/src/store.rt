@@ -1,6 +1,7 @@
-ghost use Rattle.std.specs.Prelude.{◌≡◌, ◌≢◌, ◌≤◌, ◌^◌, ◌++◌, [], ◌∷◌, length, Err, IfErr, IfOk, OnErr, OnOk};
-ghost use Rattle.bosh_keep_sql.specs.Loads.{DiffersFrom, FailsToLoad, FailsToRead, Finds, ListsBodies};
-ghost use Rattle.bosh_keep_sql.specs.Rewrites.{Rewrites};
+ghost use Rattle.std.specs.Prelude.{◌≡◌, ◌≢◌, ◌≤◌, ◌^◌, ◌++◌, [], ◌∷◌, length, Err, IfErr, IfOk, IsTrue, OnErr, OnOk};
+ghost use Rattle.bosh_keep_sql.specs.Holding.{IsSettled, IsTied, IsUnwritten};
+ghost use Rattle.bosh_keep_sql.specs.Loads.{DiffersFrom, FailsToFind, FailsToRead, Finds, ListsBodies};
+ghost use Rattle.bosh_keep_sql.specs.Rewrites.{RefusesRewrite, Rewrites};
 ghost use Rattle.bosh_keep_sql.specs.Rows.{row_of, rows_from};
 ghost use Rattle.bosh_keep_sql.specs.Statements.{insert_text, IsOneCommit, RefusesBody, RefusesRun, Runs};
 ghost use Rattle.bosh_ports.specs.Contents.{contents};
@@ -25,7 +26,9 @@ pub(crate) fn found<S: Alter>(
     ensures found { HasCleanDisk (state S.Store connection.new) → IfOk result (λ bodies.
         Finds S.Store connection.old connection.new (contents bodies.items)) }
     ensures refused { HasCleanDisk (state S.Store connection.new) → IfErr result
-        (FailsToLoad S.Store connection.old connection.new) }
+        (FailsToFind S.Store connection.old connection.new) }
+    ensures tied { IsSettled (state S.Store connection.old) → IfOk result (λ bodies.
+        IsTied S.Store connection.new (contents bodies.items)) }
 {
     prepare(connection)?;
     listed(alloc, connection)
@@ -40,6 +43,8 @@ fn listed<S: Alter>(
         ListsBodies S.Store connection.old connection.new (contents bodies.items)) }
     ensures refused { HasCleanDisk (state S.Store connection.new) → IfErr result
         (FailsToRead S.Store connection.old connection.new) }
+    ensures unwritten { HasCleanDisk (state S.Store connection.new) → IsSettled (state S.Store connection.old) →
+        IsUnwritten (state S.Store connection.old) (state S.Store connection.new) }
     ensures before { HasCleanDisk (state S.Store connection.new) → HasCleanDisk (state S.Store connection.old) }
 {
     match list_rows(connection) {
@@ -62,6 +67,8 @@ pub(crate) fn put<S: Alter>(
     ensures failed { HasCleanDisk (state S.Store connection.new) → result ≡ Err KeepFault.Failed →
         RefusesBody (length (contents bodies.old.items)) body.now
         (state S.Store connection.old) (state S.Store connection.new) KeepFault.Failed }
+    ensures tied { IsTied S.Store connection.old (contents bodies.old.items) →
+        IsTied S.Store connection.new (contents bodies.new.items) }
     ensures ok { OnOk result (contents bodies.new.items ≡ contents bodies.old.items ++ body.now ∷ []) }
     ensures refused { OnErr result (contents bodies.new.items ≡ contents bodies.old.items) }
     ensures fault { IfErr result (λ fault. fault ≢ KeepFault.Broken) }
@@ -85,6 +92,11 @@ fn insert<S: Alter>(
     ensures refused { HasCleanDisk (state S.Store connection.new) → IfErr result
         (RefusesRun insert_text (row_of position body.now)
         (state S.Store connection.old) (state S.Store connection.new)) }
+    ensures written { HasCleanDisk (state S.Store connection.new) → IsSettled (state S.Store connection.old) →
+        OnOk result (IsSettled (state S.Store connection.new) × IsTrue (state S.Store connection.old).is_open) }
+    ensures unwritten { HasCleanDisk (state S.Store connection.new) → IsSettled (state S.Store connection.old) →
+        OnErr result (IsUnwritten (state S.Store connection.old) (state S.Store connection.new)) }
+    ensures before { HasCleanDisk (state S.Store connection.new) → HasCleanDisk (state S.Store connection.old) }
     ensures fault { IfErr result (λ fault. fault ≢ KeepFault.Broken) }
 {
     match insert_row(connection, position, body) {
@@ -116,6 +128,10 @@ pub(crate) fn put_all<S: Alter>(
     ensures refused { OnErr result (contents bodies.new.items ≡ contents bodies.old.items) }
     ensures rewritten { HasCleanDisk (state S.Store connection.new) → OnOk result
         (Rewrites S.Store list.now connection.old connection.new) }
+    ensures failed { HasCleanDisk (state S.Store connection.new) → result ≡ Err KeepFault.Failed →
+        RefusesRewrite S.Store list.now connection.old connection.new KeepFault.Failed }
+    ensures tied { IsTied S.Store connection.old (contents bodies.old.items) →
+        IsTied S.Store connection.new (contents bodies.new.items) }
     ensures whole { IsOneCommit (state S.Store connection.old) (state S.Store connection.new) }
     ensures fault { IfErr result (λ fault. fault ≢ KeepFault.Broken) }
 {
@@ -135,6 +151,9 @@ pub(crate) fn check<S: Alter>(
         (ListsBodies S.Store connection.old connection.new (contents bodies.now)) }
     ensures failed { HasCleanDisk (state S.Store connection.new) → result ≡ Err KeepFault.Failed →
         DiffersFrom S.Store connection.old connection.new (contents bodies.now) }
+    ensures unwritten { HasCleanDisk (state S.Store connection.new) → IsSettled (state S.Store connection.old) →
+        IsUnwritten (state S.Store connection.old) (state S.Store connection.new) }
+    ensures before { HasCleanDisk (state S.Store connection.new) → HasCleanDisk (state S.Store connection.old) }
     ensures fault { IfErr result (λ fault. fault ≢ KeepFault.Broken) }
 {
     match list_rows(connection) {

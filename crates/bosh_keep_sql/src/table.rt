@@ -1,4 +1,5 @@
 ghost use Rattle.std.specs.Prelude.{◌≡◌, [], ◌∷◌, IfErr, IfOk, IsFalse, IsTrue, OnOk};
+ghost use Rattle.bosh_keep_sql.specs.Holding.{IsSettled, IsUnwritten};
 ghost use Rattle.bosh_keep_sql.specs.Loads.{FailsToPrepare, IsOurs, IsPrepared, IsSchema};
 ghost use Rattle.bosh_keep_sql.specs.Loads.{RefusesQuery, RefusesTable, Shows};
 ghost use Rattle.bosh_keep_sql.specs.Statements.{make_text, Runs, schema_text};
@@ -28,6 +29,8 @@ pub(crate) fn prepare<S: Alter>(connection: &mut Connection<S>) -> Result<(), Lo
         (IsPrepared S.Store connection.old connection.new) }
     ensures refused { HasCleanDisk (state S.Store connection.new) → IfErr result
         (FailsToPrepare S.Store connection.old connection.new) }
+    ensures settled { HasCleanDisk (state S.Store connection.new) → IsSettled (state S.Store connection.old) →
+        IsSettled (state S.Store connection.new) }
     ensures before { HasCleanDisk (state S.Store connection.new) → HasCleanDisk (state S.Store connection.old) }
 {
     match contents_of(connection) {
@@ -44,6 +47,8 @@ fn make<S: Alter>(connection: &mut Connection<S>) -> Result<(), LoadFault>
         (Runs make_text [] (state S.Store connection.old) (state S.Store connection.new)) }
     ensures refused { HasCleanDisk (state S.Store connection.new) → IfErr result
         (RefusesTable S.Store connection.old connection.new) }
+    ensures settled { HasCleanDisk (state S.Store connection.new) → IsSettled (state S.Store connection.old) →
+        IsSettled (state S.Store connection.new) }
     ensures before { HasCleanDisk (state S.Store connection.new) → HasCleanDisk (state S.Store connection.old) }
 {
     match make_table(connection) {
@@ -58,6 +63,8 @@ fn contents_of<S: Alter>(connection: &mut Connection<S>) -> Result<Contents, Loa
         (Shows S.Store connection.old connection.new) }
     ensures refused { HasCleanDisk (state S.Store connection.new) → IfErr result
         (RefusesQuery S.Store schema_text connection.old connection.new) }
+    ensures unwritten { HasCleanDisk (state S.Store connection.new) → IsSettled (state S.Store connection.old) →
+        IsUnwritten (state S.Store connection.old) (state S.Store connection.new) }
     ensures before { HasCleanDisk (state S.Store connection.new) → HasCleanDisk (state S.Store connection.old) }
 {
     match list_tables(connection) {

@@ -1,10 +1,12 @@
-ghost use Rattle.std.specs.Prelude.{◌≡◌, ◌≢◌, [], IfErr, IsTrue, OnOk};
-ghost use Rattle.bosh_keep_sql.specs.Rewrites.{delete_text, InsertsInside, Rewrites, RunsInside};
+ghost use Rattle.std.specs.Prelude.{◌≡◌, ◌≢◌, [], false, IfErr, IsTrue, OnErr, OnOk};
+ghost use Rattle.bosh_keep_sql.specs.Holding.{IsSettled, IsUnwritten};
+ghost use Rattle.bosh_keep_sql.specs.Rewrites.{delete_text, FailsToInsert, InsertsInside};
+ghost use Rattle.bosh_keep_sql.specs.Rewrites.{RefusesInside, RefusesRewrite, RefusesRow, Rewrites, RunsInside};
 ghost use Rattle.bosh_keep_sql.specs.Rows.{row_of};
 ghost use Rattle.bosh_keep_sql.specs.Statements.{insert_text, IsOneCommit};
 ghost use Rattle.bosh_ports.specs.Contents.{contents};
 ghost use Rattle.sqlite.specs.Held.{state};
-ghost use Rattle.sqlite.specs.State.{HasCleanDisk, Survives};
+ghost use Rattle.sqlite.specs.State.{HasCleanDisk, KeepsCommit, Survives};
 
 use crate::fault::fault_of;
 use bosh_ports::KeepFault;
@@ -18,6 +20,11 @@ pub(crate) fn rewrite<S: Alter>(
 ) -> Result<(), KeepFault>
     ensures rewritten { HasCleanDisk (state S.Store connection.new) → OnOk result
         (Rewrites S.Store (contents bodies.now) connection.old connection.new) }
+    ensures refused { HasCleanDisk (state S.Store connection.new) → IfErr result
+        (RefusesRewrite S.Store (contents bodies.now) connection.old connection.new) }
+    ensures unwritten { HasCleanDisk (state S.Store connection.new) → IsSettled (state S.Store connection.old) →
+        OnErr result (IsUnwritten (state S.Store connection.old) (state S.Store connection.new)) }
+    ensures ended { OnOk result (connection.new.in_transaction ≡ false) }
     ensures whole { IsOneCommit (state S.Store connection.old) (state S.Store connection.new) }
     ensures fault { IfErr result (λ fault. fault ≢ KeepFault.Broken) }
 {
@@ -38,6 +45,12 @@ fn clear_in<S: Alter>(transaction: &mut Transaction<'_, S>) -> Result<(), KeepFa
     ensures runs { HasCleanDisk (state S.Store transaction.new.conn.now) →
         IsTrue transaction.old.conn.now.in_transaction → OnOk result
         (RunsInside S.Store delete_text [] transaction.old.conn.now transaction.new.conn.now) }
+    ensures refused { HasCleanDisk (state S.Store transaction.new.conn.now) →
+        IsTrue transaction.old.conn.now.in_transaction → IfErr result
+        (RefusesInside S.Store delete_text [] transaction.old.conn.now transaction.new.conn.now) }
+    ensures kept { HasCleanDisk (state S.Store transaction.new.conn.now) →
+        IsTrue transaction.old.conn.now.in_transaction →
+        KeepsCommit (state S.Store transaction.old.conn.now) (state S.Store transaction.new.conn.now) }
     ensures survives { Survives (state S.Store transaction.old.conn.now)
         (state S.Store transaction.new.conn.now) (λ _. ⊥) }
     ensures fault { IfErr result (λ fault. fault ≢ KeepFault.Broken) }
@@ -58,6 +71,12 @@ fn insert_in<S: Alter>(
         IsTrue transaction.old.conn.now.in_transaction → OnOk result
         (RunsInside S.Store insert_text (row_of position body.now)
         transaction.old.conn.now transaction.new.conn.now) }
+    ensures refused { HasCleanDisk (state S.Store transaction.new.conn.now) →
+        IsTrue transaction.old.conn.now.in_transaction → IfErr result
+        (RefusesInside S.Store insert_text (row_of position body.now) transaction.old.conn.now transaction.new.conn.now) }
+    ensures kept { HasCleanDisk (state S.Store transaction.new.conn.now) →
+        IsTrue transaction.old.conn.now.in_transaction →
+        KeepsCommit (state S.Store transaction.old.conn.now) (state S.Store transaction.new.conn.now) }
     ensures survives { Survives (state S.Store transaction.old.conn.now)
         (state S.Store transaction.new.conn.now) (λ _. ⊥) }
     ensures fault { IfErr result (λ fault. fault ≢ KeepFault.Broken) }
@@ -82,6 +101,12 @@ fn insert_at<S: Alter>(
         IsTrue transaction.old.conn.now.in_transaction → OnOk result
         (RunsInside S.Store insert_text (row_of place body.now)
         transaction.old.conn.now transaction.new.conn.now) }
+    ensures refused { HasCleanDisk (state S.Store transaction.new.conn.now) →
+        IsTrue transaction.old.conn.now.in_transaction → IfErr result
+        (RefusesRow S.Store place body.now transaction.old.conn.now transaction.new.conn.now) }
+    ensures kept { HasCleanDisk (state S.Store transaction.new.conn.now) →
+        IsTrue transaction.old.conn.now.in_transaction →
+        KeepsCommit (state S.Store transaction.old.conn.now) (state S.Store transaction.new.conn.now) }
     ensures survives { Survives (state S.Store transaction.old.conn.now)
         (state S.Store transaction.new.conn.now) (λ _. ⊥) }
     ensures fault { IfErr result (λ fault. fault ≢ KeepFault.Broken) }
@@ -100,6 +125,12 @@ fn insert_all<S: Alter>(
     ensures runs { HasCleanDisk (state S.Store transaction.new.conn.now) →
         IsTrue transaction.old.conn.now.in_transaction → OnOk result
         (InsertsInside S.Store (contents bodies.now) transaction.old.conn.now transaction.new.conn.now) }
+    ensures refused { HasCleanDisk (state S.Store transaction.new.conn.now) →
+        IsTrue transaction.old.conn.now.in_transaction → IfErr result
+        (FailsToInsert S.Store (contents bodies.now) transaction.old.conn.now transaction.new.conn.now) }
+    ensures kept { HasCleanDisk (state S.Store transaction.new.conn.now) →
+        IsTrue transaction.old.conn.now.in_transaction →
+        KeepsCommit (state S.Store transaction.old.conn.now) (state S.Store transaction.new.conn.now) }
     ensures survives { Survives (state S.Store transaction.old.conn.now)
         (state S.Store transaction.new.conn.now) (λ _. ⊥) }
     ensures fault { IfErr result (λ fault. fault ≢ KeepFault.Broken) }

@@ -3,7 +3,7 @@ use Rattle.std.specs.Prelude.{length, IsTrue}
 use Rattle.bosh_keep_sql.specs.Rewrites.{InsertsInside}
 use Rattle.bosh_ports.specs.Contents.{contents}
 use Rattle.sqlite.specs.Held.{state}
-use Rattle.sqlite.specs.State.{HasCleanDisk, Survives}
+use Rattle.sqlite.specs.State.{HasCleanDisk, KeepsCommit, Survives}
 use Rattle.bosh_keep_sql.proofs.transaction.insert_all.Given as goal
 
 abbrev pub invariant-loop-place : goal.invariant-loop-place
@@ -13,3 +13,5 @@ invariant-loop-place g l =
     × (length (contents (take l.place l.bodies)) ≡ l.place)
     × (HasCleanDisk (state g.S.Store l.transaction.conn.now) → IsTrue l.fn.transaction.conn.now.in_transaction →
     InsertsInside g.S.Store (contents (take l.place l.bodies)) l.fn.transaction.conn.now l.transaction.conn.now)
+    × (HasCleanDisk (state g.S.Store l.transaction.conn.now) → IsTrue l.fn.transaction.conn.now.in_transaction →
+    KeepsCommit (state g.S.Store l.fn.transaction.conn.now) (state g.S.Store l.transaction.conn.now))
