@@ -1,7 +1,7 @@
 ghost use Rattle.std.specs.Prelude.{◌≡◌, IfOk, IfSome, None, OnErr, OnOk, Some};
 ghost use Rattle.bosh_base.specs.declared.reply.Refusal.{Refusal};
 ghost use Rattle.bosh_handlers.specs.SiteFaults.{site_told};
-ghost use Rattle.bosh_program.specs.Ends.{IsLineWritten, IsPlain};
+ghost use Rattle.bosh_program.specs.Ends.{IsLineWritten, IsPlain, stores_left};
 ghost use Rattle.bosh_report.specs.Refusal.{refusal_line};
 ghost use Rattle.bosh_transcript.specs.declared.status.Status.TheVariants as statuses;
 
@@ -37,6 +37,46 @@ impl<K: Keeper + Drop, L: Keeper + Drop> Ended<K, L> {
         } = self;
         close_site(site);
         status
+    }
+
+    /// How the session ended, and the two keepers that it leaves, where there are any.
+    pub fn into_stores(self) -> (Status, Option<(K, L)>)
+        ensures status { result.0 ≡ self.status }
+        ensures stores { result.1 ≡ stores_left self.site self.refused }
+    {
+        let Ended {
+            status,
+            site,
+            refused,
+        } = self;
+        (status, stores_of(site, refused))
+    }
+}
+
+// The keepers of a site, or those that were not loaded.
+fn stores_of<K: Keeper + Drop, L: Keeper + Drop>(
+    site: Option<Site<K, L>>,
+    refused: Option<Unloaded<K, L>>,
+) -> Option<(K, L)>
+    ensures { result ≡ stores_left site refused }
+{
+    match site {
+        Some(site) => {
+            drop(refused);
+            Some(site.into_stores())
+        }
+        None => refused_stores(refused),
+    }
+}
+
+fn refused_stores<K: Keeper + Drop, L: Keeper + Drop>(
+    refused: Option<Unloaded<K, L>>,
+) -> Option<(K, L)>
+    ensures { result ≡ stores_left None refused }
+{
+    match refused {
+        Some(Unloaded { store, cloud, .. }) => Some((store, cloud)),
+        None => None,
     }
 }
 
