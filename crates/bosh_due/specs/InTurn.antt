@@ -1,10 +1,12 @@
 -- The turns of a session, one after the other: each is made over what those before it have left (this project's
 -- profile).
-use Rattle.std.specs.Prelude.{◌≡◌, ◌≤◌, ℕ, ◌+◌, Bool, false, List, [], ◌∷◌, ◌++◌, flat_map, length, map, sum, Option, Some, None, IfSome}
+use Rattle.std.specs.Prelude.{◌≡◌, ◌≤◌, ℕ, ◌+◌, Bool, false, List, [], ◌∷◌, ◌++◌, flat_map, length, map, sum_by}
+use Rattle.std.specs.Prelude.{Option, Some, None, IfSome}
 use Rattle.bosh_answers.specs.declared.files.KeptFile.{KeptFile}
 use Rattle.bosh_base.specs.declared.moves.Move.{Move}
 use Rattle.bosh_base.specs.declared.moves.Move.TheVariants as moves
 use Rattle.bosh_due.specs.Before.{before_of}
+use Rattle.bosh_due.specs.Causes.{HasCauses, StoreFailures, Waits, with_line, without_last_stop}
 use Rattle.bosh_due.specs.Files.{FilesRead, Shelved}
 use Rattle.bosh_due.specs.Restarting.{interruptions}
 use Rattle.bosh_due.specs.Turns.{MakesTurn, MakesTurnUpTo, TurnRead, kept_after}
@@ -14,11 +16,13 @@ use Rattle.bosh_history.specs.Learn.{known_of}
 use Rattle.bosh_history.specs.Moments.{Opening}
 use Rattle.bosh_input.specs.Ended.{bounded_request}
 use Rattle.bosh_input.specs.declared.request.Request.{Request}
+use Rattle.bosh_ports.specs.Faults.{count_with}
 
--- what a turn read, the files that it found, and its moves
+-- what a turn read, the files that it found, how often the stores failed in it, and its moves
 pub record TurnMade : Type 0 where
   pub read : TurnRead
   pub files : FilesRead
+  pub failed : StoreFailures
   pub segment : List Move
 
 -- where a session stands between two turns
@@ -33,6 +37,8 @@ pub record SessionSoFar : Type 0 where
   pub commands : ℕ
   -- a turn found that the input has no more
   pub has_ended : Bool
+  -- the lines that wait to let appends and calls fail, or to stop the director
+  pub waits : Waits
 
 -- the input goes on: a turn has the next number, and finds the files that were kept, and those of the shelf, where that
 -- has told them before
@@ -43,14 +49,20 @@ pub record GoesOnFrom (shelf : Option Shelved) (was : SessionSoFar) (turn : Turn
   pub has_shelf : IfSome shelf (λ there. turn.files.shelf ≡ Some there)
 
 -- .. and once it is made
-abbrev pub session_after : SessionSoFar → TurnMade → UnderWay → SessionSoFar
-session_after was turn left = record {
+abbrev pub session_after : SessionSoFar → TurnMade → UnderWay → Waits → SessionSoFar
+session_after was turn left waits = record {
   said = was.said ++ turn.segment;
   under_way = left;
   kept = kept_after turn.read.first.request was.kept;
   commands = was.commands + (1 + length turn.read.others);
   has_ended = turn.read.is_end;
+  waits = with_line turn.read.first.request.asked waits;
 }
+
+-- these moves of a turn have their causes
+abbrev pub IsCaused : Opening → SessionSoFar → TurnMade → List Move → Waits → Type 0
+IsCaused o was turn segment waits =
+    HasCauses turn.failed (before_of o was.said was.under_way).moment was.waits turn.read.first.request.asked segment waits
 
 -- a turn is made, and the others go on from there
 pub record MakesNextTurn
@@ -58,15 +70,19 @@ pub record MakesNextTurn
     Type 0
   where
     pub left : UnderWay
+    pub waits : Waits
     pub goes_on : GoesOnFrom shelf was turn
     pub makes : MakesTurn (before_of o was.said was.under_way) turn.files turn.read turn.segment left
-    pub others : Rest (session_after was turn left)
+    pub causes : IsCaused o was turn turn.segment waits
+    pub others : Rest (session_after was turn left waits)
 
 -- .. or an event cuts it off
 pub record MakesLastTurn (o : Opening) (shelf : Option Shelved) (was : SessionSoFar) (turn : TurnMade) : Type 0 where
   pub left : UnderWay
+  pub waits : Waits
   pub goes_on : GoesOnFrom shelf was turn
   pub makes_up_to : MakesTurnUpTo (before_of o was.said was.under_way) turn.files turn.read turn.segment left
+  pub causes : IsCaused o was turn (without_last_stop turn.segment) waits
 
 -- .. or none is cut off
 abbrev pub MakesLast : Opening → Option Shelved → SessionSoFar → Option TurnMade → Type 0
@@ -85,41 +101,47 @@ MakesTurns o shelf was (turn ∷ turns) cut =
 abbrev pub loaded_moves : Opening → List Move
 loaded_moves o = map (λ end. moves.Note end) (interruptions (known_of o.entries))
 
--- .. and then nothing is under way
+-- .. and then nothing is under way, and no line waits
 abbrev pub at_first : Opening → SessionSoFar
-at_first o = record { said = loaded_moves o; under_way = idle; kept = []; commands = 0; has_ended = false }
+at_first o = record {
+  said = loaded_moves o;
+  under_way = idle;
+  kept = [];
+  commands = 0;
+  has_ended = false;
+  waits = record { lines = []; has_halted = false };
+}
 
 -- the commands that a turn read
 abbrev pub requests_in : TurnMade → List Request
 requests_in turn = turn.read.first.request ∷ map (λ it. it.request) turn.read.others
 
--- .. and those that the one read that was cut off
-abbrev pub last_requests : Option TurnMade → List Request
-last_requests (Some turn) = requests_in turn
-last_requests None = []
+-- the turns, and the one that was cut off
+abbrev pub with_last : List TurnMade → Option TurnMade → List TurnMade
+with_last turns (Some turn) = turns ++ turn ∷ []
+with_last turns None = turns
 
--- the moves of turns
-abbrev pub segments_of : List TurnMade → List Move
-segments_of turns = flat_map (λ turn. turn.segment) turns
+-- the counts of the faults of the shelf, of the director's store and of the cloud's
+pub record Counts : Type 0 where
+  pub shelf : ℕ
+  pub director : ℕ
+  pub cloud : ℕ
 
--- .. of the one that was cut off
-abbrev pub last_segment : Option TurnMade → List Move
-last_segment (Some turn) = turn.segment
-last_segment None = []
-
--- how often the shelf failed in it
-abbrev pub last_failures : Option TurnMade → ℕ
-last_failures (Some turn) = turn.files.failures
-last_failures None = 0
+-- Each of them failed in the turns as often as its count rose from before to after, at most. A count that stands at its
+-- last number does not tell how often.
+pub record FailAsCounted (before after : Counts) (turns : List TurnMade) : Type 0 where
+  pub shelf : count_with before.shelf (sum_by (λ turn. turn.files.failures) turns) ≤ after.shelf
+  pub director : count_with before.director (sum_by (λ turn. turn.failed.director) turns) ≤ after.director
+  pub cloud : count_with before.cloud (sum_by (λ turn. turn.failed.cloud) turns) ≤ after.cloud
 
 -- The moves of a session from an opening pair on: those of its load, of its turns, and of one that was cut off, or none.
 -- The turns read these commands, which are those of its input, in order; a block of too many bytes makes a line no command.
--- The shelf is told to have failed as often as the count of its faults rose in the session, at most.
+-- The counts are those after the load and after the session.
 pub record MakesSession
-    (o : Opening) (requests : List Request) (moves : List Move) (shelf : Option Shelved) (failures : ℕ) (turns : List TurnMade)
-    (cut : Option TurnMade) : Type 0
+    (o : Opening) (requests : List Request) (moves : List Move) (shelf : Option Shelved) (before after : Counts)
+    (turns : List TurnMade) (cut : Option TurnMade) : Type 0
   where
-    pub read : map bounded_request requests ≡ flat_map requests_in turns ++ last_requests cut
-    pub are : moves ≡ loaded_moves o ++ (segments_of turns ++ last_segment cut)
+    pub read : map bounded_request requests ≡ flat_map requests_in (with_last turns cut)
+    pub are : moves ≡ loaded_moves o ++ flat_map (λ turn. turn.segment) (with_last turns cut)
     pub makes : MakesTurns o shelf (at_first o) turns cut
-    pub failed : sum (map (λ turn. turn.files.failures) turns) + last_failures cut ≤ failures
+    pub failed : FailAsCounted before after (with_last turns cut)

@@ -1,4 +1,5 @@
 pub mod Before
+pub mod Causes
 pub mod Commands
 pub mod Due
 pub mod Ends

@@ -1,8 +1,12 @@
 pub mod Absent
 pub mod Added
 pub mod Behind
+pub mod CutBehind
+pub mod HaltsFirst
 pub mod Later
+pub mod Lines
 pub mod MayBeMade
 pub mod NothingLeft
 pub mod Numbers
+pub mod Opened
 pub mod Untold

@@ -1,13 +1,16 @@
--- Openings without a reply, turns that read too little, and deployments that are made.
-use Rattle.std.specs.Prelude.{ℕ, Bool, List, [], ◌∷◌, Ok}
+-- Openings without a reply, turns that read too little or are cut off, and deployments that are made.
+use Rattle.std.specs.Prelude.{◌++◌, ℕ, Bool, false, List, [], ◌∷◌, Ok}
 use Rattle.bosh_base.specs.declared.entry.Entry.TheVariants as entries
 use Rattle.bosh_base.specs.declared.moves.Move.{Move}
 use Rattle.bosh_base.specs.declared.moves.Move.TheVariants.{Note}
+use Rattle.bosh_base.specs.declared.reply.Reply.{Reply}
+use Rattle.bosh_base.specs.declared.reply.Reply.TheVariants as replies
 use Rattle.bosh_due.specs.Due.{MakesBy}
 use Rattle.bosh_due.specs.Generating.{IsGeneratedUpTo, said_reply}
-use Rattle.bosh_due.specs.Together.{ComesAt, OpensAtMost}
-use Rattle.bosh_due.specs.Turns.{TurnRead}
+use Rattle.bosh_due.specs.Together.{ComesAt, IsCutRun, OpensAtMost}
+use Rattle.bosh_due.specs.Turns.{MakesTurnUpTo, TurnRead}
 use Rattle.bosh_due.specs.UnderWay.{UnderWay}
+use Rattle.bosh_due.specs.UnderWay.UnderWay.{idle}
 use Rattle.bosh_lines.specs.declared.command.Command.{Command}
 use Rattle.bosh_lines.specs.declared.command.Command.TheVariants as commands
 use Rattle.examples_histories.specs.Scenes.{prepared}
@@ -38,3 +41,19 @@ one_of_two is_end = record {
 -- a line that makes three instances is told that the director has halted, under this number
 abbrev pub IsRefusedUnder : ℕ → UnderWay → Type 0
 IsRefusedUnder number now = IsGeneratedUpTo at_a_halt 5 3 (said_reply number stopped_reply ∷ []) now
+
+-- of two commands one was read as the line was cut off, which made these moves
+abbrev pub IsCutInReading : List Move → UnderWay → Type 0
+IsCutInReading segment now = MakesTurnUpTo (start prepared 2) no_files (one_of_two false) segment now
+
+-- a line that takes one command along, whose task opens, was cut off behind these moves of its run, and these replies
+abbrev pub IsCutBehind : List Move → List Move → Type 0
+IsCutBehind run told =
+    IsCutRun (start prepared 2) no_files 4 (asks 5 commands.CleanUp ∷ [])
+    (said_reply 4 replies.Nothing ∷ clean_up_opened ∷ (run ++ told)) idle
+
+abbrev pub ended : Move
+ended = Note (entries.TaskDone 1)
+
+abbrev pub told_end : Reply → Move
+told_end reply = said_reply 5 reply

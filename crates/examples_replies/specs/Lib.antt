@@ -1,5 +1,6 @@
 pub mod Asked
 pub mod AtOnce
+pub mod Caused
 pub mod CutOff
 pub mod Halted
 pub mod Kept
@@ -7,6 +8,7 @@ pub mod Laws
 pub mod OneTurn
 pub mod Openings
 pub mod Others
+pub mod Planned
 pub mod Releases
 pub mod Replies
 pub mod Scenes

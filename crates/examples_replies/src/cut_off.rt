@@ -2,12 +2,15 @@ ghost use Rattle.std.specs.Prelude.{[], ◌∷◌, codes, false, true};
 ghost use Rattle.bosh_base.specs.declared.entry.Entry.TheVariants as entries;
 ghost use Rattle.bosh_base.specs.declared.moves.Cause.TheVariants as causes;
 ghost use Rattle.bosh_base.specs.declared.moves.Move.TheVariants.{Halt, Note};
+ghost use Rattle.bosh_base.specs.declared.reply.Reply.TheVariants as replies;
+ghost use Rattle.bosh_due.specs.Generating.{said_reply};
 ghost use Rattle.bosh_due.specs.Turns.{TakesAll};
 ghost use Rattle.bosh_due.specs.UnderWay.{UnderWay};
 ghost use Rattle.bosh_due.specs.UnderWay.UnderWay.{idle, appending, working};
 ghost use Rattle.bosh_lines.specs.declared.command.Command.TheVariants as commands;
 ghost use Rattle.examples_replies.specs.AtOnce.{clean_up};
-ghost use Rattle.examples_replies.specs.CutOff.{IsRefusedUnder, MakesUntold, OpensUntold, one_of_two, clean_up_opened};
+ghost use Rattle.examples_replies.specs.CutOff.{IsCutBehind, IsCutInReading, IsRefusedUnder, MakesUntold, OpensUntold, ended};
+ghost use Rattle.examples_replies.specs.CutOff.{clean_up_opened, one_of_two, told_end};
 ghost use Rattle.examples_replies.specs.Stemcells.{jammy};
 
 /// A command that is carried out at once with others opens its task, and does no more.
@@ -41,4 +44,20 @@ pub fn all_are_taken()
 pub fn lines_keep_their_number()
     ensures refused { IsRefusedUnder 5 idle }
     ensures other_number { (now : UnderWay) → IsRefusedUnder 6 now → ⊥ }
+{}
+
+/// While a line still reads the commands that it takes along, it does nothing but print nothing.
+pub fn turns_are_cut_in_reading()
+    ensures read { IsCutInReading (said_reply 4 replies.Nothing ∷ []) idle }
+    ensures opened { (now : UnderWay) →
+        IsCutInReading (said_reply 4 replies.Nothing ∷ clean_up_opened ∷ []) now → ⊥ }
+{}
+
+/// A run is cut off in its work, behind it, or as its ends are told; none is told before it comes.
+pub fn runs_are_cut_off()
+    ensures at_once { IsCutBehind [] [] }
+    ensures untold { IsCutBehind (ended ∷ []) [] }
+    ensures told { IsCutBehind (ended ∷ []) (told_end (replies.TaskFinished 1) ∷ []) }
+    ensures too_soon { IsCutBehind [] (told_end (replies.TaskFinished 1) ∷ []) → ⊥ }
+    ensures other_end { IsCutBehind (ended ∷ []) (told_end (replies.TaskFinished 2) ∷ []) → ⊥ }
 {}

@@ -2,6 +2,7 @@
 #![tactic(auto)]
 
 mod asked;
+mod caused;
 mod cut_off;
 mod files;
 mod jobs;
@@ -9,6 +10,7 @@ mod laws;
 mod listings;
 mod one_turn;
 mod others;
+mod planned;
 mod releases;
 mod restarts;
 mod served;
@@ -20,7 +22,14 @@ mod uploads;
 mod whole_turns;
 
 pub use asked::recreations_are_asked;
-pub use cut_off::{all_are_taken, lines_keep_their_number, openings_are_cut_off, tasks_end_last};
+pub use caused::{
+    appends_are_counted, calls_are_counted, failures_are_told_by_counts, halts_have_causes,
+    want_of_memory_stops,
+};
+pub use cut_off::{
+    all_are_taken, lines_keep_their_number, openings_are_cut_off, runs_are_cut_off, tasks_end_last,
+    turns_are_cut_in_reading,
+};
 pub use files::{configs_are_told, files_are_kept, files_are_looked_for_first};
 pub use jobs::{disks_are_written_and_read, machines_are_lost_and_shown};
 pub use laws::{nothing_is_left, what_is_due_may_be_made};
@@ -33,12 +42,13 @@ pub use others::{
     some_commands_have_their_own_rules, stops_find_what_was_asked, tasks_are_told_by_end,
     what_is_under_way_stays,
 };
+pub use planned::{deployments_are_few, links_are_kept, releases_are_sound};
 pub use releases::releases_are_told;
 pub use restarts::{restarts_are_told, restarts_find_what_was_asked};
 pub use served::{blocks_keep_files, directors_are_loaded, replies_are_noted};
 pub use shelves::{failures_are_counted, kept_files_are_read};
 pub use tasks::{clean_ups_are_told, deploys_are_told, tasks_are_refused_in_order};
 pub use together::tasks_open_in_order;
-pub use two_turns::later_commands_find_what_was_asked;
+pub use two_turns::{later_commands_find_what_was_asked, unread_restarts_have_causes};
 pub use uploads::stemcells_are_told;
 pub use whole_turns::turns_are_made;

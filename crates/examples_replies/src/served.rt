@@ -1,25 +1,25 @@
 ghost use Rattle.std.specs.Prelude.{[], ◌∷◌, codes};
 ghost use Rattle.bosh_base.specs.declared.reply.Reply.TheVariants as replies;
 ghost use Rattle.bosh_due.specs.Generating.{said_reply};
-ghost use Rattle.bosh_due.specs.Serving.{IsLoaded};
 ghost use Rattle.bosh_due.specs.UnderWay.UnderWay.{idle, working};
-ghost use Rattle.bosh_history.specs.Moments.{nothing};
 ghost use Rattle.examples_replies.specs.Kept.{file};
-ghost use Rattle.examples_replies.specs.Served.{IsNotedSo, Keeps};
+ghost use Rattle.examples_replies.specs.Served.{IsIdle, IsLoadedSo, IsNotedSo, Keeps, KeepsFinding, MayFindMore};
 
-/// A director that finds no entry is loaded without a move.
+/// A director that finds no entry is loaded without a move, and a restart then finds nothing.
 pub fn directors_are_loaded()
-    ensures loaded { IsLoaded nothing [] idle }
-    ensures silent { IsLoaded nothing (said_reply 1 replies.Nothing ∷ []) idle → ⊥ }
-    ensures idle { IsLoaded nothing [] (working (1 ∷ [])) → ⊥ }
+    ensures loaded { IsLoadedSo IsIdle [] idle }
+    ensures silent { IsLoadedSo IsIdle (said_reply 1 replies.Nothing ∷ []) idle → ⊥ }
+    ensures idle { IsLoadedSo IsIdle [] (working (1 ∷ [])) → ⊥ }
+    ensures finds_more { IsLoadedSo MayFindMore [] idle → ⊥ }
 {}
 
-/// A file that a block keeps is there afterwards, and no other one.
+/// A file that a block keeps is there afterwards, and no other one; a restart finds no more than before.
 pub fn blocks_keep_files()
     ensures kept { Keeps [] (file (codes "a") (codes "1") ∷ []) }
     ensures not_kept { Keeps [] [] → ⊥ }
     ensures other { Keeps [] (file (codes "a") (codes "2") ∷ []) → ⊥ }
     ensures found { Keeps (file (codes "b") (codes "2") ∷ []) (file (codes "a") (codes "1") ∷ []) → ⊥ }
+    ensures finds_more { KeepsFinding MayFindMore [] (file (codes "a") (codes "1") ∷ []) → ⊥ }
 {}
 
 /// A reply is noted under the number of its command, and no more.

@@ -5,10 +5,10 @@ pub returns-clause-kept : goal.returns-clause-kept
 returns-clause-kept c = record {
   more = [];
   comes = refl;
-  due = λ alone. record { ends = (refl, refl); is_left = refl };
-  only = λ alone. tt;
+  due = λ ready alone. record { ends = (refl, refl); is_left = refl };
+  only = λ ready alone. tt;
   none = λ others. record { none = refl; stays = refl };
-  settles = λ settled. settled;
+  ready = λ ready. ready;
   finds = refl;
   file = refl;
 }
@@ -21,3 +21,7 @@ returns-clause-other c answers = grind (arith, answers.file)
 
 pub returns-clause-found : goal.returns-clause-found
 returns-clause-found c answers = grind (arith, answers.finds)
+
+pub returns-clause-finds_more : goal.returns-clause-finds_more
+returns-clause-finds_more c answers =
+    (answers.ready (record { settled = λ running n. refl; may_find = refl })).may_find

@@ -1,0 +1,28 @@
+use Rattle.std.proofs.Common.{◌∷◌, [], arith, refl}
+use Rattle.std.specs.Prelude.{false}
+use Rattle.bosh_due.specs.Turns.MakesTurnUpTo.{untold}
+use Rattle.bosh_due.specs.UnderWay.UnderWay.{working}
+use Rattle.examples_replies.proofs.Lines.{none_failed_or_asks}
+use Rattle.examples_replies.specs.Caused.{none_wait}
+use Rattle.examples_replies.proofs.caused.want_of_memory_stops.Goals as goal
+
+pub returns-clause-stopped : goal.returns-clause-stopped
+returns-clause-stopped c = record {
+  read = refl;
+  are = refl;
+  makes = record {
+    left = working (1 ∷ []);
+    waits = none_wait false;
+    goes_on = record { is_open = refl; has_number = refl; has_kept = refl; has_shelf = refl };
+    makes_up_to = untold (record { none = refl; goes_on = refl })
+        (record {
+          may_make = record { is_due = refl; is_its_work = refl; ends_last = refl };
+          is_left = refl;
+        });
+    causes = record { unread = tt; caused = (refl, refl) };
+  };
+  failed = record { shelf = omega arith; director = omega arith; cloud = omega arith };
+}
+
+pub returns-clause-not_failed : goal.returns-clause-not_failed
+returns-clause-not_failed c session = none_failed_or_asks session.makes.causes.caused.1
