@@ -30,13 +30,13 @@ abbrev pub gives_way : Bool → List Entry → Bool
 gives_way compacts read = compacts && nat_lt 4096 (length read)
 
 -- a snapshot of what is recorded stands in their place, unless that was refused
-abbrev pub Gives : {T : Type 0} → Result T BookFault → Records → List Entry → List Entry → Type 0
-Gives (Ok value) records read taken = (it : Snapshot) × IsSnapshot records it × (taken ≡ entries.Snapshot it ∷ [])
-Gives (Err fault) records read taken = taken ≡ read
+abbrev pub IsShortened : {T : Type 0} → Result T BookFault → Records → List Entry → List Entry → Type 0
+IsShortened (Ok value) records read taken = (it : Snapshot) × IsSnapshot records it × (taken ≡ entries.Snapshot it ∷ [])
+IsShortened (Err fault) records read taken = taken ≡ read
 
-abbrev pub GivesIf : {T : Type 0} → Bool → Result T BookFault → Records → List Entry → List Entry → Type 0
-GivesIf true result records read taken = Gives result records read taken
-GivesIf false result records read taken = taken ≡ read
+abbrev pub IsShortenedWhere : {T : Type 0} → Bool → Result T BookFault → Records → List Entry → List Entry → Type 0
+IsShortenedWhere true result records read taken = IsShortened result records read taken
+IsShortenedWhere false result records read taken = taken ≡ read
 
 -- a snapshot stands in their place
 abbrev pub shortened : {T : Type 0} → Result T BookFault → Entry → List Entry → List Entry
@@ -61,7 +61,7 @@ pub record Takes {K T : Type 0}
     (now : Book K) : Type 0 where
   pub reads : ReadsAll result was.journal.entries now.records
   pub taken :
-      GivesIf (gives_way compacts was.journal.entries) result now.records was.journal.entries now.journal.entries
+      IsShortenedWhere (gives_way compacts was.journal.entries) result now.records was.journal.entries now.journal.entries
   pub kept : IsKept bodies was.journal → IsKept bodies now.journal
   pub count : NeverFalls (faults was.journal.store) (faults now.journal.store)
   pub standing : now.standing ≡ was.standing
@@ -84,16 +84,16 @@ abbrev pub interruption : ℕ → Entry
 interruption task = entries.TaskError (record { task = task; cause = Interrupted })
 
 -- each of some tasks is ended, in their order, or the first ones are, where that was refused
-abbrev pub AreEnded : {T : Type 0} → Result T BookFault → List ℕ → List Entry → Type 0
-AreEnded (Ok value) tasks ended = ended ≡ map interruption tasks
-AreEnded (Err fault) tasks ended = (done rest : List ℕ) × (tasks ≡ done ++ rest) × (ended ≡ map interruption done)
+abbrev pub AreInterrupted : {T : Type 0} → Result T BookFault → List ℕ → List Entry → Type 0
+AreInterrupted (Ok value) tasks ended = ended ≡ map interruption tasks
+AreInterrupted (Err fault) tasks ended = (done rest : List ℕ) × (tasks ≡ done ++ rest) × (ended ≡ map interruption done)
 
 -- the tasks that are open are ended as interrupted
 pub record Interrupts {K T : Type 0}
     (bodies : K → Option (List (List ℕ))) (faults : K → ℕ) (tasks : List ℕ) (was : Book K) (result : Result T BookFault)
     (now : Book K) : Type 0 where
   pub ended : List Entry
-  pub are_ended : AreEnded result tasks ended
+  pub are_ended : AreInterrupted result tasks ended
   pub adds : Adds bodies faults was ended now
 
 -- where entries were taken in they are; else nothing changes
@@ -104,16 +104,16 @@ InterruptsWhere bodies faults (Ok value) was result now =
 InterruptsWhere bodies faults (Err fault) was result now = now ≡ was
 
 -- .. and so none is ended
-abbrev pub AreEndedWhere : {S T : Type 0} → Result S BookFault → Result T BookFault → List ℕ → List Entry → Type 0
-AreEndedWhere (Ok value) result tasks ended = AreEnded result tasks ended
-AreEndedWhere (Err fault) result tasks ended = ended ≡ []
+abbrev pub AreInterruptedWhere : {S T : Type 0} → Result S BookFault → Result T BookFault → List ℕ → List Entry → Type 0
+AreInterruptedWhere (Ok value) result tasks ended = AreInterrupted result tasks ended
+AreInterruptedWhere (Err fault) result tasks ended = ended ≡ []
 
 -- .. and their number is told, and how many entries there are now
 pub record Finishes {K S T : Type 0}
     (bodies : K → Option (List (List ℕ))) (faults : K → ℕ) (was : Book K) (taken : Result S BookFault)
     (result : Result T BookFault) (now : Book K) : Type 0 where
   pub ended : List Entry
-  pub are_ended : AreEndedWhere taken result (open_tasks was.records) ended
+  pub are_ended : AreInterruptedWhere taken result (open_tasks was.records) ended
   pub entries : now.journal.entries ≡ was.journal.entries ++ ended
   pub learns : LearnsAll was.records ended now.records
   pub read : now.read ≡ length now.journal.entries

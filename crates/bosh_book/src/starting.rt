@@ -4,7 +4,7 @@ ghost use Rattle.bosh_asks.specs.declared.fault.BookFault.TheVariants as faults;
 ghost use Rattle.bosh_book.specs.Adds.{Adds, IsRecorded};
 ghost use Rattle.bosh_book.specs.Appends.{unless_refused};
 ghost use Rattle.bosh_book.specs.Faults.{FailsAs, IsNoteFault, IsStartFault};
-ghost use Rattle.bosh_book.specs.Starts.{Compacts, ComesOut, Finishes, Gives, GivesIf, Interrupts, InterruptsWhere};
+ghost use Rattle.bosh_book.specs.Starts.{Compacts, ComesOut, Finishes, IsShortened, IsShortenedWhere, Interrupts, InterruptsWhere};
 ghost use Rattle.bosh_book.specs.Starts.{IsNotLoaded, IsNotReloaded, Starts, StartsFrom, Takes};
 ghost use Rattle.bosh_book.specs.Starts.{gives_way, interruption, is_open, open_tasks, shortened, standing_after};
 ghost use Rattle.bosh_book.specs.declared.standing.Standing.TheVariants.{Unread};
@@ -130,7 +130,7 @@ impl<K: Keeper> Book<K> {
     // Puts a snapshot in the place of many entries, where that is asked for.
     fn shorten(&mut self, compacts: bool) -> Result<(), BookFault>
         requires { self.old.journal.is_broken ≡ false }
-        ensures gives { GivesIf (gives_way compacts self.old.journal.entries) result self.old.records
+        ensures shortens { IsShortenedWhere (gives_way compacts self.old.journal.entries) result self.old.records
             self.old.journal.entries self.new.journal.entries }
         ensures compacts { Compacts K.bodies K.faults self.old self.new }
         ensures failed { FailsAs K.faults result self.old.journal self.new.journal }
@@ -145,7 +145,7 @@ impl<K: Keeper> Book<K> {
     // Puts a snapshot in the place of all entries.
     fn compact(&mut self) -> Result<(), BookFault>
         requires { self.old.journal.is_broken ≡ false }
-        ensures gives { Gives result self.old.records self.old.journal.entries self.new.journal.entries }
+        ensures shortens { IsShortened result self.old.records self.old.journal.entries self.new.journal.entries }
         ensures compacts { Compacts K.bodies K.faults self.old self.new }
         ensures failed { FailsAs K.faults result self.old.journal self.new.journal }
         ensures fault { IfErr result IsNoteFault }
