@@ -48,7 +48,7 @@ stuck_in_end bodies faults was now task (Book book.Stopped) (inr (running, fails
 stuck_in_end bodies faults was now task (Book book.StoreFault) (running, fails) is = fails.notes.halted
 stuck_in_end bodies faults was now task (Book (book.Locked holder)) left is = tt
 stuck_in_end bodies faults was now task (Book book.Memory) left is = absurd is
-stuck_in_end bodies faults was now task (Book book.Full) left is = tt
+stuck_in_end bodies faults was now task (Book book.Full) left is = absurd is
 stuck_in_end bodies faults was now task (Book (book.Damaged place)) left is = absurd is
 stuck_in_end bodies faults was now task (Book (book.Differs name)) left is = absurd is
 stuck_in_end bodies faults was now task (Book (book.NoDeployment name)) left is = absurd is
@@ -75,7 +75,7 @@ stuck_in_settling bodies faults was mid now call (Book book.Stopped) (inr (runni
 stuck_in_settling bodies faults was mid now call (Book book.StoreFault) (running, fails) is stays = stays fails.notes.halted
 stuck_in_settling bodies faults was mid now call (Book (book.Locked holder)) left is stays = tt
 stuck_in_settling bodies faults was mid now call (Book book.Memory) left is stays = absurd is
-stuck_in_settling bodies faults was mid now call (Book book.Full) left is stays = tt
+stuck_in_settling bodies faults was mid now call (Book book.Full) left is stays = absurd is
 stuck_in_settling bodies faults was mid now call (Book (book.Damaged place)) left is stays = absurd is
 stuck_in_settling bodies faults was mid now call (Book (book.Differs name)) left is stays = absurd is
 stuck_in_settling bodies faults was mid now call (Book (book.NoDeployment name)) left is stays = absurd is
@@ -102,7 +102,7 @@ stuck_in_call bodies faults was mid now permit (Book book.Stopped) (inr stops) s
 stuck_in_call bodies faults was mid now permit (Book (book.Locked holder)) left stays = tt
 stuck_in_call bodies faults was mid now permit (Book book.StoreFault) left stays = absurd left
 stuck_in_call bodies faults was mid now permit (Book book.Memory) left stays = absurd left
-stuck_in_call bodies faults was mid now permit (Book book.Full) left stays = tt
+stuck_in_call bodies faults was mid now permit (Book book.Full) left stays = absurd left
 stuck_in_call bodies faults was mid now permit (Book (book.Damaged place)) left stays = absurd left
 stuck_in_call bodies faults was mid now permit (Book (book.Differs name)) left stays = absurd left
 stuck_in_call bodies faults was mid now permit (Book (book.NoDeployment name)) left stays = absurd left
