@@ -2,7 +2,7 @@
 use Rattle.std.proofs.Common.{◌≡◌, ℕ, ◌+◌, Bool, true, false, Option, Some, None, List, refl, sym, ◌∙◌, ap, subst}
 use Rattle.std.specs.Prelude.{◌&&◌, ◌||◌, not, is_some, if◌then◌else◌}
 use Rattle.std.specs.List.{list_all}
-use Rattle.std.proofs.lemmas.Bool.{and_parts, and_from, or_right}
+use Rattle.std.proofs.lemmas.Bool.{and_parts, or_right}
 use Rattle.bosh_base.specs.CallStep.{is_movable}
 use Rattle.bosh_base.specs.Cloud.{disks_created, is_vm_there, vms_created}
 use Rattle.bosh_base.specs.declared.answer.Answer.TheVariants as answers

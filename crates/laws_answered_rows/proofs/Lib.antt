@@ -9,6 +9,7 @@ pub mod HeldLemmas
 pub mod KeepsLemmas
 pub mod LaterLemmas
 pub mod MadeHeldLemmas
+pub mod NextCases
 pub mod OwnLemmas
 pub mod ProbeLemmas
 pub mod QuietLemmas
