@@ -13,7 +13,7 @@ use Rattle.laws_facts.proofs.GoalLemmas.{OpensOf, of_dep, of_none, opens_of, sou
 use Rattle.laws_facts.proofs.ListLemmas.{Tells}
 use Rattle.laws_facts.proofs.WorkLemmas.{opens_next}
 use Rattle.laws_facts.specs.Addresses.{AddressFacts, Recorded, Machine, Wanted, Free, dep_of_slot, holds_address}
-use Rattle.laws_facts.specs.Facts.{Holds}
+use Rattle.laws_facts.specs.KnownFacts.{KnownFacts}
 use Rattle.laws_facts.specs.Owners.{works}
 use Rattle.bosh_history.proofs.KnownLemmas.{known_later, learned}
 use Rattle.bosh_history.specs.Goals.{is_in}
@@ -38,7 +38,7 @@ use Rattle.laws_addresses.proofs.WorkLemmas.{dep_of_shape, less_comes}
 
 -- ---- a task of no deployment opens
 
-module _ (m : Moment) (o : TaskOpen) (h : Holds m) (may : MayOpen m.known o) (dep_is : o.dep ≡ None)
+module _ (m : Moment) (o : TaskOpen) (h : KnownFacts m) (may : MayOpen m.known o) (dep_is : o.dep ≡ None)
     (goal_is : o.goal ≡ None) where
   abbrev pub new : Moment
   new = noting m (entries.TaskOpen o)
@@ -90,7 +90,7 @@ module _ (m : Moment) (o : TaskOpen) (h : Holds m) (may : MayOpen m.known o) (de
 
 -- ---- entries
 
-pub addresses_note : (outside : Outside) (m : Moment) (e : Entry) → Holds m
+pub addresses_note : (outside : Outside) (m : Moment) (e : Entry) → KnownFacts m
     → may_follow m e ≡ true → MayNote outside m e → AddressFacts (noting m e)
 addresses_note outside m (entries.Begin b) h follows may =
     facts_now m (noting m (entries.Begin b)) h.addresses (begun_comes outside m b h follows may)
@@ -133,7 +133,7 @@ still m new known working facts =
 pub none_works : (m : Moment) (s : stop.Stop) (t : ℕ) → works (later m (moves.Stop s)) t ≡ true → ⊥
 none_works m s t is = absurd (grind (arith, is))
 
-pub addresses_kept : (outside : Outside) (m : Moment) (move : Move) → IsPermitted outside m move → Holds m
+pub addresses_kept : (outside : Outside) (m : Moment) (move : Move) → IsPermitted outside m move → KnownFacts m
     → AddressFacts (later m move)
 addresses_kept outside m (moves.Note e) may h = addresses_note outside m e h may.1 may.2
 addresses_kept outside m (moves.Stop s) may h = by s.kept refl may.kept

@@ -18,7 +18,7 @@ use Rattle.laws_facts.proofs.GoalLemmas.{sound_of}
 use Rattle.laws_facts.proofs.ListLemmas.{Tells}
 use Rattle.laws_facts.proofs.WorkLemmas.{opens_next}
 use Rattle.laws_facts.specs.Addresses.{Recorded, Wanted, holds_address}
-use Rattle.laws_facts.specs.Facts.{Holds}
+use Rattle.laws_facts.specs.KnownFacts.{KnownFacts}
 use Rattle.laws_facts.specs.Owners.{works}
 use Rattle.laws_facts.specs.Tasks.{has_its_addresses, is_addressed}
 use Rattle.laws_row_facts.specs.Words.{where_any}
@@ -67,7 +67,7 @@ any_none p (b ∷ items) none =
 -- ---- no move gives the addresses away
 
 -- a recorded row that is not of the goal has none of them still
-row_free : (m new : Moment) (t : ℕ) (i j : Inst) (goal : Goal) (want : GoalRow) (a : ℕ) → Holds m
+row_free : (m new : Moment) (t : ℕ) (i j : Inst) (goal : Goal) (want : GoalRow) (a : ℕ) → KnownFacts m
     → Wants m t i want → (m.known.task t).goal ≡ Some goal → Comes m new → has_no_address m.known goal want ≡ true
     → has a (addrs want.make) ≡ true → is_in (Some goal) j ≡ false → holds_address new (Recorded j) a ≡ true
     → false ≡ true
@@ -98,7 +98,7 @@ row_free m new t i j goal want a h it own comes free there out here = by (comes.
             ∙ (λ l. is_in (Some (sym same l)) i) ∙ ap is_some it.wanted
         of (inr apart) = sym apart.0 ∙ one
 
-free_now : (m new : Moment) (t : ℕ) (i : Inst) (goal : Goal) (want : GoalRow) → Holds m
+free_now : (m new : Moment) (t : ℕ) (i : Inst) (goal : Goal) (want : GoalRow) → KnownFacts m
     → Wants m t i want → (m.known.task t).goal ≡ Some goal → Comes m new → has_no_address m.known goal want ≡ true
     → has_no_address new.known goal want ≡ true
 free_now m new t i goal want h it own comes free =
@@ -121,7 +121,7 @@ free_now m new t i goal want h it own comes free =
                 (arith, row_free m new t i j goal want a h it own comes free there is here))
             of false here = here
 
-addressed_in : (m new : Moment) (t : ℕ) (i : Inst) → Holds m → works m t ≡ true → Comes m new
+addressed_in : (m new : Moment) (t : ℕ) (i : Inst) → KnownFacts m → works m t ≡ true → Comes m new
     → has_its_addresses m.known (m.known.task t) i ≡ true → has_its_addresses new.known (m.known.task t) i ≡ true
 addressed_in m new t i h working comes is = by (m.known.task t).goal refl
   where
@@ -153,7 +153,7 @@ addressed_in m new t i h working comes is = by (m.known.task t).goal refl
             choose false true is any = free_now m new t i goal row h it own comes is
             choose false false is any = absurd cc
 
-addressed_now : (m new : Moment) (t : ℕ) → Holds m → works m t ≡ true → Comes m new
+addressed_now : (m new : Moment) (t : ℕ) → KnownFacts m → works m t ≡ true → Comes m new
     → shape (new.known.task t) ≡ shape (m.known.task t) → is_addressed new.known (new.known.task t) ≡ true
 addressed_now m new t h working comes same =
     (λ l. is_addressed new.known (same l)) ∙ by (named_instance (m.known.task t).kind) refl
@@ -237,7 +237,7 @@ addressed_new k o sound = by o.goal refl
         addressed_by k o goal o.kind refl own (sound_has k o.kind goal (sound_of k o goal own sound)).1
     by None own = addressed_none k o own
 
-addressed_opened : (m : Moment) (o : TaskOpen) (t : ℕ) → Holds m → MayOpen m.known o → IsSound m.known o
+addressed_opened : (m : Moment) (o : TaskOpen) (t : ℕ) → KnownFacts m → MayOpen m.known o → IsSound m.known o
     → works (noting m (entries.TaskOpen o)) t ≡ true
     → is_addressed (learn m.known (entries.TaskOpen o)) ((learn m.known (entries.TaskOpen o)).task t) ≡ true
 addressed_opened m o t h may sound working = by (eqb_tells o.task t)
@@ -254,7 +254,7 @@ addressed_opened m o t h may sound working = by (eqb_tells o.task t)
 
 -- ---- moves
 
-addressed_note : (outside : Outside) (m : Moment) (e : Entry) → Holds m
+addressed_note : (outside : Outside) (m : Moment) (e : Entry) → KnownFacts m
     → may_follow m e ≡ true → MayNote outside m e → AreAddressed (noting m e)
 addressed_note outside m (entries.TaskOpen o) h follows may t working =
     addressed_opened m o t h may.0 may.1 working
@@ -267,7 +267,7 @@ addressed_note outside m entry h follows may t working =
     addressed_now m (noting m entry) t h ((less_work outside m entry may refl).works t working)
     (ended_comes outside m entry may refl refl) (shape_note outside m entry may refl t)
 
-pub addressed_kept : (outside : Outside) (m : Moment) (move : Move) → IsPermitted outside m move → Holds m
+pub addressed_kept : (outside : Outside) (m : Moment) (move : Move) → IsPermitted outside m move → KnownFacts m
     → AreAddressed (later m move)
 addressed_kept outside m (moves.Note e) may h t working =
     addressed_note outside m e h may.1 may.2 t working

@@ -167,12 +167,12 @@ live_by m v e make (Instance i) h own maker among is made =
     } in
     let it : IsOnly m.effects (Instance (m.known.row i).inst) v make (m.known.row i).make =
     row_only m.effects (m.known.row i) v make (h.rows i)
-    (subst (λ j. IsLive m.effects (Instance j) v make) (sym (h.lists.own_row i)) live) in
+    (subst (λ j. IsLive m.effects (Instance j) v make) (sym (h.known.lists.own_row i)) live) in
     record {
       owner = Instance i;
       among = live.among;
       recorded_as = it.recorded_as;
-      only = λ w there. it.only w ((λ l. is_among eqb w (vms_of m.effects (Instance (h.lists.own_row i l)))) ∙ there);
+      only = λ w there. it.only w ((λ l. is_among eqb w (vms_of m.effects (Instance (h.known.lists.own_row i l)))) ∙ there);
     }
 live_by m v e make (Compile t s) h own maker among is made =
     let live : IsLive m.effects (Compile t s) v make = record {
@@ -193,7 +193,7 @@ live_of m v make h low high is = by (is_vm_there m.effects v) refl (vm_creation 
     by : (b : Bool) → is_vm_there m.effects v ≡ b → (creation : Option Effect) → vm_creation m.effects v ≡ creation
         → (if b then option_and_then (λ e. make_of e.call) creation else None) ≡ Some make → LiveOf m v make
     by true there (Some e) made is =
-        live_by m v e make e.owner h refl (sym (λ l. is_made_in_its_deployment m.known (made l)) ∙ h.makers v)
+        live_by m v e make e.owner h refl (sym (λ l. is_made_in_its_deployment m.known (made l)) ∙ h.known.makers v)
         (live_among m.effects v e low high there made) made is
     by true there None made is = absurd cc
     by false there creation made is = absurd cc
@@ -239,7 +239,7 @@ two_live : (m : Moment) (v w : ℕ) (x y : Make) → Holds m → v < w → LiveO
 two_live m v w x y h less one two =
     apart_makes x y (λ a here there.
     let same : one.owner ≡ two.owner =
-    one_owner m h.addresses one.owner two.owner x y a one.recorded_as two.recorded_as here there in
+    one_owner m h.known.addresses one.owner two.owner x y a one.recorded_as two.recorded_as here there in
     let equal : w ≡ v = one.only w ((λ l. is_among eqb w (vms_of m.effects (same l))) ∙ two.among) in
     absurd (grind (arith, less, equal)))
 
@@ -247,16 +247,16 @@ live_and_open : (m : Moment) (v n : ℕ) (x y : Make) → Holds m → LiveOf m v
 live_and_open m v n x y h one two =
     apart_makes x y (λ a here there.
     let same : one.owner ≡ two.call.begin.owner =
-    one_owner m h.addresses one.owner two.call.begin.owner x y a one.recorded_as two.is_making.recorded_as here there in
+    one_owner m h.known.addresses one.owner two.call.begin.owner x y a one.recorded_as two.is_making.recorded_as here there in
     two.is_making.none v (sym (λ l. is_among eqb v (vms_of m.effects (same l))) ∙ one.among))
 
 two_open : (m : Moment) (n k : ℕ) (x y : Make) → Holds m → n < k → OpenOf m n x → OpenOf m k y → is_apart x y ≡ true
 two_open m n k x y h less one two =
     apart_makes x y (λ a here there.
     let same : one.call.begin.owner ≡ two.call.begin.owner =
-    one_owner m h.addresses one.call.begin.owner two.call.begin.owner x y a one.is_making.recorded_as
+    one_owner m h.known.addresses one.call.begin.owner two.call.begin.owner x y a one.is_making.recorded_as
     two.is_making.recorded_as here there in
-    let equal : k ≡ n = (h.calls n one.call one.opens).one_call k two.call two.opens (sym same) in
+    let equal : k ≡ n = (h.known.calls n one.call one.opens).one_call k two.call two.opens (sym same) in
     absurd (grind (arith, less, equal)))
 
 pub all_apart : (m : Moment) → Holds m → are_apart (possible_machines m) ≡ true

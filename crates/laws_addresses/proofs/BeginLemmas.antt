@@ -18,7 +18,7 @@ use Rattle.bosh_base.specs.declared.row.Vm.{Vm}
 use Rattle.laws_facts.proofs.ListLemmas.{Tells}
 use Rattle.laws_facts.proofs.WorkLemmas.{begun_works}
 use Rattle.laws_facts.specs.Addresses.{Recorded, Machine, Wanted, Free, dep_of_slot, make_held}
-use Rattle.laws_facts.specs.Facts.{Holds}
+use Rattle.laws_facts.specs.KnownFacts.{KnownFacts}
 use Rattle.laws_facts.specs.Owners.{works}
 use Rattle.bosh_history.specs.Calls.{begins, key_for}
 use Rattle.bosh_history.specs.Items.{is_item, slots_of}
@@ -42,7 +42,7 @@ use Rattle.laws_addresses.proofs.WorkingLemmas.{Wants, wants_of}
 -- ---- instances
 
 -- the row of the goal has the make of the machine that is made
-wanted_make : (m : Moment) (t : ℕ) (i : Inst) (make : Make) → Holds m → works m t ≡ true → MakesFor m.known t i make
+wanted_make : (m : Moment) (t : ℕ) (i : Inst) (make : Make) → KnownFacts m → works m t ≡ true → MakesFor m.known t i make
     → make_held m (Wanted i) ≡ Some make
 wanted_make m t i make h working makes =
     let it : Wants m t i makes.created.row = wants_of m t i makes.created.row h working makes.created.wants in
@@ -50,7 +50,7 @@ wanted_make m t i make h working makes =
     ∙ ap (option_map (λ want. want.make)) it.wanted
     ∙ ap Some (sym makes.created.of_make)
 
-row_begun : (m : Moment) (b : Begin) → Holds m → works m b.task ≡ true → Begins m b → (owner : Owner)
+row_begun : (m : Moment) (b : Begin) → KnownFacts m → works m b.task ≡ true → Begins m b → (owner : Owner)
     → b.owner ≡ owner → (i : Inst)
     → ComesFrom m (noting m (entries.Begin b)) (Recorded i) (Recorded i) ⊎ TakesRow m (noting m (entries.Begin b)) i
 row_begun m b h working may (Instance j) is i = by (same_inst_tells j i) b.call refl
@@ -256,7 +256,7 @@ slots_begun m b working may (Disk d) is t s = slot_other m b t s (λ l. (begins 
 
 -- ---- all
 
-pub begun_comes : (outside : Outside) (m : Moment) (b : Begin) → Holds m
+pub begun_comes : (outside : Outside) (m : Moment) (b : Begin) → KnownFacts m
     → may_follow m (entries.Begin b) ≡ true → Begins m b → Comes m (noting m (entries.Begin b))
 begun_comes outside m b h follows may = record {
   rows = row_begun m b h working may b.owner refl;

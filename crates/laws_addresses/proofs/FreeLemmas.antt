@@ -11,7 +11,7 @@ use Rattle.bosh_base.specs.declared.task.TaskKind.TheVariants as kinds
 use Rattle.laws_facts.proofs.ListLemmas.{bytes_tells}
 use Rattle.laws_facts.specs.Addresses.{Holder, Recorded, Machine, Wanted, Free, holds_address, is_one_recorded}
 use Rattle.laws_facts.specs.CallFacts.{named}
-use Rattle.laws_facts.specs.Facts.{Holds}
+use Rattle.laws_facts.specs.KnownFacts.{KnownFacts}
 use Rattle.laws_facts.specs.Owners.{works}
 use Rattle.laws_row_facts.specs.Words.{where_any}
 use Rattle.laws_facts.specs.TaskFacts.{WorkFacts}
@@ -38,7 +38,7 @@ any_of p a (b ∷ items) there is = grind (arith, there, is, eqb_tells b a, any_
 
 -- ---- what holds an address is recorded
 
-pub row_recorded : (m : Moment) (i : Inst) (a : ℕ) → Holds m → holds_address m (Recorded i) a ≡ true
+pub row_recorded : (m : Moment) (i : Inst) (a : ℕ) → KnownFacts m → holds_address m (Recorded i) a ≡ true
     → is_among same_inst i m.known.instances ≡ true
 row_recorded m i a h is = by (is_among same_inst i m.known.instances) refl
   where
@@ -52,7 +52,7 @@ pub record IsMachine (m : Moment) (t s : ℕ) (it : Slot) (a : ℕ) : Type 0 whe
   pub has : has_addr a (Some it.make) ≡ true
   pub listed : is_among same_slot (named t s) m.known.machines ≡ true
 
-pub machine_recorded : (m : Moment) (t s a : ℕ) → Holds m → holds_address m (Machine t s) a ≡ true
+pub machine_recorded : (m : Moment) (t s a : ℕ) → KnownFacts m → holds_address m (Machine t s) a ≡ true
     → (it : Slot) × IsMachine m t s it a
 machine_recorded m t s a h is = by (m.known.slot t s) refl
   where
@@ -116,7 +116,7 @@ alone_changed t one i lists kind there = by t.changed refl there (of_one t t.kin
         absurd (grind (arith, now))
 
 -- another row with its address would be obsolete, or, in a task of one instance, have none of its addresses
-no_other_row : (m : Moment) (t : ℕ) (i j : Inst) (make : Make) (a : ℕ) → Holds m → works m t ≡ true
+no_other_row : (m : Moment) (t : ℕ) (i j : Inst) (make : Make) (a : ℕ) → KnownFacts m → works m t ≡ true
     → MakesFor m.known t i make → holds_address m (Wanted i) a ≡ true → holds_address m (Recorded j) a ≡ true
     → is_in (m.known.task t).goal j ≡ false → i.dep ≡ j.dep → false ≡ true
 no_other_row m t i j make a h working makes wants here out dep = by (named_instance (m.known.task t).kind) refl
@@ -165,7 +165,7 @@ no_other_row m t i j make a h working makes wants here out dep = by (named_insta
         held : list_any (λ b. b == a) (addrs makes.created.row.make) ≡ true
         held = grind (arith, wants, it.current, it.wanted)
 
-pub alone : (m : Moment) (t : ℕ) (i : Inst) (make : Make) → Holds m → works m t ≡ true → MakesFor m.known t i make
+pub alone : (m : Moment) (t : ℕ) (i : Inst) (make : Make) → KnownFacts m → works m t ≡ true → MakesFor m.known t i make
     → (a : ℕ) (y : Holder) → holds_address m (Wanted i) a ≡ true → holds_address m y a ≡ true
     → is_one_recorded (Recorded i) y ≡ true
 alone m t i make h working makes a (Recorded j) wants here = by (same_inst_tells i j)

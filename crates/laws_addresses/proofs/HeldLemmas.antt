@@ -19,7 +19,7 @@ use Rattle.laws_facts.proofs.ListLemmas.{Tells, bytes_tells}
 use Rattle.laws_facts.proofs.MachineLemmas.{slot_tells}
 use Rattle.laws_facts.specs.Addresses.{Holder, Recorded, Machine, Wanted, Free, dep_of_holder, holds_address}
 use Rattle.laws_facts.specs.CallFacts.{named}
-use Rattle.laws_facts.specs.Facts.{Holds}
+use Rattle.laws_facts.specs.KnownFacts.{KnownFacts}
 use Rattle.laws_facts.specs.Owners.{works}
 use Rattle.bosh_history.specs.Held.{addresses_of, held, held_by_goal, held_by_goals, held_by_machines, held_by_rows, held_by_slot, held_by_slots, held_by_task, held_elsewhere, is_open, numbered, of_make}
 use Rattle.bosh_history.specs.Items.{slots_of}
@@ -56,7 +56,7 @@ same_dep a b same = grind (arith, bytes_tells a b, same)
 
 -- ---- each holder
 
-row_held : (m : Moment) (i : Inst) (a : ℕ) → Holds m → holds_address m (Recorded i) a ≡ true
+row_held : (m : Moment) (i : Inst) (a : ℕ) → KnownFacts m → holds_address m (Recorded i) a ≡ true
     → list_any (is_of m.known i.dep a) (held_by_rows m.known) ≡ true
 row_held m i a h is =
     any_flat same_inst same_inst_tells (is_of m.known i.dep a) (λ i. of_make (Instance i) (m.known.row i).make) i
@@ -116,7 +116,7 @@ is_wanted m i a is = by (m.known.goal i.dep) refl is
     by (Some goal) current has = of goal current (want_in (Some goal) i) refl has
     by None current has = absurd cc
 
-goal_held : (m : Moment) (i : Inst) (a : ℕ) → Holds m → holds_address m (Wanted i) a ≡ true
+goal_held : (m : Moment) (i : Inst) (a : ℕ) → KnownFacts m → holds_address m (Wanted i) a ≡ true
     → list_any (is_of m.known i.dep a) (held_by_goals m.known) ≡ true
 goal_held m i a h is =
     let it : IsWanted m i a = is_wanted m i a is in
@@ -127,7 +127,7 @@ goal_held m i a h is =
     ∙ found_held m.known i a it.goal.rows it.row it.wanted it.has)
 
 -- the deployment of a compile machine is that of its task
-pub machine_dep : (m : Moment) (t s : ℕ) (it : Slot) → Holds m → m.known.slot t s ≡ Some it
+pub machine_dep : (m : Moment) (t s : ℕ) (it : Slot) → KnownFacts m → m.known.slot t s ≡ Some it
     → (m.known.task t).dep ≡ Some it.dep
 machine_dep m t s it h is = by (m.known.task t).dep refl
   where
@@ -141,7 +141,7 @@ machine_dep m t s it h is = by (m.known.task t).dep refl
 pub dep_as : (k : Known) (t : ℕ) (dep : List ℕ) → (k.task t).dep ≡ Some dep → dep_of_task k t ≡ dep
 dep_as k t dep same = (λ i. dep_of_task (record k { task = λ t. record no_task { dep = same i } }) t)
 
-pub slot_held : (m : Moment) (t s a : ℕ) → Holds m → holds_address m (Machine t s) a ≡ true
+pub slot_held : (m : Moment) (t s a : ℕ) → KnownFacts m → holds_address m (Machine t s) a ≡ true
     → list_any (is_of m.known (dep_of_holder m.known (Machine t s)) a) (held_by_machines m.known) ≡ true
 slot_held m t s a h is = by (machine_recorded m t s a h is)
   where
@@ -207,7 +207,7 @@ pub among_filter : (p : ℕ → Bool) (t : ℕ) (items : List ℕ) → is_among 
 among_filter p t [] there is = absurd cc
 among_filter p t (b ∷ items) there is = grind (arith, there, is, eqb_tells t b, among_filter p t items)
 
-free_held : (m : Moment) (t s a : ℕ) → Holds m → holds_address m (Free t s) a ≡ true
+free_held : (m : Moment) (t s a : ℕ) → KnownFacts m → holds_address m (Free t s) a ≡ true
     → list_any (is_of m.known (dep_of_task m.known t) a) (held_by_slots m.known) ≡ true
 free_held m t s a h is =
     any_flat eqb eqb_tells (is_of m.known (dep_of_task m.known t) a) (held_by_task m.known) t
@@ -232,7 +232,7 @@ free_held m t s a h is =
 
 -- ---- all
 
-pub held_somewhere : (m : Moment) (y : Holder) (a : ℕ) → Holds m → holds_address m y a ≡ true
+pub held_somewhere : (m : Moment) (y : Holder) (a : ℕ) → KnownFacts m → holds_address m y a ≡ true
     → list_any (is_of m.known (dep_of_holder m.known y) a) (held m.known) ≡ true
 held_somewhere m (Recorded i) a h is =
     any_left (is_of m.known i.dep a) (held_by_rows m.known ++ held_by_goals m.known ++ held_by_machines m.known)
@@ -269,7 +269,7 @@ none_elsewhere k dep own a (it ∷ items) none is =
       none_elsewhere k dep own a items,
     )
 
-pub of_this : (m : Moment) (y : Holder) (a : ℕ) (dep : List ℕ) → Holds m → holds_address m y a ≡ true
+pub of_this : (m : Moment) (y : Holder) (a : ℕ) (dep : List ℕ) → KnownFacts m → holds_address m y a ≡ true
     → is_held (held_elsewhere m.known dep) a ≡ false → dep_of_holder m.known y ≡ dep
 of_this m y a dep h is none =
     none_elsewhere m.known dep (dep_of_holder m.known y) a (held m.known) none (held_somewhere m y a h is)

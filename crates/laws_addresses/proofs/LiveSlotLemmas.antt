@@ -17,10 +17,10 @@ use Rattle.bosh_base.specs.declared.owner.Owner.TheVariants.{Instance, Compile, 
 use Rattle.bosh_base.specs.declared.row.Doubt.{Doubt}
 use Rattle.bosh_base.specs.declared.row.Row.{Row}
 use Rattle.bosh_base.specs.declared.row.Vm.{Vm}
-use Rattle.laws_facts.specs.CallFacts.{CallFacts, IsOwnerKept, named}
+use Rattle.laws_facts.specs.CallFacts.{CallFacts, IsOwnerKept, PerformedFacts, named}
 use Rattle.laws_slots.specs.Slots.{SlotFacts, has_shape, is_creation_of}
 use Rattle.laws_facts.specs.Facts.{Holds}
-use Rattle.laws_facts.specs.OpenCalls.{call_of_row, fits_owner, fits_row, fits_slot, slot_as_before}
+use Rattle.laws_facts.specs.OpenCalls.{call_of_row, fits_known, fits_row, fits_slot, slot_as_before}
 use Rattle.laws_row_facts.specs.Calls.{row_before}
 use Rattle.laws_facts.specs.Owners.{is_doubt}
 use Rattle.laws_row_facts.specs.Calls.{is_ping}
@@ -136,12 +136,12 @@ middle true false c is = absurd cc
 middle false b c is = absurd cc
 
 row_making : (m : Moment) (n : ℕ) (call : OpenCall) (i : Inst) (make : Make) (disks : List ℕ) → Holds m
-    → CallFacts m n call → call.begin.owner ≡ Instance i → call.did ≡ None
+    → CallFacts m n call → PerformedFacts m call → call.begin.owner ≡ Instance i → call.did ≡ None
     → call.begin.call ≡ calls.CreateVm make disks → IsMaking m.effects (Instance i) make (m.known.row i).make
-row_making m n call i make disks h facts own none called = by (m.known.row i).doubt refl
+row_making m n call i make disks h facts performed own none called = by (m.known.row i).doubt refl
   where
     fits : fits_row (m.known.task call.begin.task) call.begin i (m.known.row i) ≡ true
-    fits = subst (λ owner. fits_owner m.known call.begin owner ≡ true) own facts.fits
+    fits = subst (λ owner. fits_known m.known call.begin owner ≡ true) own facts.fits
 
     doubt : is_doubt call.begin.n call.begin.call (m.known.row i).doubt ≡ true
     doubt =
@@ -157,7 +157,7 @@ row_making m n call i make disks h facts own none called = by (m.known.row i).do
     before =
         subst (λ it. RowFacts m.effects (row_before it (m.known.row i))) called
         (subst (λ owner. IsOwnerKept m call.begin None owner) own
-        (subst (λ did. IsOwnerKept m call.begin did call.begin.owner) none facts.owner_kept))
+        (subst (λ did. IsOwnerKept m call.begin did call.begin.owner) none performed.owner_kept))
 
     by : (doubt : Option Doubt) → (m.known.row i).doubt ≡ doubt
         → IsMaking m.effects (Instance i) make (m.known.row i).make
@@ -176,26 +176,26 @@ row_making m n call i make disks h facts own none called = by (m.known.row i).do
               row_none m.effects (without_doubt (m.known.row i)) v before
               (no_machine (m.known.row i).vm (not-true (is_some (m.known.row i).vm) parts.0))
               refl
-              ((λ l. is_among eqb v (vms_of m.effects (Instance (h.lists.own_row i l)))) ∙ there);
+              ((λ l. is_among eqb v (vms_of m.effects (Instance (h.known.lists.own_row i l)))) ∙ there);
         }
     by None is = absurd (grind (arith, sym (λ l. is_doubt call.begin.n call.begin.call (is l)) ∙ doubt))
 
 slot_making : (m : Moment) (n : ℕ) (call : OpenCall) (t s : ℕ) (make : Make) (disks : List ℕ) → Holds m
-    → CallFacts m n call → call.begin.owner ≡ Compile t s → call.did ≡ None
+    → CallFacts m n call → PerformedFacts m call → call.begin.owner ≡ Compile t s → call.did ≡ None
     → call.begin.call ≡ calls.CreateVm make disks
     → IsMaking m.effects (Compile t s) make (option_map (λ it. it.make) (m.known.slot t s))
-slot_making m n call t s make disks h facts own none called = by (m.known.slot t s) refl
+slot_making m n call t s make disks h facts performed own none called = by (m.known.slot t s) refl
   where
     fits : holds (fits_slot call.begin.n (calls.CreateVm make disks)) (m.known.slot t s) ≡ true
     fits =
         subst (λ it. holds (fits_slot call.begin.n it) (m.known.slot t s) ≡ true) called
-        (subst (λ owner. fits_owner m.known call.begin owner ≡ true) own facts.fits)
+        (subst (λ owner. fits_known m.known call.begin owner ≡ true) own facts.fits)
 
     before : SlotFacts m.effects (named t s) None
     before =
         subst (λ it. SlotFacts m.effects (named t s) (slot_as_before it (m.known.slot t s))) called
         (subst (λ owner. IsOwnerKept m call.begin None owner) own
-        (subst (λ did. IsOwnerKept m call.begin did call.begin.owner) none facts.owner_kept))
+        (subst (λ did. IsOwnerKept m call.begin did call.begin.owner) none performed.owner_kept))
 
     made : (it : Slot) → has_shape it ≡ true
         → fits_slot call.begin.n (calls.CreateVm make disks) it ≡ true
@@ -242,13 +242,13 @@ making m n call make disks h is none called = by call.begin.owner refl
         → IsMaking m.effects call.begin.owner make (recorded_of m call.begin.owner)
     by (Instance i) own =
         subst (λ owner. IsMaking m.effects owner make (recorded_of m owner)) (sym own)
-        (row_making m n call i make disks h (h.calls n call is) own none called)
+        (row_making m n call i make disks h (h.known.calls n call is) (h.performed n call is) own none called)
     by (Compile t s) own =
         subst (λ owner. IsMaking m.effects owner make (recorded_of m owner)) (sym own)
-        (slot_making m n call t s make disks h (h.calls n call is) own none called)
+        (slot_making m n call t s make disks h (h.known.calls n call is) (h.performed n call is) own none called)
     by (Disk d) own =
         absurd (grind (
           arith,
-          subst (λ it. fits_owner m.known (record call.begin { call = it }) (Disk d) ≡ true) called
-              (subst (λ owner. fits_owner m.known call.begin owner ≡ true) own (h.calls n call is).fits),
+          subst (λ it. fits_known m.known (record call.begin { call = it }) (Disk d) ≡ true) called
+              (subst (λ owner. fits_known m.known call.begin owner ≡ true) own (h.known.calls n call is).fits),
         ))

@@ -19,7 +19,7 @@ use Rattle.laws_facts.specs.Addresses.{has_each_once}
 use Rattle.laws_row_facts.specs.Words.{where_any}
 use Rattle.bosh_rows.specs.SoundSnapshot.{are_distinct}
 use Rattle.laws_addresses.proofs.ListLemmas.{once_of, row_once, slot_once}
-use Rattle.laws_facts.specs.Facts.{Holds}
+use Rattle.laws_facts.specs.KnownFacts.{KnownFacts}
 use Rattle.laws_facts.specs.Owners.{works}
 use Rattle.bosh_history.specs.Goals.{is_in}
 use Rattle.bosh_history.specs.Held.{held_elsewhere}
@@ -41,7 +41,7 @@ use Rattle.laws_addresses.proofs.WorkingLemmas.{IsRow, WorksOn, found_row, works
 
 -- a task opens well: in good order, with a goal whose addresses are free
 pub record OpensWell (m : Moment) (o : TaskOpen) (goal : Goal) : Type 0 where
-  pub holds : Holds m
+  pub holds : KnownFacts m
   pub may : MayOpen m.known o
   pub dep_is : o.dep ≡ Some goal.dep
   pub goal_is : o.goal ≡ Some goal

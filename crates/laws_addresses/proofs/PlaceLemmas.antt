@@ -23,7 +23,7 @@ use Rattle.laws_facts.proofs.InstanceLemmas.{inst_equal, inst_total}
 use Rattle.laws_facts.proofs.ListLemmas.{Tells, bytes_tells}
 use Rattle.laws_facts.proofs.OrderLemmas.{among_inserted}
 use Rattle.laws_facts.proofs.WorkLemmas.{begun_works, opens_next}
-use Rattle.laws_facts.specs.Facts.{Holds}
+use Rattle.laws_facts.specs.KnownFacts.{KnownFacts}
 use Rattle.laws_facts.specs.Owners.{works}
 use Rattle.laws_facts.specs.Tasks.{has_place, is_recorded}
 use Rattle.bosh_history.specs.Calls.{begins, task_with_call}
@@ -68,7 +68,7 @@ place_as old new t i same recorded gone is = by (is_recorded new i) refl
 -- ---- a call begins
 
 -- the first call of an instance makes its machine, as the goal of its task wants it
-first_call : (m : Moment) (b : Begin) (i : Inst) → Holds m → Begins m b → b.owner ≡ Instance i
+first_call : (m : Moment) (b : Begin) (i : Inst) → KnownFacts m → Begins m b → b.owner ≡ Instance i
     → is_recorded m.known i ≡ false → (make : Make) × MakesFor m.known b.task i make
 first_call m b i h may is none = by (bare_call (m.known.task b.task) i)
   where
@@ -88,7 +88,7 @@ first_call m b i h may is none = by (bare_call (m.known.task b.task) i)
           (sym (λ l. is_item m.known b.task (is l)) ∙ may.is_item),
     )
 
-place_begun : (m : Moment) (b : Begin) (t : ℕ) (i : Inst) → Holds m → works m b.task ≡ true → works m t ≡ true
+place_begun : (m : Moment) (b : Begin) (t : ℕ) (i : Inst) → KnownFacts m → works m b.task ≡ true → works m t ≡ true
     → Begins m b → (owner : Owner) → b.owner ≡ owner
     → has_place (learn m.known (entries.Begin b)) (m.known.task t) i ≡ true
 place_begun m b t i h working also may (Instance j) is = by (is_recorded m.known i) refl (same_inst_tells i j)
@@ -199,7 +199,7 @@ place_by k o i kinds.DeleteDeployment is may = place_for k o i kinds.DeleteDeplo
 place_by k o i kind is may =
     (λ l. has_place k (record (task_opened k o) { kind = is l }) i)
 
-place_opened : (m : Moment) (o : TaskOpen) (t : ℕ) (i : Inst) → Holds m → MayOpen m.known o
+place_opened : (m : Moment) (o : TaskOpen) (t : ℕ) (i : Inst) → KnownFacts m → MayOpen m.known o
     → works (noting m (entries.TaskOpen o)) t ≡ true
     → has_place (learn m.known (entries.TaskOpen o)) ((learn m.known (entries.TaskOpen o)).task t) i ≡ true
 place_opened m o t i h may working = by (eqb_tells o.task t)
@@ -222,7 +222,7 @@ place_opened m o t i h may working = by (eqb_tells o.task t)
 
 -- ---- moves
 
-place_note : (outside : Outside) (m : Moment) (e : Entry) → Holds m → may_follow m e ≡ true → MayNote outside m e
+place_note : (outside : Outside) (m : Moment) (e : Entry) → KnownFacts m → may_follow m e ≡ true → MayNote outside m e
     → HavePlaces (noting m e)
 place_note outside m (entries.TaskOpen o) h follows may t working i = place_opened m o t i h may.0 working
 place_note outside m (entries.Begin b) h follows may t working i =
@@ -238,7 +238,7 @@ place_note outside m entry h follows may t working i =
     (recorded_note outside m entry may refl refl i) (gone_note outside m entry may refl t i)
     (((h.tasks t).working ((less_work outside m entry may refl).works t working)).has_place i)
 
-pub places_kept : (outside : Outside) (m : Moment) (move : Move) → IsPermitted outside m move → Holds m
+pub places_kept : (outside : Outside) (m : Moment) (move : Move) → IsPermitted outside m move → KnownFacts m
     → HavePlaces (later m move)
 places_kept outside m (moves.Note e) may h t working i = place_note outside m e h may.1 may.2 t working i
 places_kept outside m (moves.Stop s) may h t working i = absurd (none_works m s t working)

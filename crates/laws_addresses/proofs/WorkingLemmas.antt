@@ -7,7 +7,7 @@ use Rattle.bosh_base.specs.declared.goal.Goal.{Goal}
 use Rattle.bosh_base.specs.declared.goal.GoalRow.{GoalRow}
 use Rattle.bosh_base.specs.declared.inst.Inst.{Inst}
 use Rattle.laws_facts.proofs.ListLemmas.{bytes_tells}
-use Rattle.laws_facts.specs.Facts.{Holds}
+use Rattle.laws_facts.specs.KnownFacts.{KnownFacts}
 use Rattle.laws_facts.specs.Goals.{has_sound_rows}
 use Rattle.laws_facts.specs.Owners.{works}
 use Rattle.laws_facts.specs.Tasks.{lists_well}
@@ -66,7 +66,7 @@ dep_of_goal t goal lists is = by (is_clean_up t.kind) refl t.dep refl
         has ∙ ap Some (sym (grind (arith, lists, cleans, is, has, bytes_tells goal.dep dep)))
     by false cleans None has = absurd (grind (arith, lists, cleans, is, has))
 
-pub works_on : (m : Moment) (t : ℕ) (goal : Goal) → Holds m → works m t ≡ true → (m.known.task t).goal ≡ Some goal
+pub works_on : (m : Moment) (t : ℕ) (goal : Goal) → KnownFacts m → works m t ≡ true → (m.known.task t).goal ≡ Some goal
     → WorksOn m t goal
 works_on m t goal h working is =
     let dep : (m.known.task t).dep ≡ Some goal.dep =
@@ -84,7 +84,7 @@ pub record Wants (m : Moment) (t : ℕ) (i : Inst) (want : GoalRow) : Type 0 whe
   pub current : m.known.goal i.dep ≡ Some goal
   pub wanted : want_in (Some goal) i ≡ Some want
 
-pub wants_of : (m : Moment) (t : ℕ) (i : Inst) (want : GoalRow) → Holds m → works m t ≡ true
+pub wants_of : (m : Moment) (t : ℕ) (i : Inst) (want : GoalRow) → KnownFacts m → works m t ≡ true
     → want_in (m.known.task t).goal i ≡ Some want → Wants m t i want
 wants_of m t i want h working is = by (m.known.task t).goal refl is
   where

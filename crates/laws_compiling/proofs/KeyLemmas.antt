@@ -33,7 +33,7 @@ use Rattle.laws_facts.proofs.FrameLemmas.{goals_begin, goals_end, goals_updated}
 use Rattle.laws_facts.proofs.GoalLemmas.{OpensOf, of_dep, of_none, opens_of, sound_of}
 use Rattle.laws_facts.proofs.ListLemmas.{Tells, bytes_tells}
 use Rattle.laws_facts.proofs.MoveLemmas.{by_note}
-use Rattle.laws_facts.specs.Facts.{Holds}
+use Rattle.laws_facts.specs.KnownFacts.{KnownFacts}
 
 -- ---- keys in order
 
@@ -182,7 +182,7 @@ module _ (outside : Outside) (m : Moment) (has : CanBeCompiled m.known) where
   compilable_note (entries.Snapshot s) may dep goal is = absurd may
   compilable_note entry may dep goal is = stands_on entry may dep goal is
 
-pub compilable_kept : (outside : Outside) (m : Moment) (move : Move) → IsPermitted outside m move → Holds m
+pub compilable_kept : (outside : Outside) (m : Moment) (move : Move) → IsPermitted outside m move → KnownFacts m
     → CanBeCompiled (later m move).known
 compilable_kept outside m move may h =
     by_note outside CanBeCompiled m (λ e also. compilable_note outside m now e also) now move may

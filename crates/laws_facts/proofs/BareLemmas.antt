@@ -11,8 +11,8 @@ use Rattle.bosh_base.specs.declared.make.Make.{Make}
 use Rattle.bosh_base.specs.declared.owner.Owner.TheVariants.{Instance}
 use Rattle.bosh_base.specs.declared.state.State.{State}
 use Rattle.bosh_base.specs.declared.state.State.TheVariants.{Running, Stopped, Detached}
-use Rattle.laws_facts.specs.Facts.{Holds}
-use Rattle.laws_facts.specs.OpenCalls.{call_of_row, fits_owner, fits_row}
+use Rattle.laws_facts.specs.KnownFacts.{KnownFacts}
+use Rattle.laws_facts.specs.OpenCalls.{call_of_row, fits_known, fits_row}
 use Rattle.laws_row_facts.specs.Calls.{row_before}
 use Rattle.laws_facts.specs.Owners.{is_doubt}
 use Rattle.laws_row_facts.specs.Calls.{is_ping}
@@ -79,12 +79,12 @@ no_bare_fits t b i =
     && (implies (leaves_doubt b.call) (is_doubt b.n b.call None) && implies (is_ping b.call) true))
     ∙ creation_fits b.n (call_of_row t i (bare i)) b.call (bare_call t i)
 
-pub listed_open : (m : Moment) → Holds m → (n : ℕ) (call : OpenCall) (i : Inst) → m.calls n ≡ Some call
+pub listed_open : (m : Moment) → KnownFacts m → (n : ℕ) (call : OpenCall) (i : Inst) → m.calls n ≡ Some call
     → call.begin.owner ≡ Instance i → is_among same_inst i m.known.instances ≡ true
 listed_open m h n call i is own = by (is_among same_inst i m.known.instances) refl
   where
     fits : fits_row (m.known.task call.begin.task) call.begin i (m.known.row i) ≡ true
-    fits = subst (λ owner. fits_owner m.known call.begin owner ≡ true) own (h.calls n call is).fits
+    fits = subst (λ owner. fits_known m.known call.begin owner ≡ true) own (h.calls n call is).fits
 
     by : (b : Bool) → is_among same_inst i m.known.instances ≡ b → is_among same_inst i m.known.instances ≡ true
     by true there = there

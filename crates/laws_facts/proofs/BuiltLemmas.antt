@@ -1,5 +1,5 @@
 -- Compiled keys: that those which are listed are those which have a digest is kept by each entry.
-use Rattle.std.proofs.Common.{◌≡◌, ◌∙◌, ℕ, Bool, true, false, Option, Some, None, List, [], ◌∷◌, refl, ap, sym, arith}
+use Rattle.std.proofs.Common.{◌≡◌, ◌∙◌, ℕ, Bool, true, false, Option, Some, None, List, [], ◌∷◌, refl, ap, arith}
 use Rattle.std.specs.Prelude.{◌||◌, find, fold, is_some, map, if◌then◌else◌}
 use Rattle.std.specs.Cmp.Lexicographic.{slice_cmp}
 use Rattle.std.specs.List.{list_any}
@@ -26,7 +26,7 @@ use Rattle.bosh_base.specs.declared.snapshot.BuiltKey.{BuiltKey}
 use Rattle.bosh_base.specs.declared.task.TaskKind.{TaskKind}
 use Rattle.bosh_compile.specs.CompileOrder.{key_cmp}
 use Rattle.bosh_compile.specs.Readiness.{is_among, same_key}
-use Rattle.bosh_history.specs.Calls.{begins, call_ended, compiles, ends_of, orphan_after, slot_answered}
+use Rattle.bosh_history.specs.Calls.{begins, call_ended, compiles, ends_of, slot_answered}
 use Rattle.bosh_history.specs.Known.{Known, Slot, dep_of_task, nothing_known, want_in}
 use Rattle.bosh_history.specs.Held.{compiled_keys, view}
 use Rattle.bosh_history.specs.Learn.{known_of, learn}
@@ -42,7 +42,7 @@ use Rattle.bosh_rows.specs.Standing.{same_truth}
 use Rattle.laws_facts.proofs.InstanceLemmas.{then_equal}
 use Rattle.laws_facts.proofs.MoveLemmas.{by_note}
 use Rattle.laws_facts.proofs.OrderLemmas.{any_all_inserted, any_inserted}
-use Rattle.laws_facts.specs.Facts.{Holds}
+use Rattle.laws_facts.specs.KnownFacts.{KnownFacts}
 use Rattle.laws_facts.specs.Kept.{AreBuiltListed}
 use Rattle.laws_facts.specs.Lists.{is_built_for}
 
@@ -167,7 +167,7 @@ listed_learned k entry listed = listed
 
 -- it is kept by each permitted move
 pub listed_kept : (outside : Outside) (m : Moment) (move : Move) → IsPermitted outside m move
-    → Holds m → AreBuiltListed (later m move).known
+    → KnownFacts m → AreBuiltListed (later m move).known
 listed_kept outside m move may h =
     by_note outside AreBuiltListed m (λ e also. listed_learned m.known e h.lists.key_listed) h.lists.key_listed move may
 

@@ -18,7 +18,7 @@ use Rattle.bosh_base.specs.declared.owner.Owner.TheVariants.{Instance, Compile, 
 use Rattle.laws_effects.specs.Orderly.{is_of_call, is_taken}
 use Rattle.laws_facts.proofs.FrameLemmas.{numbers_done, numbers_end, numbers_updated}
 use Rattle.laws_facts.proofs.MoveLemmas.{all_to}
-use Rattle.laws_facts.specs.Facts.{Holds}
+use Rattle.laws_facts.specs.KnownFacts.{KnownFacts}
 use Rattle.laws_facts.specs.Kept.{AreBegun, AreNumbersPast, HaveOneCall}
 use Rattle.laws_facts.specs.Numbers.{is_number_past}
 use Rattle.bosh_history.specs.Known.{Known}
@@ -33,7 +33,7 @@ use Rattle.bosh_rows.specs.Same.{same_owner}
 
 -- ---- an open call has its number, and it is known how it began
 
-pub are_begun : (m : Moment) → Holds m → AreBegun m
+pub are_begun : (m : Moment) → KnownFacts m → AreBegun m
 are_begun m h n call is = record { number = (h.calls n call is).number; begun = (h.calls n call is).begun }
 
 begun_note : (outside : Outside) (m : Moment) (e : Entry) → MayNote outside m e → AreBegun m → AreBegun (noting m e)
@@ -67,7 +67,7 @@ begun_move outside m (moves.Stop s) may has n call is = absurd cc
 begun_move outside m move may has n call is = record { number = (has n call is).number; begun = (has n call is).begun }
 
 pub begun_kept : (outside : Outside) (m : Moment) (move : Move) → IsPermitted outside m move
-    → Holds m → AreBegun
+    → KnownFacts m → AreBegun
     (later m move)
 begun_kept outside m move may h = begun_move outside m move may (are_begun m h)
 
@@ -208,7 +208,7 @@ past_move outside m (moves.Lost loss) may begun past n = past_done m (entries.Lo
 past_move outside m (moves.Said said) may begun past n = past n
 
 pub past_kept : (outside : Outside) (m : Moment) (move : Move) → IsPermitted outside m move
-    → Holds m → AreNumbersPast
+    → KnownFacts m → AreNumbersPast
     (later m move)
 past_kept outside m move may h = past_move outside m move may (are_begun m h) h.numbers.past
 
@@ -260,7 +260,7 @@ one_move outside m (moves.Stop s) may past one n call other that is also own = a
 one_move outside m move may past one n call other that is also own = one n call other that is also own
 
 pub one_kept : (outside : Outside) (m : Moment) (move : Move) → IsPermitted outside m move
-    → Holds m → HaveOneCall
+    → KnownFacts m → HaveOneCall
     (later m move)
 one_kept outside m move may h =
     one_move outside m move may h.numbers.past

@@ -25,7 +25,7 @@ use Rattle.laws_facts.proofs.ListLemmas.{Tells, bytes_tells}
 use Rattle.laws_facts.proofs.LockLemmas.{StaysOpen, is_opening, no_other, note_stays}
 use Rattle.laws_facts.proofs.WorkLemmas.{IsUpTo, is_up_to, none_to, opens_next}
 use Rattle.laws_facts.proofs.DepLemmas.{dep_settled, dep_updated}
-use Rattle.laws_facts.specs.Facts.{Holds}
+use Rattle.laws_facts.specs.KnownFacts.{KnownFacts}
 use Rattle.laws_facts.specs.Kept.{AreCurrent}
 use Rattle.laws_facts.specs.Owners.{works}
 use Rattle.laws_facts.specs.Tasks.{has_another_lock, is_open_task, lists_well}
@@ -90,7 +90,7 @@ pub worked : (m : Moment) (e : Entry) (t : ℕ) → StaysOpen m.known (learn m.k
 worked m e t stays is = grind (arith, is, stays.was (works_open (noting m e) t is))
 
 -- where the current goals are the same
-current_same : (outside : Outside) (m : Moment) → Holds m → (e : Entry) → MayNote outside m e → is_opening e ≡ false
+current_same : (outside : Outside) (m : Moment) → KnownFacts m → (e : Entry) → MayNote outside m e → is_opening e ≡ false
     → (t : ℕ) (dep : List ℕ) → (learn m.known e).goal dep ≡ m.known.goal dep → works (noting m e) t ≡ true
     → ((learn m.known e).task t).dep ≡ Some dep → (learn m.known e).goal dep ≡ ((learn m.known e).task t).goal
 current_same outside m h e may none t dep goals is of_it =
@@ -101,7 +101,7 @@ current_same outside m h e may none t dep goals is of_it =
 
 -- ---- a task opens
 
-current_opened : (m : Moment) → Holds m → (o : TaskOpen) → MayOpen m.known o → (t : ℕ) (dep : List ℕ)
+current_opened : (m : Moment) → KnownFacts m → (o : TaskOpen) → MayOpen m.known o → (t : ℕ) (dep : List ℕ)
     → works (noting m (entries.TaskOpen o)) t ≡ true
     → (at eqb o.task (task_opened m.known o) m.known.task t).dep ≡ Some dep
     → goal_set o.dep o.goal m.known.goal dep ≡ (at eqb o.task (task_opened m.known o) m.known.task t).goal
@@ -169,7 +169,7 @@ deletes_dep t kind lists = by t.dep refl
     by None is = absurd (grind (arith, kind, lists, is))
 
 -- no other task of the deployment works
-done_apart : (m : Moment) → Holds m → (done t : ℕ) → (m.known.task done).kind ≡ kinds.DeleteDeployment
+done_apart : (m : Moment) → KnownFacts m → (done t : ℕ) → (m.known.task done).kind ≡ kinds.DeleteDeployment
     → works m done ≡ true
     → works m t ≡ true → (done == t) ≡ false → (dep : List ℕ) → (m.known.task t).dep ≡ Some dep
     → bytes_eq (dep_of_task m.known done) dep ≡ false
@@ -192,7 +192,7 @@ done_apart m h done t kind is also apart dep of_it = by (m.known.task done).dep 
     by (Some its) same (inr differ) = differ.0
     by None same tells = absurd (grind (arith, same, some))
 
-current_done : (outside : Outside) (m : Moment) → Holds m → (done : ℕ) → may_follow m (entries.TaskDone done) ≡ true
+current_done : (outside : Outside) (m : Moment) → KnownFacts m → (done : ℕ) → may_follow m (entries.TaskDone done) ≡ true
     → MayNote outside m (entries.TaskDone done) → (t : ℕ) (dep : List ℕ)
     → works (noting m (entries.TaskDone done)) t ≡ true
     → ((learn m.known (entries.TaskDone done)).task t).dep ≡ Some dep
@@ -220,7 +220,7 @@ current_done outside m h done follows may t dep is of_it = by (m.known.task done
 
 -- ---- entries
 
-current_note : (outside : Outside) (m : Moment) → Holds m → (e : Entry) → may_follow m e ≡ true → MayNote outside m e
+current_note : (outside : Outside) (m : Moment) → KnownFacts m → (e : Entry) → may_follow m e ≡ true → MayNote outside m e
     → AreCurrent (noting m e)
 current_note outside m h (entries.Begin b) follows may t dep is of_it =
     current_same outside m h (entries.Begin b) may refl t dep
@@ -242,12 +242,12 @@ current_note outside m h entry follows may t dep is of_it = current_same outside
 pub none_works : (m : Moment) (s : stop.Stop) (t : ℕ) → works (later m (moves.Stop s)) t ≡ false
 none_works m s t = grind (arith)
 
-current_move : (outside : Outside) (m : Moment) (move : Move) → IsPermitted outside m move → Holds m
+current_move : (outside : Outside) (m : Moment) (move : Move) → IsPermitted outside m move → KnownFacts m
     → AreCurrent (later m move)
 current_move outside m (moves.Note e) may h t dep is of_it = current_note outside m h e may.1 may.2 t dep is of_it
 current_move outside m (moves.Stop s) may h t dep is of_it = absurd (grind (arith, is, none_works m s t))
 current_move outside m move may h t dep is of_it = ((h.tasks t).working is).current dep of_it
 
 pub current_kept : (outside : Outside) (m : Moment) (move : Move) → IsPermitted outside m move
-    → Holds m → AreCurrent (later m move)
+    → KnownFacts m → AreCurrent (later m move)
 current_kept outside m move may h = current_move outside m move may h

@@ -23,7 +23,7 @@ use Rattle.bosh_base.specs.declared.goal.Goal.{Goal}
 use Rattle.bosh_base.specs.declared.task.TaskKind.{TaskKind}
 use Rattle.laws_facts.proofs.FrameLemmas.{compiled_orphans, compiled_rows, compiled_slots, numbers_done, numbers_end, numbers_updated, slot_orphans, slot_rows}
 use Rattle.laws_facts.proofs.MoveLemmas.{by_note}
-use Rattle.laws_facts.specs.Facts.{Holds}
+use Rattle.laws_facts.specs.KnownFacts.{KnownFacts}
 use Rattle.laws_facts.specs.Kept.{AreDoubtsPast}
 use Rattle.laws_row_facts.specs.Words.{where_any}
 use Rattle.bosh_history.specs.Calls.{begins, call_ended, ends_of, key_for, orphan_after, orphan_begun, orphan_told, shows_gone, shows_there, slot_answered}
@@ -281,7 +281,7 @@ doubts_note outside m entry may past =
     })
 
 pub doubts_kept : (outside : Outside) (m : Moment) (move : Move) → IsPermitted outside m move
-    → Holds m → AreDoubtsPast (later m move).known
+    → KnownFacts m → AreDoubtsPast (later m move).known
 doubts_kept outside m move may h =
     by_note outside AreDoubtsPast m
     (λ e also. doubts_note outside m e also h.numbers.doubts_past) h.numbers.doubts_past move may

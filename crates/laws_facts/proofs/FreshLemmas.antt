@@ -13,7 +13,7 @@ use Rattle.bosh_base.specs.declared.task.TaskKind.TheVariants as kinds
 use Rattle.laws_facts.proofs.FrameLemmas.{goals_begin, goals_end, goals_updated, numbers_end, numbers_updated}
 use Rattle.laws_facts.proofs.ListLemmas.{Tells, bytes_tells}
 use Rattle.laws_facts.proofs.MoveLemmas.{by_note}
-use Rattle.laws_facts.specs.Facts.{Holds}
+use Rattle.laws_facts.specs.KnownFacts.{KnownFacts}
 use Rattle.laws_facts.specs.Kept.{AreRowsPast}
 use Rattle.bosh_history.specs.Goals.{rows_of}
 use Rattle.bosh_history.specs.Known.{Known, dep_of_task}
@@ -93,7 +93,7 @@ fresh_note outside m (entries.Snapshot s) may past dep = absurd may
 fresh_note outside m entry may past dep = past dep
 
 pub fresh_kept : (outside : Outside) (m : Moment) (move : Move) → IsPermitted outside m move
-    → Holds m
+    → KnownFacts m
     → AreRowsPast (later m move).known
 fresh_kept outside m move may h =
     by_note outside AreRowsPast m (λ e also. fresh_note outside m e also h.numbers.rows_past) h.numbers.rows_past

@@ -15,7 +15,7 @@ use Rattle.bosh_base.specs.declared.task.TaskKind.TheVariants as kinds
 use Rattle.laws_facts.proofs.FrameLemmas.{goals_begin, goals_end, goals_updated}
 use Rattle.laws_facts.proofs.ListLemmas.{Tells, among_one_more, among_without, bytes_tells, distinct_one_more, distinct_without}
 use Rattle.laws_facts.proofs.MoveLemmas.{by_note}
-use Rattle.laws_facts.specs.Facts.{Holds}
+use Rattle.laws_facts.specs.KnownFacts.{KnownFacts}
 use Rattle.laws_facts.specs.Kept.{AreDeploymentsApart, AreDeploymentsListed, AreGoalsSound, IsGoalSound}
 use Rattle.laws_facts.specs.Lists.{is_deployment_listed}
 use Rattle.bosh_history.specs.Known.{Known, dep_of_task}
@@ -125,7 +125,7 @@ listed_note outside m (entries.Snapshot s) may has other = absurd may
 listed_note outside m entry may has other = has other
 
 pub listed_kept : (outside : Outside) (m : Moment) (move : Move)
-    → IsPermitted outside m move → Holds m
+    → IsPermitted outside m move → KnownFacts m
     → AreDeploymentsListed (later m move).known
 listed_kept outside m move may h =
     by_note outside AreDeploymentsListed m (λ e also. listed_note outside m e also h.lists.deployment_listed)
@@ -167,7 +167,7 @@ apart_note outside m (entries.Snapshot s) may apart = absurd may
 apart_note outside m entry may apart = apart
 
 pub apart_kept : (outside : Outside) (m : Moment) (move : Move) → IsPermitted outside m move
-    → Holds m
+    → KnownFacts m
     → AreDeploymentsApart (later m move).known
 apart_kept outside m move may h =
     by_note outside AreDeploymentsApart m (λ e also. apart_note outside m e also h.lists.deployments_apart)
@@ -234,7 +234,7 @@ sound_note outside m (entries.Snapshot s) may has dep goal is = absurd may
 sound_note outside m entry may has dep goal is = has dep goal is
 
 pub sound_kept : (outside : Outside) (m : Moment) (move : Move) → IsPermitted outside m move
-    → Holds m
+    → KnownFacts m
     → AreGoalsSound (later m move).known
 sound_kept outside m move may h =
     by_note outside AreGoalsSound m (λ e also. sound_note outside m e also now) now move may

@@ -27,7 +27,7 @@ use Rattle.laws_facts.proofs.FrameLemmas.{compiled_instances, compiled_rows, slo
 use Rattle.laws_facts.proofs.ListLemmas.{among_without}
 use Rattle.laws_facts.proofs.MoveLemmas.{by_note}
 use Rattle.laws_facts.proofs.OrderLemmas.{among_inserted, ascending_inserted, ascending_without, distinct_ascending}
-use Rattle.laws_facts.specs.Facts.{Holds}
+use Rattle.laws_facts.specs.KnownFacts.{KnownFacts}
 use Rattle.laws_facts.specs.Kept.{AreInstancesInOrder, AreOthersBare, HaveOwnRows}
 use Rattle.bosh_rows.specs.SoundSnapshot.{are_distinct}
 use Rattle.laws_row_facts.specs.Words.{are_ascending}
@@ -113,7 +113,7 @@ own_note outside m (entries.Snapshot s) may own i = absurd may
 own_note outside m entry may own i = own i
 
 pub own_kept : (outside : Outside) (m : Moment) (move : Move) → IsPermitted outside m move
-    → Holds m → HaveOwnRows (later m move).known
+    → KnownFacts m → HaveOwnRows (later m move).known
 own_kept outside m move may h =
     by_note outside HaveOwnRows m (λ e also. own_note outside m e also h.lists.own_row) h.lists.own_row move may
 
@@ -142,7 +142,7 @@ bare_answered b answer (Compile t s) k has listed i other =
     ∙ has i (sym (ap (is_among same_inst i) (slot_instances t s (slot_after b.n b.call answer (k.slot t s)) k)) ∙ other)
 bare_answered b answer (Disk d) k has listed i other = grind (arith, has i, other)
 
-bare_ended : (m : Moment) → Holds m → (e : End) → EndsCall e (m.calls e.n) → AreOthersBare
+bare_ended : (m : Moment) → KnownFacts m → (e : End) → EndsCall e (m.calls e.n) → AreOthersBare
     (learn m.known (entries.End e))
 bare_ended m h e may i other = by (m.calls e.n) refl may
   where
@@ -165,7 +165,7 @@ bare_ended m h e may i other = by (m.calls e.n) refl may
         ∙ after_call call is (sym (λ j. is_among same_inst i (call_ended e.answer (begun j) m.known).instances) ∙ other)
     by None is ends = absurd ends
 
-bare_note : (outside : Outside) (m : Moment) → Holds m → (e : Entry) → MayNote outside m e → AreOthersBare
+bare_note : (outside : Outside) (m : Moment) → KnownFacts m → (e : Entry) → MayNote outside m e → AreOthersBare
     (learn m.known e)
 bare_note outside m h (entries.Begin b) may i other = bare_begin b b.owner m.known h.lists.bare i other
 bare_note outside m h (entries.End e) may i other = bare_ended m h e may i other
@@ -206,7 +206,7 @@ bare_note outside m h (entries.Snapshot s) may i other = absurd may
 bare_note outside m h entry may i other = h.lists.bare i other
 
 pub bare_kept : (outside : Outside) (m : Moment) (move : Move) → IsPermitted outside m move
-    → Holds m → AreOthersBare (later m move).known
+    → KnownFacts m → AreOthersBare (later m move).known
 bare_kept outside m move may h =
     by_note outside AreOthersBare m (λ e also. bare_note outside m h e also) h.lists.bare move may
 
@@ -247,7 +247,7 @@ order_note outside m (entries.Snapshot s) may order = absurd may
 order_note outside m entry may order = order
 
 pub order_kept : (outside : Outside) (m : Moment) (move : Move) → IsPermitted outside m move
-    → Holds m → AreInstancesInOrder (later m move).known
+    → KnownFacts m → AreInstancesInOrder (later m move).known
 order_kept outside m move may h =
     by_note outside AreInstancesInOrder m (λ e also. order_note outside m e also h.lists.instances_in_order)
     h.lists.instances_in_order move may

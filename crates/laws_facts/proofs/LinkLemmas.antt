@@ -12,7 +12,7 @@ use Rattle.bosh_base.specs.declared.task.TaskKind.TheVariants as kinds
 use Rattle.laws_facts.proofs.FrameLemmas.{SameGoals}
 use Rattle.laws_facts.proofs.GoalLemmas.{OpensOf, of_dep, of_none, opens_of, sound_of}
 use Rattle.laws_facts.proofs.ListLemmas.{Tells, bytes_tells}
-use Rattle.laws_facts.specs.Facts.{Holds}
+use Rattle.laws_facts.specs.KnownFacts.{KnownFacts}
 use Rattle.laws_facts.specs.Goals.{is_offered_now}
 use Rattle.laws_facts.specs.Kept.{AreTiesKept, AreTied}
 use Rattle.bosh_history.specs.Held.{is_offered}
@@ -63,7 +63,7 @@ ties_same old new same has dep goal is =
           || is_offered tie.provider tie.kind (offers_in (same.goal i tie.provider.dep))) goal.ties) ∙ now.now;
     }
 
-pub ties_now : (m : Moment) → Holds m → AreTiesKept m.known
+pub ties_now : (m : Moment) → KnownFacts m → AreTiesKept m.known
 ties_now m h dep goal is = record
     { done = (h.goals dep goal is).offered_when_done; now = (h.goals dep goal is).offered_now }
 
@@ -135,7 +135,7 @@ tied_old k new dep goal still tied = record {
       goal.ties still tied.now;
 }
 
-pub ties_opened : (m : Moment) → Holds m → (o : TaskOpen) → MayOpen m.known o → IsSound m.known o
+pub ties_opened : (m : Moment) → KnownFacts m → (o : TaskOpen) → MayOpen m.known o → IsSound m.known o
     → AreTiesKept (learn m.known (entries.TaskOpen o))
 ties_opened m h o may sound dep goal is = by (opens_of m.known o may)
   where

@@ -16,7 +16,7 @@ use Rattle.laws_facts.proofs.ListLemmas.{bytes_tells}
 use Rattle.laws_facts.proofs.MoveLemmas.{all_to, by_note}
 use Rattle.laws_facts.proofs.DepLemmas.{dep_begin, dep_settled, dep_updated, ended_dep}
 use Rattle.laws_facts.proofs.WorkLemmas.{end_begin, ended_end, opens_next}
-use Rattle.laws_facts.specs.Facts.{Holds}
+use Rattle.laws_facts.specs.KnownFacts.{KnownFacts}
 use Rattle.laws_facts.specs.Kept.{HaveOwnLocks}
 use Rattle.laws_facts.specs.Tasks.{has_another_lock, is_open_task}
 use Rattle.laws_row_facts.specs.Words.{implies}
@@ -200,7 +200,7 @@ locks_note outside m entry may has t other =
     (has t other)
 
 pub locks_kept : (outside : Outside) (m : Moment) (move : Move) → IsPermitted outside m move
-    → Holds m → HaveOwnLocks (later m move).known
+    → KnownFacts m → HaveOwnLocks (later m move).known
 locks_kept outside m move may h =
     by_note outside HaveOwnLocks m (λ e also. locks_note outside m e also (λ t other. (h.tasks t).another_lock other))
     (λ t other. (h.tasks t).another_lock other) move may

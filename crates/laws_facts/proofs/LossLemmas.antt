@@ -19,7 +19,7 @@ use Rattle.laws_facts.proofs.InstanceLemmas as instances
 use Rattle.laws_facts.proofs.MachineLemmas as machines
 use Rattle.laws_facts.proofs.OrphanLemmas as orphans
 use Rattle.laws_facts.proofs.WorkLemmas.{opens_next}
-use Rattle.laws_facts.specs.Facts.{Holds}
+use Rattle.laws_facts.specs.KnownFacts.{KnownFacts}
 use Rattle.laws_facts.specs.Lists.{ListFacts, is_loss_noted}
 use Rattle.laws_row_facts.specs.Words.{implies}
 use Rattle.bosh_history.specs.Learn.{learn}
@@ -187,7 +187,7 @@ noted_move outside m (moves.Said said) may noted = noted
 -- ---- all facts on lists
 
 pub lists_kept : (outside : Outside) (m : Moment) (move : Move) → IsPermitted outside m move
-    → Holds m → ListFacts (later m move)
+    → KnownFacts m → ListFacts (later m move)
 lists_kept outside m move may h = record {
   instances_in_order = instances.order_kept outside m move may h;
   own_row = instances.own_kept outside m move may h;

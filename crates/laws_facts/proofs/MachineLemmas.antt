@@ -26,7 +26,7 @@ use Rattle.laws_facts.proofs.ListLemmas.{Tells, among_without}
 use Rattle.laws_facts.proofs.MoveLemmas.{by_note}
 use Rattle.laws_facts.proofs.OrderLemmas.{among_inserted, ascending_inserted, ascending_without}
 use Rattle.laws_facts.specs.CallFacts.{named}
-use Rattle.laws_facts.specs.Facts.{Holds}
+use Rattle.laws_facts.specs.KnownFacts.{KnownFacts}
 use Rattle.laws_facts.specs.Kept.{AreMachinesInOrder, AreMachinesListed}
 use Rattle.laws_row_facts.specs.Words.{are_ascending}
 use Rattle.bosh_history.specs.Calls.{begins, call_ended, compiles, ends_of, key_for, slot_answered}
@@ -180,7 +180,7 @@ listed_note outside m (entries.Snapshot s) may has t slot = absurd may
 listed_note outside m entry may has t s = has t s
 
 pub listed_kept : (outside : Outside) (m : Moment) (move : Move) → IsPermitted outside m move
-    → Holds m → AreMachinesListed (later m move).known
+    → KnownFacts m → AreMachinesListed (later m move).known
 listed_kept outside m move may h =
     by_note outside AreMachinesListed m (λ e also. listed_note outside m e also h.lists.machine_listed)
     h.lists.machine_listed move may
@@ -220,7 +220,7 @@ order_note outside m (entries.Snapshot s) may order = absurd may
 order_note outside m entry may order = order
 
 pub order_kept : (outside : Outside) (m : Moment) (move : Move) → IsPermitted outside m move
-    → Holds m → AreMachinesInOrder (later m move).known
+    → KnownFacts m → AreMachinesInOrder (later m move).known
 order_kept outside m move may h =
     by_note outside AreMachinesInOrder m (λ e also. order_note outside m e also h.lists.machines_in_order)
     h.lists.machines_in_order move may

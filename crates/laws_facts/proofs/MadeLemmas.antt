@@ -41,11 +41,13 @@ made_as old new (Some e) same is = by e.owner is
     by : (owner : Owner) → is_in_deployment_of old e.dep owner ≡ true → is_in_deployment_of new e.dep owner ≡ true
     by (Instance i) is = is
     by (Compile u s) is =
-        let (within, own) = and_parts (nat_le u old.tasks) (bytes_eq e.dep (dep_named (old.task u).dep)) is in
+        let (first, rest) = and_parts (nat_le 1 u) _ is in
+        let (within, own) = and_parts (nat_le u old.tasks) (bytes_eq e.dep (dep_named (old.task u).dep)) rest in
         let low : u ≤ old.tasks = leb-true u old.tasks within in
         let more : old.tasks ≤ new.tasks = same.tasks in
-        and_from (nat_le u new.tasks) _ (le-leb u new.tasks (omega (arith, low, more)))
-        ((λ j. bytes_eq e.dep (dep_named (same.dep u low j))) ∙ own)
+        and_from (nat_le 1 u) _ first
+        (and_from (nat_le u new.tasks) _ (le-leb u new.tasks (omega (arith, low, more)))
+        ((λ j. bytes_eq e.dep (dep_named (same.dep u low j))) ∙ own))
     by (Disk d) is = is
 
 pub same_tasks : (outside : Outside) (m : Moment) (e : Entry) → MayNote outside m e

@@ -1,7 +1,7 @@
 -- That machines are made in their deployments is kept by each move: machines are made for instances and for compile machines, in the deployments of these.
 use Rattle.std.proofs.Common.{◌≡◌, ◌∙◌, ℕ, Bool, true, false, ◌&&◌, List, [], ◌∷◌, ◌++◌, Option, Some, None}
 use Rattle.std.proofs.Common.{ap, refl, sym, subst, fold, append-nil}
-use Rattle.std.specs.Prelude.{◌==◌, if◌then◌else◌, nat_le}
+use Rattle.std.specs.Prelude.{◌==◌, if◌then◌else◌, is_some, nat_le}
 use Rattle.std.specs.Option.{option_eq}
 use Rattle.std.specs.Str.{bytes_eq}
 use Rattle.std.proofs.lemmas.Bool.{and_from, and_parts, eqb-true, false≢true}
@@ -19,10 +19,9 @@ use Rattle.bosh_base.specs.declared.moves.Stop as stop
 use Rattle.bosh_base.specs.declared.owner.Owner.{Owner}
 use Rattle.bosh_base.specs.declared.owner.Owner.TheVariants.{Compile, Disk, Instance}
 use Rattle.bosh_base.specs.declared.row.DiskRow.{DiskRow}
-use Rattle.bosh_base.specs.declared.snapshot.Orphan.{Orphan}
 use Rattle.laws_effects.proofs.CreationLemmas.{vm_creation-grown}
-use Rattle.laws_facts.specs.Facts.{Holds}
-use Rattle.laws_facts.specs.OpenCalls.{fits_orphan, fits_owner, fits_slot}
+use Rattle.laws_facts.specs.KnownFacts.{KnownFacts}
+use Rattle.laws_facts.specs.OpenCalls.{fits_known, fits_slot, is_on_orphan}
 use Rattle.laws_row_facts.specs.Words.{where_any}
 use Rattle.bosh_history.specs.Known.{Slot, dep_named}
 use Rattle.bosh_history.specs.Learn.{learn}
@@ -46,37 +45,39 @@ CanMake m =
 bytes_self : (text : List ℕ) → bytes_eq text text ≡ true
 bytes_self text = (bytes_eq-Decides text text).1 refl
 
-no_disk_makes : (n d : ℕ) (call : Call) (o : Option Orphan) → creates_vm call ≡ true
-    → holds (fits_orphan n call d) o ≡ true → ⊥
-no_disk_makes n d (calls.CreateVm make disks) None makes fits = false≢true fits
-no_disk_makes n d (calls.CreateVm make disks) (Some it) makes fits = false≢true fits
-no_disk_makes n d call o makes fits = false≢true makes
+no_disk_makes : (d : ℕ) (call : Call) (some : Bool) → creates_vm call ≡ true
+    → (is_on_orphan call d && some) ≡ true → ⊥
+no_disk_makes d (calls.CreateVm make disks) some makes fits = false≢true fits
+no_disk_makes d call some makes fits = false≢true makes
 
-pub can_make : (m : Moment) → Holds m → CanMake m
+pub can_make : (m : Moment) → KnownFacts m → CanMake m
 can_make m facts n call is makes = by call.begin.owner refl ((facts.calls n call is).fits)
   where
     of_slot : (t s : ℕ) (slot : Option Slot) → m.known.slot t s ≡ slot
-        → holds (fits_slot call.begin.n call.begin.call) slot ≡ true → nat_le t m.known.tasks ≡ true
+        → holds (fits_slot call.begin.n call.begin.call) slot ≡ true
+        → (nat_le 1 t ≡ true) × (nat_le t m.known.tasks ≡ true)
     of_slot t s None is fits = absurd (false≢true fits)
     of_slot t s (Some it) is fits =
         let own : (nat_le 1 t && (nat_le t m.known.tasks
         && option_eq bytes_eq (Some it.dep) (m.known.task t).dep)) ≡ true =
         (λ j. where_any (λ (it : Slot). nat_le 1 t && (nat_le t m.known.tasks
         && option_eq bytes_eq (Some it.dep) (m.known.task t).dep)) (sym is j)) ∙ facts.numbers.of_tasks t s in
-        (and_parts (nat_le t m.known.tasks) _ (and_parts (nat_le 1 t) _ own).1).0
+        let (first, rest) = and_parts (nat_le 1 t) _ own in
+        (first, (and_parts (nat_le t m.known.tasks) _ rest).0)
 
-    by : (owner : Owner) → call.begin.owner ≡ owner → fits_owner m.known call.begin call.begin.owner ≡ true
+    by : (owner : Owner) → call.begin.owner ≡ owner → fits_known m.known call.begin call.begin.owner ≡ true
         → is_in_deployment_of m.known (dep_of m.known call.begin.owner) call.begin.owner ≡ true
     by (Instance i) own fits =
         (λ j. is_in_deployment_of m.known (dep_of m.known (own j)) (own j)) ∙ bytes_self i.dep
     by (Compile t s) own fits =
+        let (first, within) =
+        of_slot t s (m.known.slot t s) refl ((λ j. fits_known m.known call.begin (sym own j)) ∙ fits) in
         (λ j. is_in_deployment_of m.known (dep_of m.known (own j)) (own j))
-        ∙ and_from (nat_le t m.known.tasks) _
-        (of_slot t s (m.known.slot t s) refl ((λ j. fits_owner m.known call.begin (sym own j)) ∙ fits))
-        (bytes_self (dep_named (m.known.task t).dep))
+        ∙ and_from (nat_le 1 t) _ first
+        (and_from (nat_le t m.known.tasks) _ within (bytes_self (dep_named (m.known.task t).dep)))
     by (Disk d) own fits =
-        absurd (no_disk_makes call.begin.n d call.begin.call (m.known.orphan d) makes
-        ((λ j. fits_owner m.known call.begin (sym own j)) ∙ fits))
+        absurd (no_disk_makes d call.begin.call (is_some (m.known.orphan d)) makes
+        ((λ j. fits_known m.known call.begin (sym own j)) ∙ fits))
 
 -- the call that was open, where one is once a call was performed
 pub record WasOpen (m : Moment) (n : ℕ) (call : OpenCall) : Type 0 where
@@ -177,13 +178,13 @@ known_written m None may = refl
 abbrev found : Moment → stop.Stop → Moment
 found m s = fold taking (with_written m s.wrote) s.took
 
-made_at_stop : (outside : Outside) (m : Moment) (s : stop.Stop) → Stops outside m s → Holds m
+made_at_stop : (outside : Outside) (m : Moment) (s : stop.Stop) → Stops outside m s → KnownFacts m
     → AreMade m.known m.effects → AreMade (found m s).known (found m s).effects
 made_at_stop outside m s may facts made =
     made_taken (with_written m s.wrote) s.took (can_written m s.wrote may.wrote (can_make m facts))
     (made_with m s.wrote may.wrote made)
 
-pub made_move : (outside : Outside) (m : Moment) (move : Move) → IsPermitted outside m move → Holds m
+pub made_move : (outside : Outside) (m : Moment) (move : Move) → IsPermitted outside m move → KnownFacts m
     → AreMade m.known m.effects → AreMade (later m move).known (later m move).effects
 made_move outside m (moves.Note e) may facts made v =
     made_as m.known (learn m.known e) (vm_creation m.effects v) (same_tasks outside m e may.2) (made v)
@@ -205,6 +206,6 @@ made_move outside m (moves.Lost loss) may facts made v =
 made_move outside m (moves.Said said) may facts made v = made v
 
 -- it is kept by each permitted move
-pub made_kept : (outside : Outside) (m : Moment) (move : Move) → IsPermitted outside m move → Holds m
+pub made_kept : (outside : Outside) (m : Moment) (move : Move) → IsPermitted outside m move → KnownFacts m
     → AreMadeInTheirDeployments (later m move)
 made_kept outside m move may facts = made_move outside m move may facts facts.makers

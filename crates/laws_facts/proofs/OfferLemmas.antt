@@ -16,7 +16,7 @@ use Rattle.laws_facts.proofs.CurrentLemmas.{done_works}
 use Rattle.laws_facts.proofs.FrameLemmas.{goals_begin, goals_end, goals_updated}
 use Rattle.laws_facts.proofs.ListLemmas.{bytes_tells}
 use Rattle.laws_facts.proofs.MoveLemmas.{by_followed}
-use Rattle.laws_facts.specs.Facts.{Holds}
+use Rattle.laws_facts.specs.KnownFacts.{KnownFacts}
 use Rattle.laws_facts.specs.Goals.{is_offered_now}
 use Rattle.laws_facts.specs.Kept.{AreTiesKept, AreTied}
 use Rattle.laws_facts.specs.TaskFacts.{WorkFacts}
@@ -149,7 +149,7 @@ empties t its kind is lists =
     (are_distinct same_inst t.to_ping && (is_empty t.disks && holds is_empty_goal t.goal))))))) now))))))) in
     empty_offers its (ap (holds is_empty_goal) (sym is) ∙ last)
 
-ties_done : (m : Moment) → Holds m → (done : ℕ) → may_follow m (entries.TaskDone done) ≡ true
+ties_done : (m : Moment) → KnownFacts m → (done : ℕ) → may_follow m (entries.TaskDone done) ≡ true
     → is_task_open m.known done ≡ true
     → AreTiesKept (settles (m.known.task done).kind (m.known.task done).goal (dep_of_task m.known done) m.known)
 ties_done m h done follows may dep goal is = by (m.known.task done).kind refl is
@@ -205,7 +205,7 @@ ties_done m h done follows may dep goal is = by (m.known.task done).kind refl is
 
 -- ---- entries
 
-ties_note : (outside : Outside) (m : Moment) → Holds m → (e : Entry) → may_follow m e ≡ true
+ties_note : (outside : Outside) (m : Moment) → KnownFacts m → (e : Entry) → may_follow m e ≡ true
     → MayNote outside m e → AreTiesKept (learn m.known e)
 ties_note outside m h (entries.Begin b) follows may dep goal is =
     ties_same m.known (learn m.known (entries.Begin b)) (goals_begin m b) (ties_now m h) dep goal is
@@ -225,7 +225,7 @@ ties_note outside m h entry follows may dep goal is =
     record { done = (ties_now m h dep goal is).done; now = (ties_now m h dep goal is).now }
 
 pub ties_kept : (outside : Outside) (m : Moment) (move : Move) → IsPermitted outside m move
-    → Holds m → AreTiesKept (later m move).known
+    → KnownFacts m → AreTiesKept (later m move).known
 ties_kept outside m move may h =
     by_followed outside AreTiesKept m (λ e follows also. ties_note outside m h e follows also)
     (ties_now m h) move may

@@ -22,7 +22,7 @@ use Rattle.laws_facts.proofs.FrameLemmas.{compiled_orphans, orphans_done, slot_o
 use Rattle.laws_facts.proofs.ListLemmas.{Tells, among_without}
 use Rattle.laws_facts.proofs.MoveLemmas.{by_note}
 use Rattle.laws_facts.proofs.OrderLemmas.{among_inserted, ascending_inserted, ascending_without}
-use Rattle.laws_facts.specs.Facts.{Holds}
+use Rattle.laws_facts.specs.KnownFacts.{KnownFacts}
 use Rattle.laws_facts.specs.Kept.{AreOrphansInOrder, AreOrphansListed}
 use Rattle.laws_facts.specs.Lists.{is_orphan_listed}
 use Rattle.laws_row_facts.specs.Words.{are_ascending, where_any}
@@ -152,7 +152,7 @@ listed_note outside m (entries.Snapshot s) may has d = absurd may
 listed_note outside m entry may has d = has d
 
 pub listed_kept : (outside : Outside) (m : Moment) (move : Move) → IsPermitted outside m move
-    → Holds m → AreOrphansListed (later m move).known
+    → KnownFacts m → AreOrphansListed (later m move).known
 listed_kept outside m move may h =
     by_note outside AreOrphansListed m (λ e also. listed_note outside m e also h.lists.orphan_listed)
     h.lists.orphan_listed move may
@@ -216,7 +216,7 @@ order_note outside m (entries.Snapshot s) may order = absurd may
 order_note outside m entry may order = order
 
 pub order_kept : (outside : Outside) (m : Moment) (move : Move) → IsPermitted outside m move
-    → Holds m → AreOrphansInOrder (later m move).known
+    → KnownFacts m → AreOrphansInOrder (later m move).known
 order_kept outside m move may h =
     by_note outside AreOrphansInOrder m (λ e also. order_note outside m e also h.lists.orphans_in_order)
     h.lists.orphans_in_order move may

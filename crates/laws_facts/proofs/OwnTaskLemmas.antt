@@ -23,7 +23,7 @@ use Rattle.laws_facts.proofs.FrameLemmas.{begun_tasks, compiled_slots, numbers_d
 use Rattle.laws_facts.proofs.ListLemmas.{Tells, bytes_tells}
 use Rattle.laws_facts.proofs.MoveLemmas.{by_followed}
 use Rattle.laws_facts.proofs.WorkLemmas.{IsUpTo, begun_works, is_up_to, opens_next}
-use Rattle.laws_facts.specs.Facts.{Holds}
+use Rattle.laws_facts.specs.KnownFacts.{KnownFacts}
 use Rattle.laws_facts.specs.Kept.{AreOfTheirTasks}
 use Rattle.laws_facts.specs.Numbers.{is_of_its_task}
 use Rattle.laws_facts.specs.Tasks.{lists_well}
@@ -96,7 +96,7 @@ its_own k t low high some = by (k.task t).dep refl
     by (Some dep) is = grind (arith, is, low, high, bytes_tells dep dep)
     by None is = absurd (grind (arith, is, some))
 
-made_of : (m : Moment) (b : Begin) (t s : ℕ) → Holds m → may_follow m (entries.Begin b) ≡ true → Begins m b
+made_of : (m : Moment) (b : Begin) (t s : ℕ) → KnownFacts m → may_follow m (entries.Begin b) ≡ true → Begins m b
     → call_now m b.task (Compile t s) ≡ Some b.call → (make : Make) (disks : List ℕ) → b.call ≡ CreateVm make disks
     → is_of m.known.tasks (m.known.task t).dep t (dep_of_task m.known t) ≡ true
 made_of m b t s h follows may now make disks creates = by (eqb_tells t b.task) (m.known.slot t s) refl now
@@ -140,7 +140,7 @@ begun_of n (DeleteVm vm) dep key (Some it) test made old = old
 begun_of n (DeleteVm vm) dep key None test made old = refl
 begun_of n call dep key slot test made old = old
 
-of_begin : (m : Moment) (b : Begin) → Holds m → may_follow m (entries.Begin b) ≡ true → Begins m b → (owner : Owner)
+of_begin : (m : Moment) (b : Begin) → KnownFacts m → may_follow m (entries.Begin b) ≡ true → Begins m b → (owner : Owner)
     → b.owner ≡ owner → (t s : ℕ)
     → where_any (λ it. is_of m.known.tasks (m.known.task t).dep t it.dep) ((begins b owner m.known).slot t s) ≡ true
 of_begin m b h follows may (Instance i) is t s = h.numbers.of_tasks t s
@@ -223,7 +223,7 @@ opened_of m o t s number is = by (m.known.slot t s) is
         (grind (arith, number)) (grind (arith, number, now, eqb_tells o.task t)) now
     by None now = refl
 
-of_note : (outside : Outside) (m : Moment) → Holds m → (e : Entry) → may_follow m e ≡ true → MayNote outside m e
+of_note : (outside : Outside) (m : Moment) → KnownFacts m → (e : Entry) → may_follow m e ≡ true → MayNote outside m e
     → AreOfTheirTasks (learn m.known e)
 of_note outside m h (entries.Begin b) follows may t s =
     (λ i. where_any (λ it. is_of (begun_tasks b b.owner m.known i) (dep_begin m b t i) t it.dep)
@@ -264,7 +264,7 @@ of_note outside m h (entries.Snapshot it) follows may t s = absurd may
 of_note outside m h entry follows may t s = h.numbers.of_tasks t s
 
 pub of_kept : (outside : Outside) (m : Moment) (move : Move) → IsPermitted outside m move
-    → Holds m → AreOfTheirTasks (later m move).known
+    → KnownFacts m → AreOfTheirTasks (later m move).known
 of_kept outside m move may h =
     by_followed outside AreOfTheirTasks m
     (λ e follows also. of_note outside m h e follows also) h.numbers.of_tasks move may

@@ -9,8 +9,9 @@ use Rattle.laws_facts.specs.CompileMachines.{SlotWorkFacts}
 use Rattle.laws_slots.specs.Slots.{SlotFacts}
 use Rattle.laws_facts.specs.Disks.{DiskFacts}
 use Rattle.laws_facts.specs.Facts.{Holds}
+use Rattle.laws_facts.specs.KnownFacts.{KnownFacts}
 use Rattle.laws_facts.specs.Lists.{ListFacts}
-use Rattle.laws_facts.specs.Numbers.{NumberFacts, is_doubt_past, is_doubt_its_own}
+use Rattle.laws_facts.specs.Numbers.{EffectFacts, NumberFacts, is_doubt_past, is_doubt_its_own}
 use Rattle.laws_facts.specs.TaskFacts.{TaskFacts}
 use Rattle.bosh_history.specs.Moments.{Moment, beginning, nothing}
 
@@ -48,11 +49,12 @@ start_numbers = record {
   past = λ n. grind (arith);
   doubts_past = no_doubt_past;
   rows_past = λ dep. refl;
-  done_as_told = λ n. refl;
-  doubts_own = no_doubt_own;
   of_tasks = λ t s. refl;
   none_opened = refl;
 }
+
+start_effects : EffectFacts start
+start_effects = record { done_as_told = λ n. refl; doubts_own = no_doubt_own }
 
 start_slot : (t s : ℕ) → SlotFacts [] (named t s) (start.known.slot t s)
 start_slot t s = record { shape = refl; created = refl; tied = refl }
@@ -96,18 +98,29 @@ start_addresses = record {
   take_over = λ a x y held also. absurd (grind (arith, no_address x a));
 }
 
-pub nothing_holds : Holds (beginning nothing)
-nothing_holds = record {
+-- what is known where nothing was there
+pub nothing_known_holds : KnownFacts (beginning nothing)
+nothing_known_holds = record {
   lists = start_lists;
   numbers = start_numbers;
-  cloud = start_cloud;
   makers = λ v. refl;
-  rows = start_row;
-  slots = start_slot;
+  machines = λ i. refl;
+  shapes = λ t s. refl;
   slots_work = start_slot_work;
-  disks = start_disk;
   calls = λ n call is. absurd cc;
   tasks = start_task;
   goals = λ dep goal is. absurd cc;
   addresses = start_addresses;
+}
+
+pub nothing_holds : Holds (beginning nothing)
+nothing_holds = record {
+  known = nothing_known_holds;
+  cloud = start_cloud;
+  effects = start_effects;
+  rows = start_row;
+  slots = start_slot;
+  disks = start_disk;
+  performed = λ n call is. absurd cc;
+  outcomes = λ t works. absurd (grind (arith, works));
 }

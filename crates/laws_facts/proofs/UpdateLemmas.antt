@@ -18,7 +18,7 @@ use Rattle.bosh_base.specs.declared.owner.Owner.TheVariants.{Instance, Compile, 
 use Rattle.laws_facts.proofs.CallLemmas.{none_open}
 use Rattle.laws_facts.proofs.DepLemmas.{dep_settled, dep_updated}
 use Rattle.laws_facts.proofs.WorkLemmas.{opens_next}
-use Rattle.laws_facts.specs.Facts.{Holds}
+use Rattle.laws_facts.specs.KnownFacts.{KnownFacts}
 use Rattle.laws_facts.specs.Kept.{HaveBegun}
 use Rattle.laws_facts.specs.Owners.{works}
 use Rattle.bosh_history.specs.Calls.{call_ended, failure_of, least_failure, number_of, task_after_ping, task_told, task_with_call}
@@ -46,7 +46,7 @@ told_begun call answer (Disk d) failed t (Instance i) apart begun = grind (arith
 told_begun call answer other failed t (Compile task slot) apart begun = refl
 told_begun call answer other failed t (Disk d) apart begun = refl
 
-begun_end : (m : Moment) → Holds m → (e : End) → EndsCall e (m.calls e.n) → (n : ℕ) (call : OpenCall)
+begun_end : (m : Moment) → KnownFacts m → (e : End) → EndsCall e (m.calls e.n) → (n : ℕ) (call : OpenCall)
     → (e.n == n) ≡ false
     → m.calls n ≡ Some call → has_begun ((learn m.known (entries.End e)).task call.begin.task) call.begin.owner ≡ true
 begun_end m h e may n call apart is = by (m.calls e.n) refl may
@@ -89,7 +89,7 @@ begun_end m h e may n call apart is = by (m.calls e.n) refl may
     by None that_is ends = absurd ends
 
 -- a mark on an instance without an open call
-marked : (m : Moment) → Holds m → (i : Inst) → is_idle m (Instance i) ≡ true → (t : ℕ) (change : Task → Task)
+marked : (m : Moment) → KnownFacts m → (i : Inst) → is_idle m (Instance i) ≡ true → (t : ℕ) (change : Task → Task)
     → ((task : Task) (owner : Owner) → owner ≢ Instance i → has_begun task owner ≡ true
     → has_begun (change task) owner ≡ true)
     → (n : ℕ) (call : OpenCall) → m.calls n ≡ Some call
@@ -134,7 +134,7 @@ busy i task (Disk d) begun = refl
 abbrev pub ended_by : Option TaskEnd → Task → Task
 ended_by end t = record t { end = end }
 
-ended : (m : Moment) → Holds m → (t : ℕ) (end : Option TaskEnd) (n : ℕ) (call : OpenCall) → m.calls n ≡ Some call
+ended : (m : Moment) → KnownFacts m → (t : ℕ) (end : Option TaskEnd) (n : ℕ) (call : OpenCall) → m.calls n ≡ Some call
     → has_begun (at eqb t (ended_by end (m.known.task t)) m.known.task call.begin.task) call.begin.owner ≡ true
 ended m h t end n call is = by (eqb_tells t call.begin.task)
   where
@@ -158,7 +158,7 @@ ended m h t end n call is = by (eqb_tells t call.begin.task)
 
 -- ---- entries
 
-begun_note : (outside : Outside) (m : Moment) → Holds m → (e : Entry) → MayNote outside m e → HaveBegun (noting m e)
+begun_note : (outside : Outside) (m : Moment) → KnownFacts m → (e : Entry) → MayNote outside m e → HaveBegun (noting m e)
 begun_note outside m h (entries.Begin b) may n call is = by (eqb_tells b.n n)
   where
     same : (t : ℕ) (owner : Owner)
@@ -231,7 +231,7 @@ begun_note outside m h (entries.TaskError e) may n call is =
 begun_note outside m h (entries.Snapshot s) may n call is = absurd may
 begun_note outside m h entry may n call is = (h.calls n call is).has_begun
 
-begun_move : (outside : Outside) (m : Moment) (move : Move) → IsPermitted outside m move → Holds m
+begun_move : (outside : Outside) (m : Moment) (move : Move) → IsPermitted outside m move → KnownFacts m
     → HaveBegun (later m move)
 begun_move outside m (moves.Note e) may h n call is = begun_note outside m h e may.2 n call is
 begun_move outside m (moves.Did d) may h n call is = by (eqb_tells d.n n)
@@ -251,5 +251,5 @@ begun_move outside m (moves.Stop s) may h n call is = absurd cc
 begun_move outside m move may h n call is = (h.calls n call is).has_begun
 
 pub begun_kept : (outside : Outside) (m : Moment) (move : Move) → IsPermitted outside m move
-    → Holds m → HaveBegun (later m move)
+    → KnownFacts m → HaveBegun (later m move)
 begun_kept outside m move may h = begun_move outside m move may h

@@ -27,7 +27,7 @@ use Rattle.bosh_base.specs.declared.moves.Move.{Move}
 use Rattle.bosh_base.specs.declared.moves.Move.TheVariants as moves
 use Rattle.laws_facts.proofs.FrameLemmas.{numbers_done, numbers_end, numbers_updated}
 use Rattle.laws_facts.proofs.MoveLemmas.{all_to}
-use Rattle.laws_facts.specs.Facts.{Holds}
+use Rattle.laws_facts.specs.KnownFacts.{KnownFacts}
 use Rattle.laws_facts.specs.Kept.{AreNumbersPast, AreOfWork}
 use Rattle.laws_facts.specs.Owners.{works}
 use Rattle.bosh_history.specs.Held.{is_open}
@@ -220,7 +220,7 @@ work_move outside m (moves.Stop s) may past has n call is = absurd cc
 work_move outside m move may past has n call is = has n call is
 
 pub work_kept : (outside : Outside) (m : Moment) (move : Move) → IsPermitted outside m move
-    → Holds m → AreOfWork
+    → KnownFacts m → AreOfWork
     (later m move)
 work_kept outside m move may h = work_move outside m move may h.numbers.past
     (λ n call is. (h.calls n call is).works)

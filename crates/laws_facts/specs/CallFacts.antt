@@ -11,7 +11,7 @@ use Rattle.laws_facts.specs.CompileMachines.{slot_broken}
 use Rattle.laws_slots.specs.Orphans.{is_orphan_as_recorded, orphan_answered}
 use Rattle.laws_slots.specs.Slots.{SlotFacts}
 use Rattle.laws_facts.specs.Disks.{is_recorded_once}
-use Rattle.laws_facts.specs.OpenCalls.{compiles_alone, compiles_new, fits_owner, has_migrated, is_call_of_item}
+use Rattle.laws_facts.specs.OpenCalls.{compiles_alone, compiles_new, fits_known, fits_owner, has_migrated, is_call_of_item}
 use Rattle.laws_facts.specs.OpenCalls.{is_of_another, is_orphan_answered, is_told_in_kind}
 use Rattle.laws_facts.specs.OpenCalls.{rows_answered, slot_as_before}
 use Rattle.laws_row_facts.specs.Calls.{row_before}
@@ -68,7 +68,7 @@ is_disk_kept_by m b disk d =
 
 -- ---- all
 
--- the facts on one open call
+-- the facts on one open call, by what entries and moves tell of calls
 pub record CallFacts (m : Moment) (n : ℕ) (call : OpenCall) : Type 0 where
   -- the call has its number, and it is known how it began
   pub number : call.begin.n ≡ n
@@ -79,22 +79,28 @@ pub record CallFacts (m : Moment) (n : ℕ) (call : OpenCall) : Type 0 where
   pub one_call : (other : ℕ) (that : OpenCall) → m.calls other ≡ Some that → that.begin.owner ≡ call.begin.owner →
       other ≡ n
   -- it is the call that is to be made
-  pub fits : fits_owner m.known call.begin call.begin.owner ≡ true
+  pub fits : fits_known m.known call.begin call.begin.owner ≡ true
   -- its owner is an item of the present phase
   pub of_item : is_call_of_item m call.begin ≡ true
-  -- its answer is of its kind, and its owner will be what the cloud has
+  -- its answer is of its kind
   pub in_kind : where_any (is_told_in_kind call.begin.call) call.did ≡ true
+  -- a key that it compiles is not compiled, and no other open call compiles it
+  pub compiles_new : compiles_new m.known call.begin.call ≡ true
+  pub compiles_alone : (other : ℕ) → compiles_alone m call other ≡ true
+  -- the update of a changed instance has begun, but for a ping
+  pub has_begun : has_begun (m.known.task call.begin.task) call.begin.owner ≡ true
+
+-- .. and by what the cloud has
+pub record PerformedFacts (m : Moment) (call : OpenCall) : Type 0 where
+  -- it is the call that is to be made, also for an orphaned disk, which no row has
+  pub fits_owner : fits_owner m.known call.begin call.begin.owner ≡ true
+  -- its owner will be what the cloud has
   pub owner_kept : IsOwnerKept m call.begin call.did call.begin.owner
   pub disks_kept : (disk : ℕ) → where_any (is_disk_kept_by m call.begin disk) call.did ≡ true
   -- a migration that was done left the disks with the same contents
   pub migrated : has_migrated m call ≡ true
-  -- a key that it compiles is not compiled, and no other open call compiles it
-  pub compiles_new : compiles_new m.known call.begin.call ≡ true
-  pub compiles_alone : (other : ℕ) → compiles_alone m call other ≡ true
   -- the task has heard of the machines that it asks
   pub heard_of : is_call_heard_of m call ≡ true
-  -- the update of a changed instance has begun, but for a ping
-  pub has_begun : has_begun (m.known.task call.begin.task) call.begin.owner ≡ true
 
 -- ---- the tests
 

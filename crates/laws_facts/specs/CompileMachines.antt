@@ -1,21 +1,16 @@
 -- Facts on one compile machine and its task.
-use Rattle.std.specs.Prelude.{◌≡◌, ℕ, Bool, true, false, nat_eq, not, ◌&&◌, ◌==◌, Option, Some, None, is_some, List, [], ◌∷◌, ◌++◌, codes}
-use Rattle.std.specs.Cmp.Lexicographic.{pointwise}
+use Rattle.std.specs.Prelude.{◌≡◌, ℕ, Bool, true, false, not, ◌&&◌, ◌==◌, Option, is_some, List, [], ◌∷◌, ◌++◌, codes}
 use Rattle.std.specs.Option.{option_eq}
-use Rattle.bosh_base.specs.Cloud.{vm_creation}
 use Rattle.bosh_base.specs.declared.call.Call.{Call}
-use Rattle.bosh_base.specs.declared.call.Call.TheVariants.{CreateVm, DeleteVm}
+use Rattle.bosh_base.specs.declared.call.Call.TheVariants.{DeleteVm}
 use Rattle.bosh_base.specs.declared.entry.Entry.{Entry}
 use Rattle.bosh_base.specs.declared.goal.Goal.{Goal}
 use Rattle.bosh_base.specs.declared.key.Key.{Key}
 use Rattle.bosh_base.specs.declared.make.Make.{Make}
-use Rattle.bosh_base.specs.declared.owner.Owner.{Owner}
 use Rattle.bosh_base.specs.declared.owner.Owner.TheVariants.{Compile}
-use Rattle.bosh_base.specs.declared.row.Doubt.{Doubt}
-use Rattle.bosh_base.specs.declared.row.Vm.{Vm}
 use Rattle.bosh_compile.specs.Readiness.{same_key}
 use Rattle.laws_facts.specs.Owners.{works}
-use Rattle.laws_slots.specs.Slots.{SlotFacts, has_shape, is_slot_created, is_slot_tied, owner_of}
+use Rattle.laws_slots.specs.Slots.{has_shape, is_slot_created, is_slot_tied, owner_of}
 use Rattle.laws_facts.specs.Words.{unless}
 use Rattle.laws_row_facts.specs.Words.{implies, where_any}
 use Rattle.bosh_history.specs.Items.{slots_of}
@@ -23,10 +18,8 @@ use Rattle.bosh_history.specs.Known.{Known, Slot, SlotName}
 use Rattle.bosh_history.specs.Moments.{Moment, OpenCall}
 use Rattle.bosh_history.specs.Slots.{is_compiled, is_ready}
 use Rattle.bosh_history.specs.Steps.{compile_make, nth, work_for}
-use Rattle.bosh_history.specs.Ties.{is_tied_slot, was_made_as}
 use Rattle.bosh_history.specs.Words.{holds}
 use Rattle.bosh_rows.specs.Same.{same_make, same_owner}
-use Rattle.bosh_rows.specs.Tied.{vms_of}
 
 -- ---- its record and the cloud
 

@@ -1,23 +1,18 @@
 -- Facts on one disk: one that is there is recorded once, and an orphaned one is what its record says.
-use Rattle.std.specs.Prelude.{◌≡◌, ℕ, ◌+◌, Bool, true, false, not, ◌&&◌, ◌||◌, ◌==◌, Option, Some, None, is_some, List, ◌++◌, count_by, codes}
+use Rattle.std.specs.Prelude.{◌≡◌, ℕ, ◌+◌, Bool, true, false, not, ◌||◌, ◌==◌, Option, Some, None, is_some, List, ◌++◌, count_by, codes}
 use Rattle.bosh_base.specs.Cloud.{disk_creation, is_disk_there}
-use Rattle.bosh_base.specs.declared.call.Call.{Call}
-use Rattle.bosh_base.specs.declared.call.Call.TheVariants.{DeleteDisk}
 use Rattle.bosh_base.specs.declared.entry.Effect.{Effect}
 use Rattle.bosh_base.specs.declared.entry.Entry.{Entry}
 use Rattle.bosh_base.specs.declared.inst.Inst.{Inst}
 use Rattle.bosh_base.specs.declared.owner.Owner.{Owner}
 use Rattle.bosh_base.specs.declared.owner.Owner.TheVariants.{Instance}
 use Rattle.bosh_base.specs.declared.row.Row.{Row}
-use Rattle.bosh_base.specs.declared.snapshot.Orphan.{Orphan}
 use Rattle.laws_slots.specs.Orphans.{is_orphan_as_recorded}
 use Rattle.laws_facts.specs.Words.{unless}
 use Rattle.laws_row_facts.specs.Words.{where_any}
 use Rattle.bosh_history.specs.Known.{Known}
-use Rattle.bosh_history.specs.Ties.{is_making, is_wanted_as}
+use Rattle.bosh_history.specs.Ties.{is_making}
 use Rattle.bosh_rows.specs.Tied.{one_if}
-use Rattle.bosh_history.specs.Words.{holds}
-use Rattle.bosh_rows.specs.Standing.{same_truth}
 
 -- ---- a disk that is there was created for an instance, and is recorded once
 

@@ -1,30 +1,32 @@
--- What holds at each moment of a permitted history, and is kept by each permitted move.
+-- All facts at a moment: those on what is known, and those that speak of what the cloud has. Each permitted move keeps
+-- those on what is known; of the others it is proved of some that one call keeps them.
 use Rattle.std.specs.Prelude.{◌≡◌, ℕ, Bool, true, false, Option, Some, None, List, [], ◌∷◌, ◌++◌}
 use Rattle.std.specs.List.{filter_map}
 use Rattle.bosh_base.specs.Cloud.{numbers_to, disks_created, disk_creation, vms_created, vm_creation}
 use Rattle.bosh_base.specs.declared.digest.Digest.{Digest}
 use Rattle.bosh_base.specs.declared.entry.Effect.{Effect}
-use Rattle.bosh_base.specs.declared.goal.Goal.{Goal}
 use Rattle.bosh_base.specs.declared.inst.Inst.{Inst}
 use Rattle.bosh_base.specs.declared.key.KeyWork.{KeyWork}
 use Rattle.bosh_base.specs.declared.owner.Owner.{Owner}
 use Rattle.bosh_base.specs.declared.owner.Owner.TheVariants.{Instance}
-use Rattle.laws_facts.specs.Addresses.{AddressFacts, addresses_broken}
-use Rattle.laws_facts.specs.CallFacts.{CallFacts, call_broken_at, named}
+use Rattle.laws_facts.specs.Addresses.{addresses_broken}
+use Rattle.laws_facts.specs.CallFacts.{PerformedFacts, call_broken_at, named}
 use Rattle.laws_facts.specs.Cloud.{cloud_broken}
 use Rattle.laws_row_facts.specs.Cloud.{CloudFacts}
-use Rattle.laws_facts.specs.CompileMachines.{SlotWorkFacts, slot_broken, slot_work_broken}
+use Rattle.laws_facts.specs.CompileMachines.{slot_broken, slot_work_broken}
 use Rattle.laws_slots.specs.Slots.{SlotFacts}
 use Rattle.laws_facts.specs.Counts.{HoldsClean, clean_broken_at}
 use Rattle.laws_facts.specs.Courses.{Course}
 use Rattle.laws_facts.specs.Disks.{DiskFacts, disk_broken}
-use Rattle.laws_facts.specs.Goals.{GoalFacts, goal_broken_at}
-use Rattle.laws_facts.specs.Lists.{ListFacts, lists_broken}
-use Rattle.laws_facts.specs.Makers.{is_machine_of_deployment, makers_broken}
-use Rattle.laws_facts.specs.Numbers.{NumberFacts, numbers_broken}
+use Rattle.laws_facts.specs.Goals.{goal_broken_at}
+use Rattle.laws_facts.specs.KnownFacts.{KnownFacts}
+use Rattle.laws_facts.specs.Lists.{lists_broken}
+use Rattle.laws_facts.specs.Makers.{makers_broken}
+use Rattle.laws_facts.specs.Numbers.{EffectFacts, numbers_broken}
+use Rattle.laws_facts.specs.Owners.{works}
 use Rattle.laws_facts.specs.Rows.{row_broken}
 use Rattle.laws_row_facts.specs.Rows.{RowFacts}
-use Rattle.laws_facts.specs.TaskFacts.{TaskFacts, task_broken}
+use Rattle.laws_facts.specs.TaskFacts.{OutcomeFacts, task_broken}
 use Rattle.laws_facts.specs.Words.{broken_of}
 use Rattle.bosh_history.specs.Goals.{instances_of}
 use Rattle.bosh_history.specs.Known.{Known, SlotName}
@@ -32,30 +34,22 @@ use Rattle.bosh_history.specs.Moments.{Moment, OpenCall}
 
 -- all facts at a moment
 pub record Holds (m : Moment) : Type 0 where
-  -- what is listed is what is recorded
-  pub lists : ListFacts m
-  -- the numbers of calls and tasks
-  pub numbers : NumberFacts m
+  -- what entries and open calls tell
+  pub known : KnownFacts m
   -- what was done to the cloud
   pub cloud : CloudFacts m.effects
-  -- each machine was made for an instance, or for a compile machine of a task that was opened, in its deployment
-  pub makers : (v : ℕ) → is_machine_of_deployment m v ≡ true
+  -- .. and under which numbers
+  pub effects : EffectFacts m
   -- each row and the cloud
   pub rows : (i : Inst) → RowFacts m.effects (m.known.row i)
   -- each compile machine and the cloud
   pub slots : (t s : ℕ) → SlotFacts m.effects (named t s) (m.known.slot t s)
-  -- what tasks make of them
-  pub slots_work : (t s : ℕ) → SlotWorkFacts m t s
   -- each disk
   pub disks : (d : ℕ) → DiskFacts m.effects m.known d
-  -- each open call
-  pub calls : (n : ℕ) (call : OpenCall) → m.calls n ≡ Some call → CallFacts m n call
-  -- each task
-  pub tasks : (t : ℕ) → TaskFacts m t
-  -- each current goal
-  pub goals : (dep : List ℕ) (goal : Goal) → m.known.goal dep ≡ Some goal → GoalFacts m.known dep goal
-  -- who holds which address
-  pub addresses : AddressFacts m
+  -- each open call and the cloud
+  pub performed : (n : ℕ) (call : OpenCall) → m.calls n ≡ Some call → PerformedFacts m call
+  -- each task that works and the cloud
+  pub outcomes : (t : ℕ) → works m t ≡ true → OutcomeFacts m t
 
 -- .. and with what is kept of each task
 pub record HoldsAll (built : KeyWork → List Digest → Digest) (c : Course) : Type 0 where

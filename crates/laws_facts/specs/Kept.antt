@@ -12,6 +12,7 @@ use Rattle.bosh_base.specs.declared.owner.Owner.{Owner}
 use Rattle.laws_facts.specs.Makers.{is_machine_of_deployment}
 use Rattle.laws_facts.specs.Facts.{Holds}
 use Rattle.laws_facts.specs.Goals.{has_sound_rows, is_offered_now}
+use Rattle.laws_facts.specs.KnownFacts.{KnownFacts}
 use Rattle.laws_facts.specs.Lists.{is_deployment_listed, is_machine_listed, is_orphan_listed, is_key_listed}
 use Rattle.laws_facts.specs.Numbers.{are_rows_past, is_doubt_past, is_number_past, is_of_its_task}
 use Rattle.laws_facts.specs.Owners.{works}
@@ -29,9 +30,14 @@ use Rattle.bosh_rows.specs.SoundSnapshot.{are_distinct}
 use Rattle.bosh_rows.specs.After.{bare}
 use Rattle.bosh_rows.specs.Same.{same_inst}
 
--- the fact holds after each permitted move, where all facts held before it
+-- the fact holds after each permitted move, where those on what is known held before it
 abbrev pub IsKept : (Moment → Type 0) → Type 0
 IsKept Fact =
+    (outside : Outside) (m : Moment) (move : Move) → IsPermitted outside m move → KnownFacts m → Fact (later m move)
+
+-- .. where all facts held before it
+abbrev pub IsKeptByAll : (Moment → Type 0) → Type 0
+IsKeptByAll Fact =
     (outside : Outside) (m : Moment) (move : Move) → IsPermitted outside m move → Holds m → Fact (later m move)
 
 -- a fact on what is recorded alone

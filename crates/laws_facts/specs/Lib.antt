@@ -9,6 +9,7 @@ pub mod Disks
 pub mod Facts
 pub mod Goals
 pub mod Kept
+pub mod KnownFacts
 pub mod Lists
 pub mod Makers
 pub mod Numbers

@@ -12,7 +12,8 @@ use Rattle.bosh_history.specs.Moments.{Moment}
 -- the deployment is that of the instance, or of the task of the compile machine, which was opened; a disk has none
 abbrev pub is_in_deployment_of : Known → List ℕ → Owner → Bool
 is_in_deployment_of k dep (Instance i) = bytes_eq dep i.dep
-is_in_deployment_of k dep (Compile t s) = nat_le t k.tasks && bytes_eq dep (dep_named (k.task t).dep)
+is_in_deployment_of k dep (Compile t s) =
+    nat_le 1 t && (nat_le t k.tasks && bytes_eq dep (dep_named (k.task t).dep))
 is_in_deployment_of k dep (Disk d) = false
 
 -- what was made was made so

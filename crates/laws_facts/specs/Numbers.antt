@@ -89,14 +89,17 @@ pub record NumberFacts (m : Moment) : Type 0 where
   pub past : (n : ℕ) → is_number_past m n ≡ true
   pub doubts_past : (owner : Owner) → is_doubt_past m.known owner ≡ true
   pub rows_past : (dep : List ℕ) → are_rows_past m.known dep ≡ true
-  -- an open call has had its effect where it is told so, and no other effect has its number
-  pub done_as_told : (n : ℕ) → is_call_done_as_told m n ≡ true
-  -- an effect of the number of a call in doubt is that call's, and so is an open call
-  pub doubts_own : (owner : Owner) → is_doubt_its_own m owner ≡ true
   -- a compile machine is of a task that was opened, and of its deployment
   pub of_tasks : (t s : ℕ) → is_of_its_task m.known t s ≡ true
   -- while a task is left that a stop interrupted, none was opened since
   pub none_opened : none_opened_since m ≡ true
+
+-- the facts on what was done under these numbers
+pub record EffectFacts (m : Moment) : Type 0 where
+  -- an open call has had its effect where it is told so, and no other effect has its number
+  pub done_as_told : (n : ℕ) → is_call_done_as_told m n ≡ true
+  -- an effect of the number of a call in doubt is that call's, and so is an open call
+  pub doubts_own : (owner : Owner) → is_doubt_its_own m owner ≡ true
 
 -- the tags of those that do not hold
 abbrev pub numbers_broken : Moment → List (List ℕ)

@@ -21,7 +21,7 @@ use Rattle.bosh_lawful.specs.Clean.{is_failed}
 use Rattle.laws_facts.specs.Owners.{is_doubt}
 use Rattle.laws_row_facts.specs.Calls.{is_ping, row_before}
 use Rattle.laws_row_facts.specs.Words.{implies, where_any, same_call}
-use Rattle.bosh_history.specs.Calls.{orphan_told, shows_gone, shows_there}
+use Rattle.bosh_history.specs.Calls.{shows_gone}
 use Rattle.bosh_history.specs.DiskContents.{same_contents}
 use Rattle.bosh_history.specs.Items.{is_item, is_to_ping}
 use Rattle.bosh_history.specs.Known.{Known, Slot, Task}
@@ -78,6 +78,17 @@ abbrev pub fits_owner : Known → Begin → Owner → Bool
 fits_owner k b (Instance i) = fits_row (k.task b.task) b i (k.row i)
 fits_owner k b (Compile t s) = holds (fits_slot b.n b.call) (k.slot t s)
 fits_owner k b (Disk d) = holds (fits_orphan b.n b.call d) (k.orphan d)
+
+-- .. by what entries tell: of an orphaned disk, that it is recorded and that the call is one on it
+abbrev pub is_on_orphan : Call → ℕ → Bool
+is_on_orphan (calls.DeleteDisk disk) d = disk == d
+is_on_orphan (calls.HasDisk disk) d = disk == d
+is_on_orphan call d = false
+
+-- .. for its owner
+abbrev pub fits_known : Known → Begin → Owner → Bool
+fits_known k b (Disk d) = is_on_orphan b.call d && is_some (k.orphan d)
+fits_known k b owner = fits_owner k b owner
 
 -- ---- its task, and the others
 

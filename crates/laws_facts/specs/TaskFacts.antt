@@ -22,7 +22,7 @@ use Rattle.bosh_history.specs.Moments.{Moment}
 use Rattle.bosh_history.specs.Sound.{is_alike, same_offer, same_plan}
 use Rattle.bosh_rows.specs.Same.{same_make, same_state, same_tie}
 
--- of one that works
+-- of one that works, by what entries tell
 pub record WorkFacts (m : Moment) (t : ℕ) : Type 0 where
   -- its goal is the current one of its deployment
   pub current : (dep : List ℕ) → (m.known.task t).dep ≡ Some dep → m.known.goal dep ≡ (m.known.task t).goal
@@ -30,22 +30,25 @@ pub record WorkFacts (m : Moment) (t : ℕ) : Type 0 where
   pub lists_well : lists_well (m.known.task t) ≡ true
   -- a recorded row of the deployment is of the goal or is to go
   pub has_place : (i : Inst) → has_place m.known (m.known.task t) i ≡ true
-  -- an instance that is through stands
-  pub stands : (i : Inst) → stands_where_through m.known (m.known.task t) i ≡ true
   -- an instance whose update began, or is done, is one of those that change
   pub update_listed : (i : Inst) → is_update_listed (m.known.task t) i ≡ true
   -- an instance whose update began is a canary, or all canaries are done
   pub in_turn : (i : Inst) → is_in_turn (m.known.task t) i ≡ true
   -- a row that is to be asked has a machine
   pub can_be_asked : (i : Inst) → can_be_asked m.known (m.known.task t) i ≡ true
-  -- a listed disk is orphaned, or is not there any more
-  pub to_delete : (d : ℕ) → is_disk_to_delete m (m.known.task t) d ≡ true
   -- no row that is to go has an address of its one instance
   pub is_addressed : is_addressed m.known (m.known.task t) ≡ true
+
+-- .. by what the cloud has
+pub record OutcomeFacts (m : Moment) (t : ℕ) : Type 0 where
+  -- an instance that is through stands
+  pub stands : (i : Inst) → stands_where_through m.known (m.known.task t) i ≡ true
+  -- a listed disk is orphaned, or is not there any more
+  pub to_delete : (d : ℕ) → is_disk_to_delete m (m.known.task t) d ≡ true
   -- the task has heard of the machines that it asks
   pub is_heard_of : (i : Inst) → is_heard_of m t i ≡ true
 
--- the facts on one task
+-- the facts on one task, by what entries tell
 pub record TaskFacts (m : Moment) (t : ℕ) : Type 0 where
   -- another open task has another lock
   pub another_lock : (other : ℕ) → has_another_lock m.known t other ≡ true

@@ -43,7 +43,7 @@ use Rattle.bosh_rows.specs.Standing.{same_truth}
 use Rattle.laws_facts.proofs.CurrentLemmas.{done_works, none_works, worked}
 use Rattle.laws_facts.proofs.LockLemmas.{is_opening, note_stays}
 use Rattle.laws_facts.proofs.WorkLemmas.{opens_next}
-use Rattle.laws_facts.specs.Facts.{Holds}
+use Rattle.laws_facts.specs.KnownFacts.{KnownFacts}
 use Rattle.laws_facts.specs.OpenCalls.{is_asked}
 use Rattle.laws_facts.specs.Owners.{works}
 use Rattle.laws_facts.specs.Tasks.{can_be_asked, is_through}
@@ -84,7 +84,7 @@ asked_from old new t i on machine finished was = by (is_to_ping (new.task t) i) 
 
 -- ---- one task alone has a word on an instance that it is to ask
 
-module _ (m : Moment) (h : Holds m) (t : ℕ) (working : works m t ≡ true) where
+module _ (m : Moment) (h : KnownFacts m) (t : ℕ) (working : works m t ≡ true) where
   -- an instance that a task lists is of its deployment
   listed_dep : (i : Inst) → is_to_ping (m.known.task t) i ≡ true → (m.known.task t).dep ≡ Some i.dep
   listed_dep i asks =
@@ -120,7 +120,7 @@ module _ (m : Moment) (h : Holds m) (t : ℕ) (working : works m t ≡ true) whe
       let it : (p : ℕ) × IsLeft m.known t (Instance i) p = of_item m.known t (Instance i) item in
       left_dep i it.0 it.1.phase
 
-same_task : (m : Moment) → Holds m → (t u : ℕ) → works m t ≡ true → works m u ≡ true → (i : Inst)
+same_task : (m : Moment) → KnownFacts m → (t u : ℕ) → works m t ≡ true → works m u ≡ true → (i : Inst)
     → is_to_ping (m.known.task t) i ≡ true → is_item m.known u (Instance i) ≡ true → u ≡ t
 same_task m h t u one other i asks item =
     one_lock m u t h other one (item_dep m h u other i item ∙ sym (listed_dep m h t one i asks))
@@ -145,7 +145,7 @@ pinged_at k b answer i vm t task own call told =
     by answers.Failed told = absurd (false≢true (sym told))
     by answer told = λ j. if (same_inst_decides i i).1 refl j then true else (k.task t).pinged i
 
-module _ (outside : Outside) (m : Moment) (h : Holds m) (t : ℕ) (working : works m t ≡ true) (i : Inst) where
+module _ (outside : Outside) (m : Moment) (h : KnownFacts m) (t : ℕ) (working : works m t ≡ true) (i : Inst) where
   was : can_be_asked m.known (m.known.task t) i ≡ true
   was = ((h.tasks t).working working).can_be_asked i
 
@@ -352,7 +352,7 @@ asked_new k o i may = by (is_to_ping (task_opened k o) i) refl
         ∙ and_from (is_some (k.row i).vm) _ machine.0
         (and_from (not (k.row i).lost) _ machine.1 (ap not (not_through k o i o.kind refl may parts.0)))
 
-asked_opened : (m : Moment) (o : TaskOpen) → Holds m → MayOpen m.known o → (t : ℕ) (i : Inst)
+asked_opened : (m : Moment) (o : TaskOpen) → KnownFacts m → MayOpen m.known o → (t : ℕ) (i : Inst)
     → works (noting m (entries.TaskOpen o)) t ≡ true
     → can_be_asked (learn m.known (entries.TaskOpen o)) ((learn m.known (entries.TaskOpen o)).task t) i ≡ true
 asked_opened m o h may t i working = by (eqb_tells o.task t)
@@ -368,7 +368,7 @@ asked_opened m o h may t i working = by (eqb_tells o.task t)
 
 -- ---- moves
 
-asked_note : (outside : Outside) (m : Moment) (e : Entry) → Holds m → may_follow m e ≡ true → MayNote outside m e
+asked_note : (outside : Outside) (m : Moment) (e : Entry) → KnownFacts m → may_follow m e ≡ true → MayNote outside m e
     → CanBeAsked (noting m e)
 asked_note outside m (entries.TaskOpen o) h follows may t i working = asked_opened m o h may.0 t i working
 asked_note outside m (entries.End e) h follows may t i working =
@@ -386,12 +386,12 @@ asked_note outside m (entries.Snapshot s) h follows may t i working = absurd may
 asked_note outside m entry h follows may t i working =
     asked_spared outside m h t (worked m entry t (note_stays outside m entry may refl t) working) i entry may refl tt
 
-asked_move : (outside : Outside) (m : Moment) (move : Move) → IsPermitted outside m move → Holds m
+asked_move : (outside : Outside) (m : Moment) (move : Move) → IsPermitted outside m move → KnownFacts m
     → CanBeAsked (later m move)
 asked_move outside m (moves.Note e) may h t i working = asked_note outside m e h may.1 may.2 t i working
 asked_move outside m (moves.Stop s) may h t i working = absurd (false≢true (sym (none_works m s t) ∙ working))
 asked_move outside m move may h t i working = ((h.tasks t).working working).can_be_asked i
 
-pub asked_kept : (outside : Outside) (m : Moment) (move : Move) → IsPermitted outside m move → Holds m
+pub asked_kept : (outside : Outside) (m : Moment) (move : Move) → IsPermitted outside m move → KnownFacts m
     → CanBeAsked (later m move)
 asked_kept outside m move may h = asked_move outside m move may h

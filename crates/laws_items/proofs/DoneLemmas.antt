@@ -16,7 +16,7 @@ use Rattle.bosh_history.specs.Slots.{is_compiled, is_ready, is_taken, keys_of, m
 use Rattle.bosh_history.specs.Steps.{nth}
 use Rattle.bosh_history.specs.Words.{holds}
 use Rattle.laws_facts.specs.CompileMachines.{is_for_work, is_make_for, is_slot_of_goal}
-use Rattle.laws_facts.specs.Facts.{Holds}
+use Rattle.laws_facts.specs.KnownFacts.{KnownFacts}
 use Rattle.laws_facts.specs.Owners.{works}
 use Rattle.laws_items.proofs.KeyLemmas.{is_next, one_is_next}
 use Rattle.laws_items.proofs.ListLemmas.{Meets, found, none_from}
@@ -35,7 +35,7 @@ nth_below (suc s) (x ∷ xs) is =
     let below : s < length xs = ltb-true s (length xs) (nth_below s xs is) in
     lt-ltb (suc s) (length (x ∷ xs)) (omega arith)
 
-module _ (m : Moment) (t : ℕ) (h : Holds m) (working : works m t ≡ true) where
+module _ (m : Moment) (t : ℕ) (h : KnownFacts m) (working : works m t ≡ true) where
   -- a compile machine of the task is of its goal
   pub of_goal : (s : ℕ) (it : Slot) → m.known.slot t s ≡ Some it → is_slot_of_goal m t s it ≡ true
   of_goal s it is =
@@ -60,7 +60,7 @@ module _ (m : Moment) (t : ℕ) (h : Holds m) (working : works m t ≡ true) whe
           ap (λ goal. stand_after_needs (is_compiled m.known) [] (keys_of goal)) it.goal_is
           ∙ (goal_facts m t h working it).can_be_compiled
 
-  keys_slotted : list_all (λ work. is_compiled m.known work.key) (keys_of (m.known.task t).goal) ≡ false
+  pub keys_slotted : list_all (λ work. is_compiled m.known work.key) (keys_of (m.known.task t).goal) ≡ false
       → nat_lt 0 (length (slots_of (m.known.task t).goal)) ≡ true
   keys_slotted some = by (lists m t h working)
     where

@@ -34,7 +34,7 @@ use Rattle.bosh_rows.specs.Standing.{same_truth}
 use Rattle.laws_compiling.proofs.GrowthLemmas.{compiled_stays}
 use Rattle.laws_facts.proofs.DepLemmas.{dep_begin}
 use Rattle.laws_facts.proofs.WorkLemmas.{begun_works, opens_next}
-use Rattle.laws_facts.specs.Facts.{Holds}
+use Rattle.laws_facts.specs.KnownFacts.{KnownFacts}
 use Rattle.laws_facts.specs.Owners.{works}
 use Rattle.laws_items.proofs.ListLemmas.{among_is, holds_some}
 use Rattle.laws_items.proofs.ListedLemmas.{Lists, at_some, disks, instances, lists, one_lock}
@@ -59,7 +59,7 @@ truth_from true b same is = refl
 truth_from false true same is = absurd (false≢true same)
 truth_from false false same is = absurd (false≢true is)
 
-pub are_listed : (m : Moment) → Holds m → AreListed m.known
+pub are_listed : (m : Moment) → KnownFacts m → AreListed m.known
 are_listed m h name is =
     among_is same_slot same_slot_is name m.known.machines
     (truth_from (is_among same_slot name m.known.machines) (is_some (m.known.slot name.task name.slot))
@@ -71,7 +71,7 @@ same_dep_is dep (Some other) same = ap Some (sym ((bytes_eq-Decides dep other).0
 same_dep_is dep None same = absurd (false≢true same)
 
 -- a compile machine has the deployment of its task
-pub slot_dep : (m : Moment) (t s : ℕ) (it : Slot) → Holds m → m.known.slot t s ≡ Some it
+pub slot_dep : (m : Moment) (t s : ℕ) (it : Slot) → KnownFacts m → m.known.slot t s ≡ Some it
     → (m.known.task t).dep ≡ Some it.dep
 slot_dep m t s it h is =
     let (low, rest) = and_parts (nat_le 1 t) _
@@ -202,7 +202,7 @@ nth_none : {X : Type 0} (s : ℕ) (x : X) → nth {A = X} s [] ≡ Some x → �
 nth_none zero x is = absurd cc
 nth_none (suc s) x is = absurd cc
 
-module _ (m : Moment) (h : Holds m) (b : Begin) (follows : may_follow m (entries.Begin b) ≡ true) (may : Begins m b)
+module _ (m : Moment) (h : KnownFacts m) (b : Begin) (follows : may_follow m (entries.Begin b) ≡ true) (may : Begins m b)
     (s : ℕ) (work : KeyWork) (make : Make) (own : b.owner ≡ Compile b.task s) (none : m.known.slot b.task s ≡ None)
     (at_make : nth s (slots_of (m.known.task b.task).goal) ≡ Some make)
     (is : calls.CreateVm (compile_make work.key make) [] ≡ b.call) where
@@ -322,7 +322,7 @@ module _ (m : Moment) (h : Holds m) (b : Begin) (follows : may_follow m (entries
 
 -- ---- all entries
 
-module _ (outside : Outside) (m : Moment) (h : Holds m) where
+module _ (outside : Outside) (m : Moment) (h : KnownFacts m) where
   onward_begun : (b : Begin) → may_follow m (entries.Begin b) ≡ true → Begins m b → (t : ℕ) → works m t ≡ true
       → BegunSlots m b → Onward m.known (learn m.known (entries.Begin b)) t
   onward_begun b follows may t working (all_were was) =

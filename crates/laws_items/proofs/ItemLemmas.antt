@@ -37,8 +37,8 @@ use Rattle.bosh_rows.specs.Same.{same_inst}
 use Rattle.bosh_rows.specs.Standing.{same_truth}
 use Rattle.laws_facts.proofs.CallLemmas.{none_open}
 use Rattle.laws_facts.proofs.WorkLemmas.{begun_works, opens_next}
-use Rattle.laws_facts.specs.Facts.{Holds}
-use Rattle.laws_facts.specs.OpenCalls.{fits_orphan, fits_owner, fits_slot, is_asked, is_call_of_item}
+use Rattle.laws_facts.specs.KnownFacts.{KnownFacts}
+use Rattle.laws_facts.specs.OpenCalls.{fits_known, fits_slot, is_asked, is_call_of_item, is_on_orphan}
 use Rattle.laws_facts.specs.Owners.{works}
 use Rattle.laws_items.proofs.DoneLemmas.{some_from}
 use Rattle.laws_items.proofs.ItemFrames.{are_listed, onward}
@@ -122,7 +122,7 @@ module _ (old new : Known) (t p : ℕ) (alike : OpenedAlike (old.task t) (new.ta
   phase_stays (Disk d) same was = phase_disk d same was
 
 -- an item of a task that works stays one, where its phase does
-item_stays : (m : Moment) (h : Holds m) (t : ℕ) → works m t ≡ true → (new : Known) → Onward m.known new t
+item_stays : (m : Moment) (h : KnownFacts m) (t : ℕ) → works m t ≡ true → (new : Known) → Onward m.known new t
     → (owner : Owner) → Alike m.known new t owner → is_item m.known t owner ≡ true → is_item new t owner ≡ true
 item_stays m h t working new on owner same item =
     let it : (p : ℕ) × IsLeft m.known t owner p = of_item m.known t owner item in
@@ -143,11 +143,11 @@ asked_stays old new t alike (Disk d) same = refl
 -- ---- a call that was open
 
 -- the entry is no answer to the call
-abbrev LeavesOpen : Entry → ℕ → Type 0
+abbrev pub LeavesOpen : Entry → ℕ → Type 0
 LeavesOpen (entries.End e) n = (e.n == n) ≡ false
 LeavesOpen entry n = Unit {0}
 
-module _ (outside : Outside) (m : Moment) (h : Holds m) (n : ℕ) (call : OpenCall) (is : m.calls n ≡ Some call) where
+module _ (outside : Outside) (m : Moment) (h : KnownFacts m) (n : ℕ) (call : OpenCall) (is : m.calls n ≡ Some call) where
   -- an answer to another call is of another owner
   answer_apart : (e : End) → EndsCall e (m.calls e.n) → (e.n == n) ≡ false → (b : Begin) → m.known.begun e.n ≡ Some b
       → b.owner ≢ call.begin.owner
@@ -163,7 +163,7 @@ module _ (outside : Outside) (m : Moment) (h : Holds m) (n : ℕ) (call : OpenCa
       by None that_is ends = absurd ends
 
   -- an entry that does not answer it spares its owner
-  spares : (e : Entry) → MayNote outside m e → LeavesOpen e n → Spares m e call.begin.owner
+  pub spares : (e : Entry) → MayNote outside m e → LeavesOpen e n → Spares m e call.begin.owner
   spares (entries.End e) may other = answer_apart e may other
   spares (entries.UpdDone u) may other =
       λ own. none_open m (Instance u.inst) h.numbers.past may.is_idle n call is (sym own)
@@ -175,15 +175,15 @@ module _ (outside : Outside) (m : Moment) (h : Holds m) (n : ℕ) (call : OpenCa
   slot_some : (task s : ℕ) → call.begin.owner ≡ Compile task s → is_some (m.known.slot task s) ≡ true
   slot_some task s own =
       some_from (fits_slot call.begin.n call.begin.call) (m.known.slot task s)
-      (subst (λ owner. fits_owner m.known call.begin owner ≡ true) own (h.calls n call is).fits)
+      (subst (λ owner. fits_known m.known call.begin owner ≡ true) own (h.calls n call is).fits)
 
   orphan_some : (d : ℕ) → call.begin.owner ≡ Disk d → is_some (m.known.orphan d) ≡ true
   orphan_some d own =
-      some_from (fits_orphan call.begin.n call.begin.call d) (m.known.orphan d)
-      (subst (λ owner. fits_owner m.known call.begin owner ≡ true) own (h.calls n call is).fits)
+      (and_parts (is_on_orphan call.begin.call d) (is_some (m.known.orphan d))
+      (subst (λ owner. fits_known m.known call.begin owner ≡ true) own (h.calls n call is).fits)).1
 
   -- its compile machine stays as it is
-  slot_same : (e : Entry) → MayNote outside m e → (task s : ℕ) → call.begin.owner ≡ Compile task s
+  pub slot_same : (e : Entry) → MayNote outside m e → (task s : ℕ) → call.begin.owner ≡ Compile task s
       → Spares m e (Compile task s) → (learn m.known e).slot task s ≡ m.known.slot task s
   slot_same (entries.Begin b) may task s own apart =
       begun_apart b b.owner m.known task s
@@ -197,7 +197,7 @@ module _ (outside : Outside) (m : Moment) (h : Holds m) (n : ℕ) (call : OpenCa
   apart_opened o may =
       grind (arith, opens_next m.known o may.0, (h.calls n call is).works, eqb_tells o.task call.begin.task)
 
-  mark_stays : (e : Entry) → MayNote outside m e → (owner : Owner) → Spares m e owner
+  pub mark_stays : (e : Entry) → MayNote outside m e → (owner : Owner) → Spares m e owner
       → SameMark owner (m.known.task call.begin.task) ((learn m.known e).task call.begin.task)
   mark_stays (entries.TaskOpen o) may owner apart =
       subst
@@ -236,7 +236,7 @@ module _ (outside : Outside) (m : Moment) (h : Holds m) (n : ℕ) (call : OpenCa
 
 -- ---- a call that begins
 
-module _ (outside : Outside) (m : Moment) (h : Holds m) (b : Begin) (follows : may_follow m (entries.Begin b) ≡ true)
+module _ (outside : Outside) (m : Moment) (h : KnownFacts m) (b : Begin) (follows : may_follow m (entries.Begin b) ≡ true)
     (may : Begins m b) where
   abbrev new : Known
   new = learn m.known (entries.Begin b)
@@ -250,7 +250,7 @@ module _ (outside : Outside) (m : Moment) (h : Holds m) (b : Begin) (follows : m
   asks_slot task s (looks it vm doubt other at_slot has doubted is) = sym (λ j. is_ping (is j))
 
   -- it is a ping just where its owner is to be asked
-  asks : (owner : Owner) → call_now m b.task owner ≡ Some b.call
+  pub asks : (owner : Owner) → call_now m b.task owner ≡ Some b.call
       → same_truth (is_ping b.call) (is_asked (m.known.task b.task) owner) ≡ true
   asks (Instance i) is = by (is_to_ping (m.known.task b.task) i) refl (m.known.row i).vm is
     where
@@ -356,7 +356,7 @@ module _ (outside : Outside) (m : Moment) (h : Holds m) (b : Begin) (follows : m
 
 -- ---- moves
 
-items_note : (outside : Outside) (m : Moment) (e : Entry) → Holds m → may_follow m e ≡ true → MayNote outside m e
+items_note : (outside : Outside) (m : Moment) (e : Entry) → KnownFacts m → may_follow m e ≡ true → MayNote outside m e
     → AreOfItems (noting m e)
 items_note outside m (entries.Begin b) h follows may n call is = by (eqb b.n n) refl is
   where
@@ -379,7 +379,7 @@ items_note outside m (entries.End e) h follows may n call is = by (eqb e.n n) re
 items_note outside m (entries.Snapshot s) h follows may n call is = absurd may
 items_note outside m entry h follows may n call is = item_noted outside m h n call is entry follows may tt
 
-items_move : (outside : Outside) (m : Moment) (move : Move) → IsPermitted outside m move → Holds m
+items_move : (outside : Outside) (m : Moment) (move : Move) → IsPermitted outside m move → KnownFacts m
     → AreOfItems (later m move)
 items_move outside m (moves.Note e) may h n call is = items_note outside m e h may.1 may.2 n call is
 items_move outside m (moves.Did d) may h n call is = by (eqb d.n n) refl (m.calls d.n) refl is
@@ -398,6 +398,6 @@ items_move outside m (moves.Did d) may h n call is = by (eqb d.n n) refl (m.call
 items_move outside m (moves.Stop s) may h n call is = absurd cc
 items_move outside m move may h n call is = (h.calls n call is).of_item
 
-pub items_kept : (outside : Outside) (m : Moment) (move : Move) → IsPermitted outside m move → Holds m
+pub items_kept : (outside : Outside) (m : Moment) (move : Move) → IsPermitted outside m move → KnownFacts m
     → AreOfItems (later m move)
 items_kept outside m move may h = items_move outside m move may h

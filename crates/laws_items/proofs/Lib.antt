@@ -8,6 +8,7 @@ pub mod ListedLemmas
 pub mod MarkLemmas
 pub mod OnwardLemmas
 pub mod OrphanFrames
+pub mod OwnerLemmas
 pub mod PhaseLemmas
 pub mod PingLemmas
 pub mod RowFrames

@@ -12,7 +12,7 @@ use Rattle.bosh_base.specs.Cloud.{numbers_to}
 use Rattle.bosh_base.specs.declared.goal.Goal.{Goal}
 use Rattle.bosh_base.specs.declared.goal.GoalRow.{GoalRow}
 use Rattle.bosh_base.specs.declared.inst.Inst.{Inst}
-use Rattle.laws_facts.specs.Facts.{Holds}
+use Rattle.laws_facts.specs.KnownFacts.{KnownFacts}
 use Rattle.laws_facts.specs.Goals.{GoalFacts}
 use Rattle.laws_facts.specs.Owners.{works}
 use Rattle.laws_facts.specs.Tasks.{is_of, is_open_task, lists_disks, lists_instances}
@@ -81,7 +81,7 @@ same_option None None same = refl
 same_option (Some a) None same = absurd cc
 same_option None (Some b) same = absurd cc
 
-pub one_lock : (m : Moment) (t u : ℕ) → Holds m → works m t ≡ true → works m u ≡ true
+pub one_lock : (m : Moment) (t u : ℕ) → KnownFacts m → works m t ≡ true → works m u ≡ true
     → (m.known.task t).dep ≡ (m.known.task u).dep → t ≡ u
 one_lock m t u facts one other same =
     eqb-true t u
@@ -109,11 +109,13 @@ no_disk d (x ∷ disks) none is = false≢true none
 
 -- a task of no deployment lists no instances
 pub record ListsDisks (t : Task) : Type 0 where
+  pub is_clean_up : is_clean_up t.kind ≡ true
   pub dep_is : t.dep ≡ None
   pub goal_is : t.goal ≡ None
   pub none_changes : is_empty t.changed ≡ true
   pub none_leaves : is_empty t.obsolete ≡ true
   pub none_is_asked : is_empty t.to_ping ≡ true
+  pub were_orphaned : list_all (λ d. is_among eqb d t.orphans) t.disks ≡ true
 
 -- one of a deployment lists instances of it
 pub record ListsInstances (t : Task) : Type 0 where
@@ -139,10 +141,10 @@ by_clean t true = lists_disks t
 by_clean t false = lists_instances t
 
 pub listed : (t : Task) → lists_well t ≡ true → Lists t
-listed t well = by (is_clean_up t.kind) well
+listed t well = by (is_clean_up t.kind) refl well
   where
-    by : (b : Bool) → by_clean t b ≡ true → Lists t
-    by true well =
+    by : (b : Bool) → is_clean_up t.kind ≡ b → by_clean t b ≡ true → Lists t
+    by true cleans well =
         let (dep, a) = and_parts (not (is_some t.dep)) _ well in
         let (goal, b) = and_parts (not (is_some t.goal)) _ a in
         let (changes, c) = and_parts (is_empty t.changed) _ b in
@@ -150,13 +152,15 @@ listed t well = by (is_clean_up t.kind) well
         let (asks, e) = and_parts (is_empty t.to_ping) _ d in
         disks
         (record {
+          is_clean_up = cleans;
           dep_is = none_of t.dep dep;
           goal_is = none_of t.goal goal;
           none_changes = changes;
           none_leaves = leaves;
           none_is_asked = asks;
+          were_orphaned = e;
         })
-    by false well =
+    by false cleans well =
         let (own, a) = and_parts (holds (λ dep. holds (λ (goal : Goal). bytes_eq goal.dep dep) t.goal) t.dep) _ well in
         let (changes, b) = and_parts (list_all (is_in t.goal) t.changed) _ a in
         let (leaves, c) =
@@ -192,7 +196,7 @@ pub record NamesItsOwn (t : Task) : Type 0 where
 
 -- ---- .. is of its deployment
 
-module _ (m : Moment) (t : ℕ) (facts : Holds m) (working : works m t ≡ true) where
+module _ (m : Moment) (t : ℕ) (facts : KnownFacts m) (working : works m t ≡ true) where
   pub lists : Lists (m.known.task t)
   lists = listed (m.known.task t) ((facts.tasks t).working working).lists_well
 

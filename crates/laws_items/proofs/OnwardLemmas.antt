@@ -20,7 +20,7 @@ use Rattle.bosh_history.specs.Slots.{is_compiled, is_ready, is_taken, keys_of, m
 use Rattle.bosh_history.specs.Words.{holds, is_among}
 use Rattle.bosh_rows.specs.Standing.{is_empty}
 use Rattle.bosh_rows.specs.Same.{same_inst}
-use Rattle.laws_facts.specs.Facts.{Holds}
+use Rattle.laws_facts.specs.KnownFacts.{KnownFacts}
 use Rattle.laws_facts.specs.Owners.{works}
 use Rattle.laws_items.proofs.DoneLemmas.{all_compiled, none_next, none_recorded}
 use Rattle.laws_items.proofs.ListedLemmas.{Lists, ListsDisks, disks, instances, lists, no_disk}
@@ -145,7 +145,7 @@ all_more p q goes (work ∷ items) all =
     let parts : (p work ≡ true) × (list_all p items ≡ true) = and_parts (p work) (list_all p items) all in
     and_from (q work) (list_all q items) (goes work parts.0) (all_more p q goes items parts.1)
 
-module _ (m : Moment) (t : ℕ) (h : Holds m) (working : works m t ≡ true) (new : Known) (on : Onward m.known new t) where
+module _ (m : Moment) (t : ℕ) (h : KnownFacts m) (working : works m t ≡ true) (new : Known) (on : Onward m.known new t) where
   -- where no slot was left none is
   slots_done : ((s : ℕ) → is_slot_left m.known t s ≡ false) → (s : ℕ) → is_slot_left new t s ≡ false
   slots_done none s = by (is_some (new.slot t s)) refl

@@ -30,7 +30,7 @@ use Rattle.laws_facts.proofs.FrameLemmas.{compiled_rows}
 use Rattle.laws_items.proofs.MarkLemmas.{Spares}
 
 -- the row of one instance changes
-row_apart : (i j : Inst) (x : Row) (rows : Inst → Row) → i ≢ j → at same_inst i x rows j ≡ rows j
+pub row_apart : (i j : Inst) (x : Row) (rows : Inst → Row) → i ≢ j → at same_inst i x rows j ≡ rows j
 row_apart i j x rows apart = by (same_inst i j) refl
   where
     by : (b : Bool) → same_inst i j ≡ b → (if same_inst i j then x else rows j) ≡ rows j

@@ -32,7 +32,7 @@ use Rattle.laws_facts.proofs.CurrentLemmas.{none_works, worked}
 use Rattle.laws_facts.proofs.LockLemmas.{note_stays}
 use Rattle.laws_facts.proofs.WorkLemmas.{opens_next}
 use Rattle.laws_facts.specs.CompileMachines.{is_for, is_slot_alone}
-use Rattle.laws_facts.specs.Facts.{Holds}
+use Rattle.laws_facts.specs.KnownFacts.{KnownFacts}
 use Rattle.laws_facts.specs.Owners.{works}
 use Rattle.laws_items.proofs.ItemFrames.{BegunSlots, all_were, are_listed, begun_slots, made_apart, made_slot, one_made}
 use Rattle.laws_items.proofs.ItemFrames.{was_noted}
@@ -66,7 +66,7 @@ apart_was a b (Some x) (Some y) was also apart =
 -- ---- a machine is made
 
 -- what takes a key is not for one of another slot
-free_of : (m : Moment) → Holds m → (t s : ℕ) (work : KeyWork) → next_key m.known t s ≡ Some work → (other : ℕ)
+free_of : (m : Moment) → KnownFacts m → (t s : ℕ) (work : KeyWork) → next_key m.known t s ≡ Some work → (other : ℕ)
     → (other == s) ≡ false → works_for work.key (m.known.slot t other) ≡ false
 free_of m h t s work next other differs = by (m.known.slot t other) refl
   where
@@ -123,7 +123,7 @@ made_second key made other keyed free = by other free
     by (Some it) is = (λ j. not (option_eq same_key it.key (keyed j))) ∙ of_key it.key is
     by None is = refl
 
-module _ (m : Moment) (h : Holds m) (b : Begin) (follows : may_follow m (entries.Begin b) ≡ true) (may : Begins m b)
+module _ (m : Moment) (h : KnownFacts m) (b : Begin) (follows : may_follow m (entries.Begin b) ≡ true) (may : Begins m b)
     (k : ℕ) (work : KeyWork) (make : Make) (own : b.owner ≡ Compile b.task k)
     (none : m.known.slot b.task k ≡ None) (next : next_key m.known b.task k ≡ Some work)
     (at_make : nth k (slots_of (m.known.task b.task).goal) ≡ Some make)
@@ -212,7 +212,7 @@ module _ (m : Moment) (h : Holds m) (b : Begin) (follows : may_follow m (entries
 
 -- ---- entries
 
-module _ (outside : Outside) (m : Moment) (h : Holds m) (t s other : ℕ) (differs : (s == other) ≡ false) where
+module _ (outside : Outside) (m : Moment) (h : KnownFacts m) (t s other : ℕ) (differs : (s == other) ≡ false) where
   were_apart : works m t ≡ true → Apart (m.known.slot t s) (m.known.slot t other)
   were_apart working =
       implied (works m t && not (s == other)) (where_any (λ it. not (holds (is_for it.key) (m.known.slot t other)))
@@ -267,7 +267,7 @@ alone_from m t s other apart =
     let parts : (works m t ≡ true) × (not (s == other) ≡ true) = and_parts (works m t) (not (s == other)) both in
     apart parts.0 (not_so (s == other) parts.1))
 
-slots_alone_move : (outside : Outside) (m : Moment) (move : Move) → IsPermitted outside m move → Holds m
+slots_alone_move : (outside : Outside) (m : Moment) (move : Move) → IsPermitted outside m move → KnownFacts m
     → AreAlone (later m move)
 slots_alone_move outside m (moves.Note e) may h t s other =
     alone_from (noting m e) t s other
@@ -277,6 +277,6 @@ slots_alone_move outside m (moves.Stop it) may h t s other =
     (λ working differs. absurd (false≢true (sym (none_works m it t) ∙ working)))
 slots_alone_move outside m move may h t s other = (h.slots_work t s).alone other
 
-pub slots_alone : (outside : Outside) (m : Moment) (move : Move) → IsPermitted outside m move → Holds m
+pub slots_alone : (outside : Outside) (m : Moment) (move : Move) → IsPermitted outside m move → KnownFacts m
     → AreAlone (later m move)
 slots_alone outside m move may h = slots_alone_move outside m move may h

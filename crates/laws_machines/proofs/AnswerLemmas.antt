@@ -32,8 +32,8 @@ use Rattle.bosh_history.specs.Words.{at, holds}
 use Rattle.bosh_lawful.specs.Clean.{is_failed}
 use Rattle.bosh_rows.specs.Standing.{same_truth}
 use Rattle.laws_facts.specs.CompileMachines.{is_open_for_slot}
-use Rattle.laws_facts.specs.Facts.{Holds}
-use Rattle.laws_facts.specs.OpenCalls.{fits_owner, fits_slot, is_never_gone, is_told_in_kind}
+use Rattle.laws_facts.specs.KnownFacts.{KnownFacts}
+use Rattle.laws_facts.specs.OpenCalls.{fits_known, fits_slot, is_never_gone, is_told_in_kind}
 use Rattle.laws_facts.specs.Owners.{works}
 use Rattle.laws_items.proofs.ItemFrames.{same_dep_is, slot_dep}
 use Rattle.laws_items.proofs.ListLemmas.{holds_some}
@@ -100,7 +100,7 @@ not_gone k b t s it told_as.Gone own fits unfailed = absurd (by b.call fits (fai
 not_gone k b t s it answer own fits unfailed = (refl, refl)
 
 -- a task that works and has something to do for a compile machine of a task that works is that one
-pub task_of_item : (m : Moment) → Holds m → (t s : ℕ) → works m t ≡ true → (u : ℕ) → works m u ≡ true
+pub task_of_item : (m : Moment) → KnownFacts m → (t s : ℕ) → works m t ≡ true → (u : ℕ) → works m u ≡ true
     → is_item m.known u (Compile t s) ≡ true → u ≡ t
 task_of_item m h t s working u also item = by (t == u) refl
   where
@@ -124,14 +124,14 @@ task_of_item m h t s working u also item = by (t == u) refl
         left (is_leftover m.known u (record { task = t; slot = s })) refl other (of_item m.known u (Compile t s) item)
 
 -- so is the task of an open call of it
-own_task : (m : Moment) → Holds m → (t s : ℕ) → works m t ≡ true → (n : ℕ) (call : OpenCall) → m.calls n ≡ Some call
+own_task : (m : Moment) → KnownFacts m → (t s : ℕ) → works m t ≡ true → (n : ℕ) (call : OpenCall) → m.calls n ≡ Some call
     → call.begin.owner ≡ Compile t s → call.begin.task ≡ t
 own_task m h t s working n call is own =
     task_of_item m h t s working call.begin.task (h.calls n call is).works
     (sym (λ j. is_item m.known call.begin.task (own j))
     ∙ (and_parts (is_item m.known call.begin.task call.begin.owner) _ (h.calls n call is).of_item).0)
 
-module _ (m : Moment) (h : Holds m) (t s : ℕ) (working : works m t ≡ true) (e : End) (that : OpenCall)
+module _ (m : Moment) (h : KnownFacts m) (t s : ℕ) (working : works m t ≡ true) (e : End) (that : OpenCall)
     (open_now : m.calls e.n ≡ Some that) (own : that.begin.owner ≡ Compile t s) (d : Did) (did : that.did ≡ Some d)
     (told : d.answer ≡ e.answer) (unfailed : is_some ((learn m.known (entries.End e)).task t).failed ≡ false) where
   begun : m.known.begun e.n ≡ Some that.begin
@@ -181,7 +181,7 @@ module _ (m : Moment) (h : Holds m) (t s : ℕ) (working : works m t ≡ true) (
   own_open it doubt is has = by (m.known.slot t s) refl fits
     where
       fits : holds (fits_slot that.begin.n that.begin.call) (m.known.slot t s) ≡ true
-      fits = subst (λ owner. fits_owner m.known that.begin owner ≡ true) own (h.calls e.n that open_now).fits
+      fits = subst (λ owner. fits_known m.known that.begin owner ≡ true) own (h.calls e.n that open_now).fits
 
       now_is : (learn m.known (entries.End e)).slot t s
           ≡ slot_after that.begin.n that.begin.call e.answer (m.known.slot t s)
@@ -210,7 +210,7 @@ module _ (m : Moment) (h : Holds m) (t s : ℕ) (working : works m t ≡ true) (
 
 -- ---- an answer to a call
 
-pub answered_open : (m : Moment) → Holds m → (e : End) → EndsCall e (m.calls e.n) → (t s : ℕ) → works m t ≡ true
+pub answered_open : (m : Moment) → KnownFacts m → (e : End) → EndsCall e (m.calls e.n) → (t s : ℕ) → works m t ≡ true
     → is_some (m.known.task t).failed ≡ false
     → is_some ((learn m.known (entries.End e)).task t).failed ≡ false
     → IsOpenFor (learn m.known (entries.End e)) (at eqb e.n None m.calls) t s

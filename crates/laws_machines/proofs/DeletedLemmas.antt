@@ -33,7 +33,7 @@ use Rattle.laws_facts.proofs.CurrentLemmas.{none_works, worked}
 use Rattle.laws_facts.proofs.LockLemmas.{note_stays}
 use Rattle.laws_facts.proofs.WorkLemmas.{begun_works, opens_next}
 use Rattle.laws_facts.specs.CompileMachines.{is_being_deleted}
-use Rattle.laws_facts.specs.Facts.{Holds}
+use Rattle.laws_facts.specs.KnownFacts.{KnownFacts}
 use Rattle.laws_facts.specs.Owners.{works}
 use Rattle.laws_items.proofs.ListedLemmas.{implied}
 use Rattle.laws_items.proofs.SlotCalls.{SlotCall, compiles, creates, deletes, finds, looks, slot_call}
@@ -145,7 +145,7 @@ still_compiled old new t s grows deleted was now is being =
 
 -- ---- a call begins
 
-module _ (outside : Outside) (m : Moment) (h : Holds m) (b : Begin) (follows : may_follow m (entries.Begin b) ≡ true)
+module _ (outside : Outside) (m : Moment) (h : KnownFacts m) (b : Begin) (follows : may_follow m (entries.Begin b) ≡ true)
     (may : Begins m b) (t s : ℕ) (working : works m t ≡ true) where
   abbrev new : Known
   new = learn m.known (entries.Begin b)
@@ -227,7 +227,7 @@ module _ (outside : Outside) (m : Moment) (h : Holds m) (b : Begin) (follows : m
 
 -- ---- entries
 
-module _ (outside : Outside) (m : Moment) (h : Holds m) (t s : ℕ) where
+module _ (outside : Outside) (m : Moment) (h : KnownFacts m) (t s : ℕ) where
   were : works m t ≡ true → IsCompiled m.known t s
   were working = implied (works m t) _ (h.slots_work t s).compiled working
 
@@ -263,7 +263,7 @@ module _ (outside : Outside) (m : Moment) (h : Holds m) (t s : ℕ) where
 
 -- ---- moves
 
-deleted_move : (outside : Outside) (m : Moment) (move : Move) → IsPermitted outside m move → Holds m
+deleted_move : (outside : Outside) (m : Moment) (move : Move) → IsPermitted outside m move → KnownFacts m
     → AreDeletedCompiled (later m move)
 deleted_move outside m (moves.Note e) may h t s =
     implied_by (works (noting m e) t) _ (λ working. deleted_note outside m h t s e may.1 may.2 working)
@@ -272,6 +272,6 @@ deleted_move outside m (moves.Stop it) may h t s =
     (λ working. absurd (false≢true (sym (none_works m it t) ∙ working)))
 deleted_move outside m move may h t s = (h.slots_work t s).compiled
 
-pub deleted_kept : (outside : Outside) (m : Moment) (move : Move) → IsPermitted outside m move → Holds m
+pub deleted_kept : (outside : Outside) (m : Moment) (move : Move) → IsPermitted outside m move → KnownFacts m
     → AreDeletedCompiled (later m move)
 deleted_kept outside m move may h = deleted_move outside m move may h

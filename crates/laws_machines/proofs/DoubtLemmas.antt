@@ -2,7 +2,7 @@
 use Rattle.std.proofs.Common.{◌≡◌, ◌∙◌, ℕ, ◌+◌, ◌≤◌, Bool, true, false, ◌&&◌, not, Option, Some, None, []}
 use Rattle.std.proofs.Common.{ap, refl, sym, arith}
 use Rattle.std.specs.Prelude.{if◌then◌else◌, ◌≢◌, ◌==◌, eqb, is_some}
-use Rattle.std.proofs.lemmas.Bool.{and_from, and_parts, eq-eqb, eqb-true, false≢true}
+use Rattle.std.proofs.lemmas.Bool.{and_from, eq-eqb, eqb-true, false≢true}
 use Rattle.bosh_base.specs.declared.call.Call.{Call}
 use Rattle.bosh_base.specs.declared.call.Call.TheVariants as calls
 use Rattle.bosh_base.specs.declared.entry.Begin.{Begin}
@@ -19,28 +19,15 @@ use Rattle.bosh_history.specs.Notes.{Begins}
 use Rattle.bosh_history.specs.Slots.{slot_begun}
 use Rattle.bosh_history.specs.Steps.{call_now, compile_make}
 use Rattle.bosh_history.specs.Words.{at}
-use Rattle.bosh_rows.proofs.SameLemmas.{same_inst_decides}
 use Rattle.bosh_rows.specs.Same.{same_owner}
 use Rattle.laws_facts.specs.CompileMachines.{is_open_for_slot}
-use Rattle.laws_facts.specs.Facts.{Holds}
+use Rattle.laws_facts.specs.KnownFacts.{KnownFacts}
 use Rattle.laws_facts.specs.Owners.{works}
 use Rattle.laws_items.proofs.ListedLemmas.{at_some, implied}
+use Rattle.laws_items.proofs.OwnerLemmas.{same_owner_is}
 use Rattle.laws_items.proofs.SlotCalls.{SlotCall, compiles, creates, deletes, finds, looks, slot_call}
 use Rattle.laws_items.proofs.SlotFrames.{answered_apart, begun_apart, begun_own}
 use Rattle.laws_row_facts.specs.Words.{where_any}
-
-same_owner_is : (a b : Owner) → same_owner a b ≡ true → a ≡ b
-same_owner_is (Instance a) (Instance b) same = ap Instance ((same_inst_decides a b).0 same)
-same_owner_is (Compile t s) (Compile other k) same =
-    let parts : ((t == other) ≡ true) × ((s == k) ≡ true) = and_parts (t == other) (s == k) same in
-    λ i. Compile (eqb-true t other parts.0 i) (eqb-true s k parts.1 i)
-same_owner_is (Disk a) (Disk b) same = ap Disk (eqb-true a b same)
-same_owner_is (Instance a) (Compile t s) same = absurd (false≢true same)
-same_owner_is (Instance a) (Disk b) same = absurd (false≢true same)
-same_owner_is (Compile t s) (Instance b) same = absurd (false≢true same)
-same_owner_is (Compile t s) (Disk b) same = absurd (false≢true same)
-same_owner_is (Disk a) (Instance b) same = absurd (false≢true same)
-same_owner_is (Disk a) (Compile t s) same = absurd (false≢true same)
 
 -- ---- the doubt of one compile machine
 
@@ -66,10 +53,10 @@ later : (last n other : ℕ) → n ≡ last + 1 → n ≡ other → other ≤ la
 later last n other number equal low = omega arith
 
 -- an open call has no later number than the last
-numbered : (m : Moment) → Holds m → (n : ℕ) → is_some (m.calls n) ≡ true → n ≤ m.known.last_call
+numbered : (m : Moment) → KnownFacts m → (n : ℕ) → is_some (m.calls n) ≡ true → n ≤ m.known.last_call
 numbered m h n some = grind (arith, h.numbers.past n, some)
 
-module _ (m : Moment) (h : Holds m) (t s : ℕ) (working : works m t ≡ true)
+module _ (m : Moment) (h : KnownFacts m) (t s : ℕ) (working : works m t ≡ true)
     (unfailed : is_some (m.known.task t).failed ≡ false) where
   pub was_open : IsOpenFor m.known m.calls t s
   was_open it d is has =
@@ -187,7 +174,7 @@ module _ (m : Moment) (h : Holds m) (t s : ℕ) (working : works m t ≡ true)
 
 -- ---- an answer to another call
 
-module _ (m : Moment) (h : Holds m) (t s : ℕ) (working : works m t ≡ true)
+module _ (m : Moment) (h : KnownFacts m) (t s : ℕ) (working : works m t ≡ true)
     (unfailed : is_some (m.known.task t).failed ≡ false) (e : End) (that : OpenCall)
     (open_now : m.calls e.n ≡ Some that) (differs : that.begin.owner ≢ Compile t s) where
   pub others_open : IsOpenFor (learn m.known (entries.End e)) (at eqb e.n None m.calls) t s

@@ -37,7 +37,7 @@ use Rattle.laws_facts.proofs.CurrentLemmas.{none_works, worked}
 use Rattle.laws_facts.proofs.LockLemmas.{is_opening, note_stays}
 use Rattle.laws_facts.proofs.WorkLemmas.{begun_works, opens_next}
 use Rattle.laws_facts.specs.CompileMachines.{is_for_work, is_make_for, is_slot_of_goal}
-use Rattle.laws_facts.specs.Facts.{Holds}
+use Rattle.laws_facts.specs.KnownFacts.{KnownFacts}
 use Rattle.laws_facts.specs.Owners.{works}
 use Rattle.laws_items.proofs.DoneLemmas.{keys_stand, of_goal}
 use Rattle.laws_items.proofs.ItemFrames.{BegunSlots, all_were, begun_slots, made_apart, made_slot, one_made, was_noted}
@@ -97,7 +97,7 @@ still_of old new t s goal was grows of_it = by (new.known.slot t s) refl
         ∙ and_from (is_for_work new.known (old.known.task t).goal it.0.key) _
         (for_work old.known new.known grows (old.known.task t).goal it.0.key parts.0) parts.1
 
-module _ (outside : Outside) (m : Moment) (h : Holds m) (e : Entry) (may : MayNote outside m e)
+module _ (outside : Outside) (m : Moment) (h : KnownFacts m) (e : Entry) (may : MayNote outside m e)
     (none : is_opening e ≡ false) (t : ℕ) (working : works m t ≡ true) where
   kept_of : (s : ℕ) → WasThere (m.known.slot t s) ((learn m.known e).slot t s) → OfGoal (noting m e) t s
   kept_of s was =
@@ -107,7 +107,7 @@ module _ (outside : Outside) (m : Moment) (h : Holds m) (e : Entry) (may : MayNo
 -- ---- a machine is made
 
 -- its key is one of the goal that may be compiled
-made_for : (m : Moment) → Holds m → (t s : ℕ) → works m t ≡ true → (work : KeyWork)
+made_for : (m : Moment) → KnownFacts m → (t s : ℕ) → works m t ≡ true → (work : KeyWork)
     → next_key m.known t s ≡ Some work → is_for_work m.known (m.known.task t).goal (Some work.key) ≡ true
 made_for m h t s working work next =
     let found : IsIn work (keys_of (m.known.task t).goal) × (may_take m.known t s work ≡ true) =
@@ -116,7 +116,7 @@ made_for m h t s working work next =
     (find_self (is_compiled m.known) work [] (keys_of (m.known.task t).goal) (keys_stand m t h working) found.0 j))
     ∙ (and_parts (is_ready m.known work) _ found.1).0
 
-module _ (outside : Outside) (m : Moment) (h : Holds m) (b : Begin) (follows : may_follow m (entries.Begin b) ≡ true)
+module _ (outside : Outside) (m : Moment) (h : KnownFacts m) (b : Begin) (follows : may_follow m (entries.Begin b) ≡ true)
     (may : Begins m b) (s : ℕ) (work : KeyWork) (make : Make) (own : b.owner ≡ Compile b.task s)
     (none : m.known.slot b.task s ≡ None) (next : next_key m.known b.task s ≡ Some work)
     (at_make : nth s (slots_of (m.known.task b.task).goal) ≡ Some make)
@@ -167,7 +167,7 @@ module _ (outside : Outside) (m : Moment) (h : Holds m) (b : Begin) (follows : m
 -- ---- entries
 
 -- no compile machine is of a task that is to come
-pub none_of_new : (m : Moment) → Holds m → (t s : ℕ) → nat_le t m.known.tasks ≡ false → m.known.slot t s ≡ None
+pub none_of_new : (m : Moment) → KnownFacts m → (t s : ℕ) → nat_le t m.known.tasks ≡ false → m.known.slot t s ≡ None
 none_of_new m h t s later = by (m.known.slot t s) refl
   where
     by : (slot : Option Slot) → m.known.slot t s ≡ slot → slot ≡ None
@@ -181,7 +181,7 @@ none_of_new m h t s later = by (m.known.slot t s) refl
         absurd
         (false≢true (sym later ∙ (and_parts (nat_le t m.known.tasks) _ (and_parts (nat_le 1 t) _ all).1).0))
 
-goals_opened : (m : Moment) → Holds m → (o : TaskOpen) → (outside : Outside) → MayNote outside m (entries.TaskOpen o)
+goals_opened : (m : Moment) → KnownFacts m → (o : TaskOpen) → (outside : Outside) → MayNote outside m (entries.TaskOpen o)
     → (t s : ℕ) → works (noting m (entries.TaskOpen o)) t ≡ true → OfGoal (noting m (entries.TaskOpen o)) t s
 goals_opened m h o outside may t s working = by (eqb_tells o.task t)
   where
@@ -200,7 +200,7 @@ goals_opened m h o outside may t s working = by (eqb_tells o.task t)
         (m.known.slot t s))
         (λ key is. is) (of_goal m t h (grind (arith, apart, working, number)) s)
 
-goals_note : (outside : Outside) (m : Moment) → Holds m → (e : Entry) → may_follow m e ≡ true → MayNote outside m e
+goals_note : (outside : Outside) (m : Moment) → KnownFacts m → (e : Entry) → may_follow m e ≡ true → MayNote outside m e
     → (t s : ℕ) → works (noting m e) t ≡ true → OfGoal (noting m e) t s
 goals_note outside m h (entries.Begin b) follows may t s working = by (begun_slots m b may)
   where
@@ -227,7 +227,7 @@ pub implied_by : (a b : Bool) → (a ≡ true → b ≡ true) → implies a b �
 implied_by true b goes = goes refl
 implied_by false b goes = refl
 
-goals_move : (outside : Outside) (m : Moment) (move : Move) → IsPermitted outside m move → Holds m
+goals_move : (outside : Outside) (m : Moment) (move : Move) → IsPermitted outside m move → KnownFacts m
     → AreOfGoals (later m move)
 goals_move outside m (moves.Note e) may h t s =
     implied_by (works (noting m e) t) _ (λ working. goals_note outside m h e may.1 may.2 t s working)
@@ -236,6 +236,6 @@ goals_move outside m (moves.Stop it) may h t s =
     (λ working. absurd (false≢true (sym (none_works m it t) ∙ working)))
 goals_move outside m move may h t s = (h.slots_work t s).of_goal
 
-pub goals_kept : (outside : Outside) (m : Moment) (move : Move) → IsPermitted outside m move → Holds m
+pub goals_kept : (outside : Outside) (m : Moment) (move : Move) → IsPermitted outside m move → KnownFacts m
     → AreOfGoals (later m move)
 goals_kept outside m move may h = goals_move outside m move may h

@@ -40,7 +40,7 @@ use Rattle.bosh_history.specs.Words.{at, holds}
 use Rattle.bosh_rows.specs.CallOf.{next_call}
 use Rattle.laws_facts.proofs.BuiltLemmas.{same_answered, same_begun, same_settled, same_updated}
 use Rattle.laws_facts.proofs.WorkLemmas.{none_to}
-use Rattle.laws_facts.specs.Facts.{Holds}
+use Rattle.laws_facts.specs.KnownFacts.{KnownFacts}
 use Rattle.laws_facts.specs.OpenCalls.{compiles_alone, compiles_another, compiles_new}
 use Rattle.laws_items.proofs.ListLemmas.{find_in}
 use Rattle.laws_items.proofs.PingLemmas.{is_compilation, plain_call}
@@ -192,7 +192,7 @@ another_as call that it same is = refl
 
 -- ---- entries
 
-module _ (m : Moment) (h : Holds m) where
+module _ (m : Moment) (h : KnownFacts m) where
   number_of : (n : ℕ) (call : OpenCall) → m.calls n ≡ Some call → (1 ≤ n) × (n ≤ m.known.last_call)
   number_of n call is =
       let some : is_some (m.calls n) ≡ true = ap is_some is in
@@ -303,7 +303,7 @@ module _ (m : Moment) (h : Holds m) where
           (h.calls n call is).compiles_new
       by None open_now ends = absurd ends
 
-new_note : (outside : Outside) (m : Moment) → Holds m → (e : Entry) → MayNote outside m e → AreCompiledNew (noting m e)
+new_note : (outside : Outside) (m : Moment) → KnownFacts m → (e : Entry) → MayNote outside m e → AreCompiledNew (noting m e)
 new_note outside m h (entries.Begin b) may n call is = begun_new m h b may n call is
 new_note outside m h (entries.End e) may n call is = by (eqb e.n n) refl is
   where
@@ -316,7 +316,7 @@ new_note outside m h entry may n call is =
     new_as m.known (learn m.known entry) call.begin.call (same_digest outside m entry may refl)
     ∙ (h.calls n call is).compiles_new
 
-alone_note : (outside : Outside) (m : Moment) → Holds m → (e : Entry) → MayNote outside m e
+alone_note : (outside : Outside) (m : Moment) → KnownFacts m → (e : Entry) → MayNote outside m e
     → AreCompiledAlone (noting m e)
 alone_note outside m h (entries.Begin b) may n call is other = begun_alone m h b may n call is other
 alone_note outside m h (entries.End e) may n call is other =
@@ -356,7 +356,7 @@ was_open m d n call is = by (eqb d.n n) refl (m.calls d.n) refl is
     by true equal None that_is is = absurd cc
     by false other that that_is is = record { it = call; was = is; same = refl }
 
-new_move : (outside : Outside) (m : Moment) (move : Move) → IsPermitted outside m move → Holds m
+new_move : (outside : Outside) (m : Moment) (move : Move) → IsPermitted outside m move → KnownFacts m
     → AreCompiledNew (later m move)
 new_move outside m (moves.Note e) may h n call is = new_note outside m h e may.2 n call is
 new_move outside m (moves.Did d) may h n call is =
@@ -365,7 +365,7 @@ new_move outside m (moves.Did d) may h n call is =
 new_move outside m (moves.Stop s) may h n call is = absurd cc
 new_move outside m move may h n call is = (h.calls n call is).compiles_new
 
-alone_move : (outside : Outside) (m : Moment) (move : Move) → IsPermitted outside m move → Holds m
+alone_move : (outside : Outside) (m : Moment) (move : Move) → IsPermitted outside m move → KnownFacts m
     → AreCompiledAlone (later m move)
 alone_move outside m (moves.Note e) may h n call is other = alone_note outside m h e may.2 n call is other
 alone_move outside m (moves.Did d) may h n call is other =
@@ -384,10 +384,10 @@ alone_move outside m (moves.Did d) may h n call is other =
 alone_move outside m (moves.Stop s) may h n call is other = absurd cc
 alone_move outside m move may h n call is other = (h.calls n call is).compiles_alone other
 
-pub new_kept : (outside : Outside) (m : Moment) (move : Move) → IsPermitted outside m move → Holds m
+pub new_kept : (outside : Outside) (m : Moment) (move : Move) → IsPermitted outside m move → KnownFacts m
     → AreCompiledNew (later m move)
 new_kept outside m move may h = new_move outside m move may h
 
-pub alone_kept : (outside : Outside) (m : Moment) (move : Move) → IsPermitted outside m move → Holds m
+pub alone_kept : (outside : Outside) (m : Moment) (move : Move) → IsPermitted outside m move → KnownFacts m
     → AreCompiledAlone (later m move)
 alone_kept outside m move may h = alone_move outside m move may h

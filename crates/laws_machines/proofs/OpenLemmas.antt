@@ -21,7 +21,7 @@ use Rattle.laws_facts.proofs.CurrentLemmas.{none_works, worked}
 use Rattle.laws_facts.proofs.LockLemmas.{is_opening, note_stays}
 use Rattle.laws_facts.proofs.WorkLemmas.{opens_next}
 use Rattle.laws_facts.specs.CompileMachines.{is_open_for_slot, is_slot_doubt_open}
-use Rattle.laws_facts.specs.Facts.{Holds}
+use Rattle.laws_facts.specs.KnownFacts.{KnownFacts}
 use Rattle.laws_facts.specs.Owners.{works}
 use Rattle.laws_items.proofs.SlotFrames.{slots_note}
 use Rattle.laws_machines.proofs.FailLemmas.{failed_note}
@@ -43,7 +43,7 @@ worked_beside m o t number apart differs working = grind (arith, number, apart, 
 pub past_last : (last n t : ℕ) → n ≡ last + 1 → n ≡ t → nat_le t last ≡ false
 past_last last n t number same = grind (arith, nat_tests, number, same)
 
-module _ (outside : Outside) (m : Moment) (h : Holds m) (t s : ℕ) where
+module _ (outside : Outside) (m : Moment) (h : KnownFacts m) (t s : ℕ) where
   -- the task worked before an entry that opens none, and no call of it had failed
   worked_well : (e : Entry) → MayNote outside m e → is_opening e ≡ false → works (noting m e) t ≡ true
       → is_some ((learn m.known e).task t).failed ≡ false
@@ -110,7 +110,7 @@ performed_open m d t s n is = by (eqb d.n n) refl
         performed (m.calls d.n) ((λ j. is_open_for_slot t s (m.calls (eqb-true d.n n same j))) ∙ is)
     by false other = is
 
-doubts_move : (outside : Outside) (m : Moment) (move : Move) → IsPermitted outside m move → Holds m
+doubts_move : (outside : Outside) (m : Moment) (move : Move) → IsPermitted outside m move → KnownFacts m
     → AreDoubtsOpen (later m move)
 doubts_move outside m (moves.Note e) may h t s = from_test (noting m e) t s (doubts_note outside m h t s e may.1 may.2)
 doubts_move outside m (moves.Did d) may h t s =
@@ -122,6 +122,6 @@ doubts_move outside m (moves.Stop it) may h t s =
     (λ working unfailed. absurd (false≢true (sym (none_works m it t) ∙ working)))
 doubts_move outside m move may h t s = (h.slots_work t s).doubt_open
 
-pub doubts_kept : (outside : Outside) (m : Moment) (move : Move) → IsPermitted outside m move → Holds m
+pub doubts_kept : (outside : Outside) (m : Moment) (move : Move) → IsPermitted outside m move → KnownFacts m
     → AreDoubtsOpen (later m move)
 doubts_kept outside m move may h = doubts_move outside m move may h

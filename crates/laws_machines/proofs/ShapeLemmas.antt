@@ -1,5 +1,5 @@
 -- What is recorded of compile machines keeps its shape.
-use Rattle.std.proofs.Common.{◌≡◌, ◌∙◌, ℕ, true, false, Option, Some, None, refl, sym}
+use Rattle.std.proofs.Common.{◌≡◌, ◌∙◌, ℕ, true, Option, Some, None, refl, sym}
 use Rattle.std.proofs.lemmas.Bool.{and_parts, eq-eqb, false≢true}
 use Rattle.bosh_base.specs.ExactParts.{Decides-make}
 use Rattle.bosh_base.specs.declared.answer.Answer.{Answer}
@@ -24,8 +24,8 @@ use Rattle.bosh_history.specs.Slots.{slot_after, slot_begun, slot_told}
 use Rattle.bosh_history.specs.Steps.{call_now, compile_make}
 use Rattle.bosh_history.specs.Words.{holds}
 use Rattle.laws_facts.proofs.MoveLemmas.{by_note}
-use Rattle.laws_facts.specs.Facts.{Holds}
-use Rattle.laws_facts.specs.OpenCalls.{fits_owner, fits_slot}
+use Rattle.laws_facts.specs.KnownFacts.{KnownFacts}
+use Rattle.laws_facts.specs.OpenCalls.{fits_known, fits_slot}
 use Rattle.laws_items.proofs.SlotCalls.{SlotCall, compiles, creates, deletes, finds, looks, slot_call}
 use Rattle.laws_items.proofs.SlotFrames.{changed_slot, slots_ended, slots_note, slots_told}
 use Rattle.laws_machines.specs.Machines.{AreShaped}
@@ -64,7 +64,7 @@ after_shape : (n : ℕ) (call : Call) (answer : Answer) (slot : Option Slot) →
 after_shape n call answer (Some it) fits shape = told_shape n call answer it fits shape
 after_shape n call answer None fits shape = refl
 
-ended_shape : (k : Known) (b : Begin) (answer : Answer) (owner : Owner) → fits_owner k b owner ≡ true → AreShaped k
+ended_shape : (k : Known) (b : Begin) (answer : Answer) (owner : Owner) → fits_known k b owner ≡ true → AreShaped k
     → (t s : ℕ) → where_any has_shape (slots_told b answer owner k.slot t s) ≡ true
 ended_shape k b answer (Instance i) fits has t s = has t s
 ended_shape k b answer (Compile task n) fits has t s =
@@ -109,7 +109,7 @@ module _ (m : Moment) (b : Begin) (may : Begins m b) (has : AreShaped m.known) w
 
 -- ---- entries
 
-shape_ended : (m : Moment) → Holds m → (e : End) → EndsCall e (m.calls e.n) → AreShaped m.known
+shape_ended : (m : Moment) → KnownFacts m → (e : End) → EndsCall e (m.calls e.n) → AreShaped m.known
     → AreShaped (learn m.known (entries.End e))
 shape_ended m h e may has t s = by (m.calls e.n) refl may
   where
@@ -121,7 +121,7 @@ shape_ended m h e may has t s = by (m.calls e.n) refl may
         ∙ ended_shape m.known that.begin e.answer that.begin.owner (h.calls e.n that open_now).fits has t s
     by None open_now ends = absurd ends
 
-shape_note : (outside : Outside) (m : Moment) → Holds m → (e : Entry) → MayNote outside m e → AreShaped m.known
+shape_note : (outside : Outside) (m : Moment) → KnownFacts m → (e : Entry) → MayNote outside m e → AreShaped m.known
     → AreShaped (learn m.known e)
 shape_note outside m h (entries.Begin b) may has t s = shape_begun m b may has b.owner refl t s
 shape_note outside m h (entries.End e) may has t s = shape_ended m h e may has t s
@@ -129,8 +129,8 @@ shape_note outside m h (entries.Snapshot it) may has t s = absurd may
 shape_note outside m h entry may has t s =
     (λ j. where_any has_shape (slots_note outside m entry may refl j t s)) ∙ has t s
 
-pub shape_kept : (outside : Outside) (m : Moment) (move : Move) → IsPermitted outside m move → Holds m
+pub shape_kept : (outside : Outside) (m : Moment) (move : Move) → IsPermitted outside m move → KnownFacts m
     → AreShaped (later m move).known
 shape_kept outside m move may h =
-    by_note outside AreShaped m (λ e also. shape_note outside m h e also (λ t s. (h.slots t s).shape))
-    (λ t s. (h.slots t s).shape) move may
+    by_note outside AreShaped m (λ e also. shape_note outside m h e also h.shapes)
+    h.shapes move may

@@ -88,11 +88,11 @@ implied_if false b is = refl
 
 module _ (outside : Outside) (m : Moment) (h : Holds m) (t : ℕ) (working : works m t ≡ true) (i : Inst) where
   was : stands_where_through m.known (m.known.task t) i ≡ true
-  was = ((h.tasks t).working working).stands i
+  was = (h.outcomes t working).stands i
 
   -- one that is through is no item
   rests : is_through (m.known.task t) i ≡ true → (u : ℕ) → works m u ≡ true → is_item m.known u (Instance i) ≡ true → ⊥
-  rests through u also item = through_rests m h t working i through u also item
+  rests through u also item = through_rests m h.known t working i through u also item
 
   -- an entry but the word that an update is done
   stands_kept : (e : Entry) → MayNote outside m e → is_opening e ≡ false
@@ -136,12 +136,12 @@ module _ (outside : Outside) (m : Moment) (h : Holds m) (t : ℕ) (working : wor
       by : is_through (m.known.task t) i ≡ true → (b : Begin) → m.known.begun e.n ≡ Some b → b.owner ≡ Instance i
           → (that : Option OpenCall) → m.calls e.n ≡ that → EndsCall e that → ⊥
       by through b known own (Some that) open_now ends =
-          let begun : m.known.begun e.n ≡ Some that.begin = (h.calls e.n that open_now).begun in
+          let begun : m.known.begun e.n ≡ Some that.begin = (h.known.calls e.n that open_now).begun in
           let same : that.begin ≡ b = cc in
           let mine : that.begin.owner ≡ Instance i = ap (λ (x : Begin). x.owner) same ∙ own in
-          rests through that.begin.task (h.calls e.n that open_now).works
+          rests through that.begin.task (h.known.calls e.n that open_now).works
           (sym (λ j. is_item m.known that.begin.task (mine j))
-          ∙ (and_parts (is_item m.known that.begin.task that.begin.owner) _ (h.calls e.n that open_now).of_item).0)
+          ∙ (and_parts (is_item m.known that.begin.task that.begin.owner) _ (h.known.calls e.n that open_now).of_item).0)
       by through b known own None open_now ends = ends
 
   gone_stands : (u : Update) → may_follow m (entries.Gone u) ≡ true → MayNote outside m (entries.Gone u)
@@ -188,7 +188,7 @@ module _ (outside : Outside) (m : Moment) (h : Holds m) (t : ℕ) (working : wor
             ∙ (and_parts (is_among same_inst u.inst (m.known.task u.task).changed) _ may.is_changed).0
 
         there : is_in (m.known.task t).goal i ≡ true
-        there = changed_in m h t working i changes
+        there = changed_in m h.known t working i changes
 
         stays : is_to_go (m.known.task t) i ≡ false
         stays = tells (is_to_go (m.known.task t) i) refl
@@ -197,7 +197,7 @@ module _ (outside : Outside) (m : Moment) (h : Holds m) (t : ℕ) (working : wor
             tells false is = refl
             tells true is =
                 absurd
-                (gone_out m h t working i
+                (gone_out m h.known t working i
                 (and_parts (is_among same_inst i (m.known.task t).obsolete) (not ((m.known.task t).gone i)) is).0 there)
 
         by : (want : Option GoalRow) → want_in (m.known.task t).goal i ≡ want → is_some want ≡ true
@@ -384,7 +384,7 @@ opened_stands m o h may t i working = by (eqb_tells o.task t)
         ∙ fresh_stands m.known o i o.kind refl may
     by (inr apart) =
         (λ j. stands_where_through m.known (if apart.0 j then task_opened m.known o else m.known.task t) i)
-        ∙ ((h.tasks t).working (grind (arith, apart, working, number))).stands i
+        ∙ (h.outcomes t (grind (arith, apart, working, number))).stands i
 
 -- ---- moves
 
@@ -420,7 +420,7 @@ stands_move : (outside : Outside) (m : Moment) (move : Move) → IsPermitted out
     → StandWhereThrough (later m move)
 stands_move outside m (moves.Note e) may h t i working = stands_note outside m e h may.1 may.2 t i working
 stands_move outside m (moves.Stop s) may h t i working = absurd (false≢true (sym (none_works m s t) ∙ working))
-stands_move outside m move may h t i working = ((h.tasks t).working working).stands i
+stands_move outside m move may h t i working = (h.outcomes t working).stands i
 
 pub stands_kept_along : (outside : Outside) (m : Moment) (move : Move) → IsPermitted outside m move → Holds m
     → StandWhereThrough (later m move)

@@ -17,7 +17,7 @@ use Rattle.bosh_rows.proofs.SameLemmas.{same_inst_decides}
 use Rattle.bosh_rows.specs.Same.{same_inst}
 use Rattle.bosh_rows.specs.Standing.{is_empty}
 use Rattle.laws_addresses.proofs.WorkingLemmas.{wants_of}
-use Rattle.laws_facts.specs.Facts.{Holds}
+use Rattle.laws_facts.specs.KnownFacts.{KnownFacts}
 use Rattle.laws_facts.specs.Owners.{works}
 use Rattle.laws_facts.specs.Tasks.{is_of, is_through}
 use Rattle.laws_items.proofs.AskedLemmas.{item_dep}
@@ -36,7 +36,7 @@ not_waiting Busy done waits = false≢true waits
 not_waiting Finished done waits = false≢true waits
 not_waiting Failed done waits = false≢true waits
 
-module _ (m : Moment) (h : Holds m) (t : ℕ) (working : works m t ≡ true) (i : Inst) where
+module _ (m : Moment) (h : KnownFacts m) (t : ℕ) (working : works m t ≡ true) (i : Inst) where
   -- one that changes is of the goal
   pub changed_in : is_among same_inst i (m.known.task t).changed ≡ true → is_in (m.known.task t).goal i ≡ true
   changed_in changes = by (lists m t h working)

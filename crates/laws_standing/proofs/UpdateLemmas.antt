@@ -27,7 +27,7 @@ use Rattle.laws_facts.proofs.CurrentLemmas.{none_works, worked}
 use Rattle.laws_facts.proofs.DepLemmas.{dep_updated}
 use Rattle.laws_facts.proofs.LockLemmas.{is_opening, note_stays}
 use Rattle.laws_facts.proofs.WorkLemmas.{opens_next}
-use Rattle.laws_facts.specs.Facts.{Holds}
+use Rattle.laws_facts.specs.KnownFacts.{KnownFacts}
 use Rattle.laws_facts.specs.Owners.{works}
 use Rattle.laws_facts.specs.Tasks.{is_update_listed}
 use Rattle.laws_standing.specs.Standing.{AreUpdatesListed}
@@ -69,7 +69,7 @@ listed_note outside m (entries.Snapshot s) t may none = absurd may
 listed_note outside m entry t may none =
     alike (m.known.task t) ((learn m.known entry).task t) (same_updates outside m entry t may refl)
 
-opened_listed : (m : Moment) → Holds m → (o : TaskOpen) → MayOpen m.known o → (t : ℕ) (i : Inst)
+opened_listed : (m : Moment) → KnownFacts m → (o : TaskOpen) → MayOpen m.known o → (t : ℕ) (i : Inst)
     → works (noting m (entries.TaskOpen o)) t ≡ true
     → is_update_listed ((learn m.known (entries.TaskOpen o)).task t) i ≡ true
 opened_listed m h o may t i working = by (eqb_tells o.task t)
@@ -84,7 +84,7 @@ opened_listed m h o may t i working = by (eqb_tells o.task t)
         (λ j. is_update_listed (if apart.0 j then task_opened m.known o else m.known.task t) i)
         ∙ ((h.tasks t).working (grind (arith, apart, working, number))).update_listed i
 
-listed_move : (outside : Outside) (m : Moment) (move : Move) → IsPermitted outside m move → Holds m
+listed_move : (outside : Outside) (m : Moment) (move : Move) → IsPermitted outside m move → KnownFacts m
     → AreUpdatesListed (later m move)
 listed_move outside m (moves.Note (entries.TaskOpen o)) may h t i working = opened_listed m h o may.2.0 t i working
 listed_move outside m (moves.Note e) may h t i working =
@@ -93,6 +93,6 @@ listed_move outside m (moves.Note e) may h t i working =
 listed_move outside m (moves.Stop s) may h t i working = absurd (false≢true (sym (none_works m s t) ∙ working))
 listed_move outside m move may h t i working = ((h.tasks t).working working).update_listed i
 
-pub listed_kept : (outside : Outside) (m : Moment) (move : Move) → IsPermitted outside m move → Holds m
+pub listed_kept : (outside : Outside) (m : Moment) (move : Move) → IsPermitted outside m move → KnownFacts m
     → AreUpdatesListed (later m move)
 listed_kept outside m move may h = listed_move outside m move may h

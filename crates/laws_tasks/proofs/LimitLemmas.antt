@@ -36,7 +36,7 @@ use Rattle.laws_facts.proofs.ListLemmas.{Tells, bytes_tells}
 use Rattle.laws_facts.proofs.LockLemmas.{StaysOpen, note_stays}
 use Rattle.laws_facts.proofs.MoveLemmas.{by_followed}
 use Rattle.laws_facts.proofs.WorkLemmas.{opens_next}
-use Rattle.laws_facts.specs.Facts.{Holds}
+use Rattle.laws_facts.specs.KnownFacts.{KnownFacts}
 use Rattle.laws_facts.specs.Owners.{works}
 use Rattle.laws_facts.specs.Tasks.{is_of, is_open_task, is_within_limits, lists_disks, lists_instances, lists_well}
 use Rattle.laws_row_facts.specs.Words.{implies, where_any}
@@ -189,7 +189,7 @@ module _ (m : Moment) (has : AreWithinLimits m.known) where
           (is_within_limit (m.known.task t) i)) ∙ has t i)
       by b equal false gone = whole (new.task t) refl false gone refl
 
-  limits_begun : (outside : Outside) (h : Holds m) (u : Update) → may_follow m (entries.UpdBegin u) ≡ true
+  limits_begun : (outside : Outside) (h : KnownFacts m) (u : Update) → may_follow m (entries.UpdBegin u) ≡ true
       → BeginsUpdate m u → AreWithinLimits (learn m.known (entries.UpdBegin u))
   limits_begun outside h u follows may =
       changed_limits u.task (update_at Busy u.inst (m.known.task u.task)) (learn m.known (entries.UpdBegin u)) refl refl
@@ -258,7 +258,7 @@ module _ (m : Moment) (has : AreWithinLimits m.known) where
       → ((t : ℕ) → SameUpdates (m.known.task t) ((learn m.known e).task t)) → AreWithinLimits (learn m.known e)
   limits_same e stays same t i = limit_stays m.known (learn m.known e) t (stays t) (same t) i (has t i)
 
-limits_note : (outside : Outside) (m : Moment) → Holds m → AreWithinLimits m.known → (e : Entry)
+limits_note : (outside : Outside) (m : Moment) → KnownFacts m → AreWithinLimits m.known → (e : Entry)
     → may_follow m e ≡ true → MayNote outside m e → AreWithinLimits (learn m.known e)
 limits_note outside m h has (entries.TaskOpen o) follows may = limits_opened m has o may.0
 limits_note outside m h has (entries.UpdBegin u) follows may = limits_begun m has outside h u follows may
@@ -268,7 +268,7 @@ limits_note outside m h has entry follows may =
     limits_same m has entry (λ t. note_stays outside m entry may refl t)
     (λ t. same_updates outside m entry t may refl)
 
-pub limits_kept : (outside : Outside) (m : Moment) (move : Move) → IsPermitted outside m move → Holds m
+pub limits_kept : (outside : Outside) (m : Moment) (move : Move) → IsPermitted outside m move → KnownFacts m
     → AreWithinLimits (later m move).known
 limits_kept outside m move may h =
     by_followed outside AreWithinLimits m

@@ -36,7 +36,7 @@ use Rattle.laws_facts.proofs.InstanceLemmas.{instances_apart}
 use Rattle.laws_facts.proofs.ListLemmas.{bytes_tells}
 use Rattle.laws_facts.proofs.LockLemmas.{is_opening, locks_equal, note_stays}
 use Rattle.laws_facts.proofs.WorkLemmas.{opens_next}
-use Rattle.laws_facts.specs.Facts.{Holds}
+use Rattle.laws_facts.specs.KnownFacts.{KnownFacts}
 use Rattle.laws_facts.specs.Owners.{works}
 use Rattle.laws_facts.specs.Tasks.{are_of_kind, are_those_of_one, is_alone, is_of, lists_disks, lists_instances, lists_well}
 use Rattle.laws_row_facts.specs.Words.{where_any}
@@ -401,7 +401,7 @@ same_lists a b same =
       orphans = same.orphans j;
     })
 
-module _ (outside : Outside) (m : Moment) (h : Holds m) where
+module _ (outside : Outside) (m : Moment) (h : KnownFacts m) where
   lists_same : (e : Entry) → MayNote outside m e → is_opening e ≡ false → ListWell (noting m e)
   lists_same e may none t is =
       same_lists (m.known.task t) ((learn m.known e).task t) (opened_stays outside m e t may none)
@@ -430,12 +430,12 @@ module _ (outside : Outside) (m : Moment) (h : Holds m) where
   lists_note (entries.Snapshot s) may = absurd may
   lists_note entry may = lists_same entry may refl
 
-lists_move : (outside : Outside) (m : Moment) (move : Move) → IsPermitted outside m move → Holds m
+lists_move : (outside : Outside) (m : Moment) (move : Move) → IsPermitted outside m move → KnownFacts m
     → ListWell (later m move)
 lists_move outside m (moves.Note e) may h = lists_note outside m h e may.2
 lists_move outside m (moves.Stop s) may h = λ t is. absurd (false≢true (sym (none_works m s t) ∙ is))
 lists_move outside m move may h = λ t is. ((h.tasks t).working is).lists_well
 
-pub lists_kept : (outside : Outside) (m : Moment) (move : Move) → IsPermitted outside m move → Holds m
+pub lists_kept : (outside : Outside) (m : Moment) (move : Move) → IsPermitted outside m move → KnownFacts m
     → ListWell (later m move)
 lists_kept outside m move may h = lists_move outside m move may h

@@ -23,7 +23,7 @@ use Rattle.bosh_history.specs.Tasks.{task_opened}
 use Rattle.laws_facts.proofs.FrameLemmas.{begun_tasks, numbers_done, numbers_end, numbers_updated}
 use Rattle.laws_facts.proofs.LockLemmas.{StaysOpen, is_opening, note_stays}
 use Rattle.laws_facts.proofs.WorkLemmas.{opens_next}
-use Rattle.laws_facts.specs.Facts.{Holds}
+use Rattle.laws_facts.specs.KnownFacts.{KnownFacts}
 use Rattle.laws_facts.specs.Tasks.{is_open_task}
 use Rattle.laws_row_facts.specs.Words.{implies}
 use Rattle.laws_tasks.specs.Updates.{AreRecovered}
@@ -70,7 +70,7 @@ same_count outside m (entries.TaskDone t) may none = (numbers_done m t).tasks
 same_count outside m (entries.Snapshot s) may none = absurd may
 same_count outside m entry may none = refl
 
-module _ (outside : Outside) (m : Moment) (h : Holds m) where
+module _ (outside : Outside) (m : Moment) (h : KnownFacts m) where
   past : m.stopped ≤ m.known.tasks
   past = leb-true m.stopped m.known.tasks h.lists.stopped_past
 
@@ -137,12 +137,12 @@ recovered_stopped m is =
     implied (is_recovering m) (nat_le m.known.tasks m.stopped)
     (λ left. le-leb m.known.tasks m.stopped (omega arith))
 
-recovered_move : (outside : Outside) (m : Moment) (move : Move) → IsPermitted outside m move → Holds m
+recovered_move : (outside : Outside) (m : Moment) (move : Move) → IsPermitted outside m move → KnownFacts m
     → AreRecovered (later m move)
 recovered_move outside m (moves.Note e) may h = recovered_note outside m h e may.1 may.2
 recovered_move outside m (moves.Stop s) may h = recovered_stopped (later m (moves.Stop s)) refl
 recovered_move outside m move may h = h.numbers.none_opened
 
-pub recovered_kept : (outside : Outside) (m : Moment) (move : Move) → IsPermitted outside m move → Holds m
+pub recovered_kept : (outside : Outside) (m : Moment) (move : Move) → IsPermitted outside m move → KnownFacts m
     → AreRecovered (later m move)
 recovered_kept outside m move may h = recovered_move outside m move may h

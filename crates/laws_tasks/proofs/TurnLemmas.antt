@@ -29,7 +29,7 @@ use Rattle.laws_facts.proofs.CurrentLemmas.{none_works, worked}
 use Rattle.laws_facts.proofs.DepLemmas.{dep_updated}
 use Rattle.laws_facts.proofs.LockLemmas.{is_opening, note_stays}
 use Rattle.laws_facts.proofs.WorkLemmas.{opens_next}
-use Rattle.laws_facts.specs.Facts.{Holds}
+use Rattle.laws_facts.specs.KnownFacts.{KnownFacts}
 use Rattle.laws_facts.specs.Owners.{works}
 use Rattle.laws_facts.specs.Tasks.{is_in_turn}
 use Rattle.laws_row_facts.specs.Words.{implies}
@@ -105,7 +105,7 @@ turn_at n t x f i goes told = by (eqb n t) refl
     by true same = goes (λ j. ap (λ (k : ℕ). is_in_turn (f k) j) (eqb-true n t same) ∙ told j)
     by false other = told i
 
-module _ (outside : Outside) (m : Moment) (h : Holds m) where
+module _ (outside : Outside) (m : Moment) (h : KnownFacts m) where
   -- the updates of a task that works before an entry, and works after it
   was_in_turn : (e : Entry) → MayNote outside m e → is_opening e ≡ false → (t : ℕ) → works (noting m e) t ≡ true
       → (i : Inst) → is_in_turn (m.known.task t) i ≡ true
@@ -151,12 +151,12 @@ module _ (outside : Outside) (m : Moment) (h : Holds m) where
   turn_note (entries.Snapshot s) may t i is = absurd may
   turn_note entry may t i is = turn_same entry may refl (λ n. same_updates outside m entry n may refl) t i is
 
-turn_move : (outside : Outside) (m : Moment) (move : Move) → IsPermitted outside m move → Holds m
+turn_move : (outside : Outside) (m : Moment) (move : Move) → IsPermitted outside m move → KnownFacts m
     → AreInTurn (later m move)
 turn_move outside m (moves.Note e) may h t i is = turn_note outside m h e may.2 t i is
 turn_move outside m (moves.Stop s) may h t i is = absurd (false≢true (sym (none_works m s t) ∙ is))
 turn_move outside m move may h t i is = ((h.tasks t).working is).in_turn i
 
-pub turns_kept : (outside : Outside) (m : Moment) (move : Move) → IsPermitted outside m move → Holds m
+pub turns_kept : (outside : Outside) (m : Moment) (move : Move) → IsPermitted outside m move → KnownFacts m
     → AreInTurn (later m move)
 turns_kept outside m move may h = turn_move outside m move may h

@@ -1,0 +1,4 @@
+pub mod BeginLemmas
+pub mod FitLemmas
+pub mod KindLemmas
+pub mod MachineLemmas

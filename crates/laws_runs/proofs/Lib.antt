@@ -1,0 +1,10 @@
+pub mod ClaimLemmas
+pub mod DeletionLemmas
+pub mod KeptLemmas
+pub mod PhaseLemmas
+pub mod PlainLemmas
+pub mod ReadLemmas
+pub mod RestLemmas
+pub mod RunLemmas
+pub mod SafeLemmas
+pub mod SnapshotLemmas

@@ -1,0 +1,33 @@
+//! What workers claim.
+ghost use Rattle.std.specs.Prelude.{◌≡◌, ◌≢◌, ℕ, List, false, true};
+ghost use Rattle.bosh_base.specs.declared.moves.Move.{Move};
+ghost use Rattle.bosh_history.specs.Claim.{Waits, claim_at};
+ghost use Rattle.bosh_history.specs.Fit.{IsFit};
+ghost use Rattle.bosh_history.specs.Moments.{Opening, moment};
+ghost use Rattle.bosh_history.specs.Notes.{Outside};
+ghost use Rattle.bosh_history.specs.Permitted.{IsRun};
+ghost use Rattle.laws_claims.specs.Progress.{GoesOn, IsLawful};
+ghost use Rattle.laws_claims.specs.Quiet.{Awaits, is_quiet};
+ghost use Rattle.laws_facts.specs.Owners.{works};
+
+/// At each moment of a permitted history that is not halted, what a worker of a task that works claims is permitted, the
+/// task may end once it is over, and a worker waits beside an open call alone.
+pub fn what_workers_claim_is_lawful()
+    ensures { (outside : Outside) (o : Opening) (moves : List Move) (t worker : ℕ) → IsFit outside o
+        → IsRun outside o moves → works (moment o moves) t ≡ true → (moment o moves).halted ≡ false
+        → IsLawful outside (moment o moves) t (claim_at (moment o moves) t worker) }
+{}
+
+/// A worker of a task that works waits only for an open call, of its task or one that compiles the key of one of the
+/// task's machines. While there is none, it has an entry to note, or the end of the task, and may note it.
+pub fn workers_never_wait_in_vain()
+    ensures awaits { (outside : Outside) (o : Opening) (moves : List Move) (t worker : ℕ) → IsFit outside o
+        → IsRun outside o moves → works (moment o moves) t ≡ true → claim_at (moment o moves) t worker ≡ Waits
+        → Awaits (moment o moves) t }
+    ensures quiet { (outside : Outside) (o : Opening) (moves : List Move) (t worker : ℕ) → IsFit outside o
+        → IsRun outside o moves → works (moment o moves) t ≡ true → is_quiet (moment o moves) t ≡ true
+        → claim_at (moment o moves) t worker ≢ Waits }
+    ensures goes_on { (outside : Outside) (o : Opening) (moves : List Move) (t worker : ℕ) → IsFit outside o
+        → IsRun outside o moves → works (moment o moves) t ≡ true → (moment o moves).halted ≡ false
+        → is_quiet (moment o moves) t ≡ true → GoesOn outside (moment o moves) t worker }
+{}
