@@ -9,6 +9,7 @@ ghost use Rattle.bosh_history.specs.Moments.{Opening, moment};
 ghost use Rattle.bosh_history.specs.Notes.{Outside};
 ghost use Rattle.laws_claims.specs.Progress.{GoesOn, IsLawful};
 ghost use Rattle.laws_claims.specs.Quiet.{Awaits, is_quiet};
+ghost use Rattle.laws_claims.specs.Told.{IsToldWell};
 ghost use Rattle.laws_facts.specs.KnownFacts.{KnownFacts};
 ghost use Rattle.laws_facts.specs.Owners.{works};
 
@@ -31,4 +32,9 @@ pub fn a_claim_never_waits_in_vain()
     ensures goes_on { (outside : Outside) (o : Opening) (moves : List Move) (t worker : ℕ) → KnownFacts (moment o moves)
         → works (moment o moves) t ≡ true → (moment o moves).halted ≡ false → is_quiet (moment o moves) t ≡ true
         → GoesOn outside (moment o moves) t worker }
+{}
+
+/// At each moment of any history no update of a task is told to have failed, and no call of it failed as a stop.
+pub fn each_task_is_told_well()
+    ensures { (o : Opening) (moves : List Move) (t : ℕ) → IsToldWell ((moment o moves).known.task t) }
 {}
