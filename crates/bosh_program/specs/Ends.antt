@@ -47,12 +47,16 @@ pub record IsPlain {I O K L : Type 0} {k : keeper.Ghosts K} {l : keeper.Ghosts L
     pub memory : end.site ≡ None → end.refused ≡ None → (end.status ≡ Memory) × (out_after ≡ out_before)
     pub unread : end.site ≡ None → source_after ≡ source_before
 
+-- the two keepers that were not loaded
+abbrev pub stores_back : {K L : Type 0} → Option (unloaded.Unloaded K L) → Option (K × L)
+stores_back (Some back) = Some (back.store, back.cloud)
+stores_back None = None
+
 -- the two keepers that a session leaves: those of its site, or those that were not loaded
 abbrev pub stores_left : {K L : Type 0} {k : keeper.Ghosts K} {l : keeper.Ghosts L} →
     Option (Site K L k l) → Option (unloaded.Unloaded K L) → Option (K × L)
 stores_left (Some site) refused = Some (site.book.journal.store.inner, site.cloud.store)
-stores_left None (Some back) = Some (back.store, back.cloud)
-stores_left None None = None
+stores_left None refused = stores_back refused
 
 -- The words of the command line are none that are known: nothing is read, and the usage is written.
 pub record IsUsage {I O K L : Type 0} {k : keeper.Ghosts K} {l : keeper.Ghosts L}

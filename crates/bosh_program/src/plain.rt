@@ -1,7 +1,7 @@
 ghost use Rattle.std.specs.Prelude.{◌≡◌, IfOk, IfSome, None, OnErr, OnOk, Some};
 ghost use Rattle.bosh_base.specs.declared.reply.Refusal.{Refusal};
 ghost use Rattle.bosh_handlers.specs.SiteFaults.{site_told};
-ghost use Rattle.bosh_program.specs.Ends.{IsLineWritten, IsPlain, stores_left};
+ghost use Rattle.bosh_program.specs.Ends.{IsLineWritten, IsPlain, stores_back, stores_left};
 ghost use Rattle.bosh_report.specs.Refusal.{refusal_line};
 ghost use Rattle.bosh_transcript.specs.declared.status.Status.TheVariants as statuses;
 
@@ -72,7 +72,7 @@ fn stores_of<K: Keeper + Drop, L: Keeper + Drop>(
 fn refused_stores<K: Keeper + Drop, L: Keeper + Drop>(
     refused: Option<Unloaded<K, L>>,
 ) -> Option<(K, L)>
-    ensures { result ≡ stores_left None refused }
+    ensures { result ≡ stores_back refused }
 {
     match refused {
         Some(Unloaded { store, cloud, .. }) => Some((store, cloud)),
