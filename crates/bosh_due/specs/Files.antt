@@ -1,7 +1,8 @@
 -- The files that a command reads: those that blocks keep stand before those of the shelf (this project's profile).
-use Rattle.std.specs.Prelude.{◌≡◌, ◌≤◌, ℕ, Bool, true, false, List, [], ◌∷◌, ◌++◌, find, is_none, length, nat_le, nat_lt}
+use Rattle.std.specs.Prelude.{◌≡◌, ◌≤◌, ℕ, Bool, true, false, List, [], ◌∷◌, ◌++◌, find, is_none, length, map, nat_le, nat_lt, not}
 use Rattle.std.specs.Prelude.{◌&&◌, codes, Option, Some, None, Result, Ok, Err, if◌then◌else◌}
 use Rattle.std.specs.List.{list_all}
+use Rattle.std.specs.List.Sorted.{IsStrictlySortedBy}
 use Rattle.std.specs.Str.{bytes_eq}
 use Rattle.bosh_answers.specs.Files.{has_path, kept_below, text_at}
 use Rattle.bosh_answers.specs.Folder.{folder_of}
@@ -10,7 +11,7 @@ use Rattle.bosh_base.specs.declared.moves.Move.{Move}
 use Rattle.bosh_base.specs.declared.moves.Move.TheVariants as moves
 use Rattle.bosh_base.specs.declared.reply.Reply.{Reply}
 use Rattle.bosh_base.specs.declared.reply.Reply.TheVariants.{Refused}
-use Rattle.bosh_ports.specs.Shelf.{file_at}
+use Rattle.bosh_ports.specs.Shelf.{byte_order, file_at, has_line_feed}
 use Rattle.bosh_ports.specs.declared.shelf.ShelfFault.{ShelfFault}
 use Rattle.bosh_ports.specs.declared.shelf.ShelfFault.TheVariants.{Absent, Failed, TooLarge}
 use Rattle.bosh_release_files.specs.declared.folder.File.{File}
@@ -62,20 +63,30 @@ IsKeptOr None files path answer = AnswersOrFails files (λ there. shelf_file (fi
 abbrev pub IsFile : FilesRead → List ℕ → Result (List ℕ) ShelfFault → Type 0
 IsFile files path answer = IsKeptOr (text_at files.kept path) files path answer
 
+-- the path of a file of a folder
+abbrev pub path_in : List ℕ → File → List ℕ
+path_in folder file = folder ++ 47 ∷ file.path
+
 -- a file of a folder, whose path no block keeps
 abbrev pub is_unkept : List KeptFile → List ℕ → File → Bool
-is_unkept kept folder file = is_none (find (has_path (folder ++ 47 ∷ file.path)) kept)
+is_unkept kept folder file = is_none (find (has_path (path_in folder file)) kept)
 
 -- .. of a size that is read
 abbrev pub has_file_size : File → Bool
 has_file_size file = nat_le (length file.bytes) 1048576
 
--- Files of a folder, some and not too many: first those of the shelf that no block keeps, and then those that blocks
--- keep.
+-- its path has no line feed
+abbrev pub is_one_line : List ℕ → File → Bool
+is_one_line folder file = not (has_line_feed (path_in folder file))
+
+-- Files of a folder, some and not too many: first those of the shelf that no block keeps, each once and in the byte order
+-- of their paths, and then those that blocks keep.
 pub record AreOfFolder (kept : List KeptFile) (folder : List ℕ) (found : List File) : Type 0 where
   pub shelved : List File
   pub is : found ≡ shelved ++ kept_below folder kept
   pub unkept : list_all (is_unkept kept folder) shelved ≡ true
+  pub one_line : list_all (is_one_line folder) shelved ≡ true
+  pub ordered : IsStrictlySortedBy byte_order (map (path_in folder) shelved)
   pub sizes : list_all has_file_size shelved ≡ true
   pub few : (nat_le 1 (length found) && nat_le (length found) 4096) ≡ true
 

@@ -8,6 +8,7 @@ use Rattle.bosh_base.specs.declared.moves.Move.TheVariants as moves
 use Rattle.bosh_due.specs.Before.{before_of}
 use Rattle.bosh_due.specs.Causes.{HasCauses, StoreFailures, Waits, with_line, without_last_stop}
 use Rattle.bosh_due.specs.Files.{FilesRead, Shelved}
+use Rattle.bosh_due.specs.HaltedBy.HaltedBy.{no_line}
 use Rattle.bosh_due.specs.Restarting.{interruptions}
 use Rattle.bosh_due.specs.Turns.{MakesTurn, MakesTurnUpTo, TurnRead, kept_after}
 use Rattle.bosh_due.specs.UnderWay.{UnderWay}
@@ -109,7 +110,7 @@ at_first o = record {
   kept = [];
   commands = 0;
   has_ended = false;
-  waits = record { lines = []; has_halted = false };
+  waits = record { lines = []; has_lost_count = false; halted_by = no_line };
 }
 
 -- the commands that a turn read

@@ -5,6 +5,7 @@ pub mod Due
 pub mod Ends
 pub mod Files
 pub mod Generating
+pub mod HaltedBy
 pub mod InTurn
 pub mod Jobs
 pub mod Listed

@@ -1,17 +1,22 @@
 -- Lines that wait to let appends and calls fail or to stop the director, and moves that they are the cause of.
-use Rattle.std.specs.Prelude.{ℕ, Bool, false, List, [], ◌∷◌, None, Some}
+use Rattle.std.specs.Prelude.{ℕ, Bool, false, true, List, [], ◌∷◌, Option, None, Some}
 use Rattle.bosh_base.specs.declared.answer.Answer.{Answer}
 use Rattle.bosh_base.specs.declared.method.Method.{Method}
+use Rattle.bosh_base.specs.declared.method.Method.TheVariants.{Start}
 use Rattle.bosh_base.specs.declared.moves.Cause.{Cause}
 use Rattle.bosh_base.specs.declared.moves.Move.{Move}
 use Rattle.bosh_base.specs.declared.moves.Move.TheVariants.{Halt}
-use Rattle.bosh_due.specs.Causes.{HaveCauses, StoreFailures, Waits}
+use Rattle.bosh_due.specs.Causes.{HaveCauses, StoreFailures, WaitingLine, Waits}
+use Rattle.bosh_due.specs.HaltedBy.{HaltedBy}
+use Rattle.bosh_due.specs.HaltedBy.HaltedBy.{in_append, in_call, no_line}
 use Rattle.bosh_due.specs.InTurn.{MakesSession, TurnMade}
 use Rattle.bosh_fates.specs.declared.fate.Fate.TheVariants.{Lose}
 use Rattle.bosh_history.specs.Moments.{nothing}
 use Rattle.bosh_lines.specs.declared.command.Command.{Command}
 use Rattle.bosh_lines.specs.declared.command.Command.TheVariants as commands
+use Rattle.bosh_lines.specs.declared.command.StopCall.{StopCall}
 use Rattle.bosh_lines.specs.declared.word.Others.TheVariants.{Undone}
+use Rattle.bosh_lines.specs.declared.word.When.{When}
 use Rattle.bosh_lines.specs.declared.word.When.TheVariants.{Before}
 use Rattle.examples_histories.specs.Failed.{failed}
 use Rattle.examples_histories.specs.Scenes.{Builder, did, prepared}
@@ -22,31 +27,55 @@ use Rattle.examples_replies.specs.Scenes.{at, no_files}
 
 -- ---- what waits
 
-abbrev pub none_wait : Bool → Waits
-none_wait has_halted = record { lines = []; has_halted = has_halted }
+-- none does, and this halted the director
+abbrev pub none_wait_after : HaltedBy → Waits
+none_wait_after by = record { lines = []; has_lost_count = false; halted_by = by }
+
+abbrev pub none_wait : Waits
+none_wait = none_wait_after no_line
+
+-- .. in a call, or on the cloud's store
+abbrev pub none_wait_behind : HaltedBy → Waits
+none_wait_behind by = record { lines = []; has_lost_count = true; halted_by = by }
+
+abbrev pub waiting : Command → ℕ → WaitingLine
+waiting command left = record { command = command; left = left }
+
+-- these do, and the director has halted in a call, or has not
+abbrev pub all_wait : Bool → List WaitingLine → Waits
+all_wait has_lost_count lines = record { lines = lines; has_lost_count = has_lost_count; halted_by = no_line }
 
 -- one line does, for an append or a call that is so many from now
 abbrev pub one_waits : Command → ℕ → Waits
-one_waits command left = record { lines = record { command = command; left = left } ∷ []; has_halted = false }
+one_waits command left = all_wait false (waiting command left ∷ [])
 
 -- the first append is to fail
 abbrev pub fail_append : Command
 fail_append = commands.FailStore Lose 1
 
--- the director is to stop before an append
+-- the director is to stop before an append, or behind it
+abbrev pub stop_at_append : When → ℕ → Command
+stop_at_append when appends = commands.StopStore when appends
+
 abbrev pub stop_append : ℕ → Command
-stop_append appends = commands.StopStore Before appends
+stop_append appends = stop_at_append Before appends
 
 -- a call of a method is to fail, whose ever it is
 abbrev pub fail_call : Method → ℕ → Command
 fail_call method calls =
     commands.FailCall (record { method = method; owner = None; calls = calls; fate = Lose })
 
--- the director is to stop before one
+-- the director is to stop in one, and the others that are open are to have no effect
+abbrev pub stop_in : When → Method → ℕ → StopCall
+stop_in when method calls = record { when = when; method = method; owner = None; calls = calls; others = Undone }
+
+-- .. before it
 abbrev pub stop_call : Method → ℕ → Command
-stop_call method calls =
-    commands.StopCall
-    (record { when = Before; method = method; owner = None; calls = calls; others = Undone })
+stop_call method calls = commands.StopCall (stop_in Before method calls)
+
+-- an append is to fail, and the director is to stop at the same
+abbrev pub both_at_once : Waits
+both_at_once = all_wait false (waiting fail_append 1 ∷ waiting (stop_append 1) 1 ∷ [])
 
 -- ---- moves
 
@@ -71,9 +100,26 @@ IsUncausedAfter count was move =
     (built : Builder) (now : Waits) →
     HaveCauses none_failed (at prepared count (failed built)).moment was (move ∷ []) now → ⊥
 
--- the call is performed, and answered so
+-- the call is performed, with its effect or without it, and answered so
+abbrev pub performed_with : Bool → Answer → Move
+performed_with effect answer = did 6 effect answer
+
 abbrev pub performed : Answer → Move
-performed answer = did 6 false answer
+performed answer = performed_with false answer
+
+-- a line at an append halted the director, which may find this
+abbrev pub MayFindAfter : Option Bool → Move → Type 0
+MayFindAfter is_there found = AreCaused (none_wait_after (in_append is_there)) (found ∷ []) none_wait
+
+abbrev pub NeverFindsAfter : Option Bool → Move → Type 0
+NeverFindsAfter is_there found = AreUncaused (none_wait_after (in_append is_there)) (found ∷ [])
+
+-- .. and so a line in the call 6
+abbrev pub MayFindIn : When → Move → Type 0
+MayFindIn when found = IsCausedAfter 21 (none_wait_behind (in_call (stop_in when Start 1))) found (none_wait_behind no_line)
+
+abbrev pub NeverFindsIn : When → Move → Type 0
+NeverFindsIn when found = IsUncausedAfter 21 (none_wait_behind (in_call (stop_in when Start 1))) found
 
 -- ---- a session that is cut off
 

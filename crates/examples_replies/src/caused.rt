@@ -1,47 +1,73 @@
-ghost use Rattle.std.specs.Prelude.{[], ◌∷◌, ◌^◌, ◌-◌, false, true};
+ghost use Rattle.std.specs.Prelude.{[], ◌∷◌, ◌^◌, ◌-◌, false, true, None, Some};
 ghost use Rattle.bosh_base.specs.declared.answer.Answer.TheVariants.{Done, Failed};
 ghost use Rattle.bosh_base.specs.declared.method.Method.TheVariants.{CreateVm, Start};
 ghost use Rattle.bosh_base.specs.declared.moves.Cause.TheVariants.{CloudStore, Stop, Store};
 ghost use Rattle.bosh_base.specs.declared.moves.Move.TheVariants.{Halt, Note};
+ghost use Rattle.bosh_due.specs.HaltedBy.HaltedBy.{in_append, in_call};
 ghost use Rattle.bosh_due.specs.InTurn.{FailAsCounted};
-ghost use Rattle.examples_histories.specs.Scenes.{config};
+ghost use Rattle.bosh_lines.specs.declared.word.When.TheVariants.{After, Before};
+ghost use Rattle.examples_histories.specs.Scenes.{config, stop};
 ghost use Rattle.examples_replies.specs.Caused.{AreCaused, AreCausedBy, AreUncaused, IsCausedAfter, IsCutOffBy, IsUncausedAfter};
-ghost use Rattle.examples_replies.specs.Caused.{fail_append, fail_call, none_wait, one_waits, performed, stop_append, stop_call};
+ghost use Rattle.examples_replies.specs.Caused.{MayFindAfter, MayFindIn, NeverFindsAfter, NeverFindsIn, all_wait, both_at_once, fail_append};
+ghost use Rattle.examples_replies.specs.Caused.{fail_call, none_wait, none_wait_after, none_wait_behind, one_waits, performed, performed_with};
+ghost use Rattle.examples_replies.specs.Caused.{stop_append, stop_call, stop_in, waiting};
 ghost use Rattle.examples_replies.specs.OneTurn.{counted, director_failed};
 ghost use Rattle.examples_replies.specs.TwoTurns.{halts};
 
-/// The director halts where its store failed, or where a line let it fail or stopped it; no line is the cause of two halts.
+/// The director halts where its store failed, or where a line let it fail or stopped it; no line is the cause of two
+/// halts, and of two that name one append the first decides.
 pub fn halts_have_causes()
-    ensures store_failed { AreCausedBy (director_failed 1) (none_wait false) (Halt Store ∷ []) (none_wait true) }
-    ensures store_asked { AreCaused (one_waits fail_append 1) (Halt Store ∷ []) (none_wait true) }
-    ensures store_unasked { AreUncaused (none_wait false) (Halt Store ∷ []) }
+    ensures store_failed { AreCausedBy (director_failed 1) none_wait (Halt Store ∷ []) none_wait }
+    ensures store_asked { AreCaused (one_waits fail_append 1) (Halt Store ∷ []) (none_wait_after (in_append (Some false))) }
+    ensures store_unasked { AreUncaused none_wait (Halt Store ∷ []) }
     ensures cloud_unasked { AreUncaused (one_waits fail_append 1) (Halt CloudStore ∷ []) }
-    ensures stop_asked { AreCaused (one_waits (stop_append 1) 1) (Halt Stop ∷ []) (none_wait true) }
-    ensures stop_unasked { AreUncaused (none_wait false) (Halt Stop ∷ []) }
+    ensures stop_asked { AreCaused (one_waits (stop_append 1) 1) (Halt Stop ∷ [])
+        (none_wait_after (in_append (Some false))) }
+    ensures stop_unasked { AreUncaused none_wait (Halt Stop ∷ []) }
     ensures other_asked { AreUncaused (one_waits fail_append 1) (Halt Stop ∷ []) }
     ensures too_soon { AreUncaused (one_waits (stop_append 2) 2) (Halt Stop ∷ []) }
     ensures no_call { AreUncaused (one_waits (stop_call CreateVm 1) 1) (Halt Stop ∷ []) }
+    ensures first_decides { AreCaused both_at_once (Halt Store ∷ []) (none_wait_after (in_append (Some false))) }
+    ensures second_does_not { AreUncaused both_at_once (Halt Stop ∷ []) }
 {}
 
-/// A line stops the director at the append that it names, and at none before.
+/// A line stops the director at the append that it names, and at none before, also where it has halted in a call.
 pub fn appends_are_counted()
     ensures noted { AreCaused (one_waits (stop_append 2) 2) (Note config ∷ []) (one_waits (stop_append 2) 1) }
     ensures not_stopped { AreUncaused (one_waits (stop_append 1) 1) (Note config ∷ []) }
     ensures not_failed { AreUncaused (one_waits fail_append 1) (Note config ∷ []) }
+    ensures behind_a_call { AreUncaused (all_wait true (waiting (stop_append 1) 1 ∷ [])) (Note config ∷ []) }
 {}
 
-/// A call fails, or the director stops in it, exactly where a line names it.
+/// A call fails, or the director stops in it, exactly where a line names it; one that is lost has no effect.
 pub fn calls_are_counted()
-    ensures failed { IsCausedAfter 21 (one_waits (fail_call Start 1) 1) (performed Failed) (none_wait false) }
-    ensures unasked { IsUncausedAfter 21 (none_wait false) (performed Failed) }
+    ensures failed { IsCausedAfter 21 (one_waits (fail_call Start 1) 1) (performed Failed) none_wait }
+    ensures with_effect { IsUncausedAfter 21 (one_waits (fail_call Start 1) 1) (performed_with true Failed) }
+    ensures unasked { IsUncausedAfter 21 none_wait (performed Failed) }
     ensures other_method { IsUncausedAfter 21 (one_waits (fail_call CreateVm 1) 1) (performed Failed) }
     ensures too_soon { IsUncausedAfter 21 (one_waits (fail_call Start 2) 2) (performed Failed) }
     ensures not_failed { IsUncausedAfter 21 (one_waits (fail_call Start 1) 1) (performed Done) }
     ensures later { IsCausedAfter 21 (one_waits (fail_call Start 2) 2) (performed Done)
         (one_waits (fail_call Start 2) 1) }
-    ensures stopped { IsCausedAfter 21 (one_waits (stop_call Start 1) 1) (Halt Stop) (none_wait true) }
+    ensures stopped { IsCausedAfter 21 (one_waits (stop_call Start 1) 1) (Halt Stop)
+        (none_wait_behind (in_call (stop_in Before Start 1))) }
     ensures not_stopped { IsUncausedAfter 21 (one_waits (stop_call Start 1) 1) (performed Done) }
     ensures not_open { IsUncausedAfter 20 (one_waits (stop_call Start 1) 1) (Halt Stop) }
+{}
+
+/// A stop finds what the line says that halted the director: the entry of an append, or the effect of a call.
+pub fn stops_find_what_lines_say()
+    ensures lost { MayFindAfter (Some false) (stop None [] None) }
+    ensures not_lost { NeverFindsAfter (Some false) (stop (Some config) [] None) }
+    ensures kept { MayFindAfter (Some true) (stop (Some config) [] None) }
+    ensures not_kept { NeverFindsAfter (Some true) (stop None [] None) }
+    ensures failed_beside { MayFindAfter None (stop None [] None) }
+    ensures no_call { NeverFindsAfter None (stop None (6 ∷ []) None) }
+    ensures not_begun { MayFindIn Before (stop None [] None) }
+    ensures not_before { NeverFindsIn Before (stop None (6 ∷ []) None) }
+    ensures done { MayFindIn After (stop None (6 ∷ []) None) }
+    ensures other_call { NeverFindsIn After (stop None (5 ∷ []) None) }
+    ensures no_entry { NeverFindsIn After (stop (Some config) [] None) }
 {}
 
 /// For want of memory the director stops last of all, and its store does not fail for it.

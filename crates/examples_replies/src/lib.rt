@@ -24,7 +24,7 @@ mod whole_turns;
 pub use asked::recreations_are_asked;
 pub use caused::{
     appends_are_counted, calls_are_counted, failures_are_told_by_counts, halts_have_causes,
-    want_of_memory_stops,
+    stops_find_what_lines_say, want_of_memory_stops,
 };
 pub use cut_off::{
     all_are_taken, lines_keep_their_number, openings_are_cut_off, runs_are_cut_off, tasks_end_last,

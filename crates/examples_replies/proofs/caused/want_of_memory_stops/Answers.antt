@@ -1,8 +1,7 @@
 use Rattle.std.proofs.Common.{◌∷◌, [], arith, refl}
-use Rattle.std.specs.Prelude.{false}
 use Rattle.bosh_due.specs.Turns.MakesTurnUpTo.{untold}
 use Rattle.bosh_due.specs.UnderWay.UnderWay.{working}
-use Rattle.examples_replies.proofs.Lines.{none_failed_or_asks}
+use Rattle.examples_replies.proofs.Lines.{neither_asks, none_asks}
 use Rattle.examples_replies.specs.Caused.{none_wait}
 use Rattle.examples_replies.proofs.caused.want_of_memory_stops.Goals as goal
 
@@ -12,7 +11,7 @@ returns-clause-stopped c = record {
   are = refl;
   makes = record {
     left = working (1 ∷ []);
-    waits = none_wait false;
+    waits = none_wait;
     goes_on = record { is_open = refl; has_number = refl; has_kept = refl; has_shelf = refl };
     makes_up_to = untold (record { none = refl; goes_on = refl })
         (record {
@@ -25,4 +24,4 @@ returns-clause-stopped c = record {
 }
 
 pub returns-clause-not_failed : goal.returns-clause-not_failed
-returns-clause-not_failed c session = none_failed_or_asks session.makes.causes.caused.1
+returns-clause-not_failed c session = neither_asks (λ failed. omega (arith, failed.0)) none_asks session.makes.causes.caused.1

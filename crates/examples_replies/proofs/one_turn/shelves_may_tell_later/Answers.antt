@@ -1,5 +1,4 @@
 use Rattle.std.proofs.Common.{[], arith, refl}
-use Rattle.std.specs.Prelude.{false}
 use Rattle.bosh_base.specs.declared.reply.Reply.TheVariants as replies
 use Rattle.bosh_due.specs.UnderWay.UnderWay.{idle}
 use Rattle.examples_replies.specs.Caused.{none_wait}
@@ -11,7 +10,7 @@ returns-clause-later c = record {
   are = refl;
   makes = record {
     left = idle;
-    waits = none_wait false;
+    waits = none_wait;
     goes_on = record { is_open = refl; has_number = refl; has_kept = refl; has_shelf = tt };
     makes = (
       record { none = refl; goes_on = refl },

@@ -1,5 +1,5 @@
 use Rattle.std.proofs.Common.{[], ◌∷◌, arith, refl}
-use Rattle.std.specs.Prelude.{None, Some, true}
+use Rattle.std.specs.Prelude.{None, Some}
 use Rattle.bosh_base.specs.declared.reply.Reply.TheVariants as replies
 use Rattle.bosh_due.specs.UnderWay.UnderWay.{idle}
 use Rattle.examples_histories.specs.Scenes.{stop}
@@ -15,7 +15,7 @@ returns-clause-asked c = record {
   are = refl;
   makes = halts_first _ (record {
     left = idle;
-    waits = none_wait true;
+    waits = none_wait;
     goes_on = record { is_open = refl; has_number = refl; has_kept = refl; has_shelf = refl };
     makes = (
       record { none = refl; goes_on = refl },
@@ -29,7 +29,7 @@ returns-clause-asked c = record {
         };
       },
     );
-    causes = record { unread = tt; caused = refl };
+    causes = record { unread = tt; caused = (refl, refl) };
     others = tt;
   });
   failed = record { shelf = omega arith; director = omega arith; cloud = omega arith };

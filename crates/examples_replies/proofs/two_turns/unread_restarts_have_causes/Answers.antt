@@ -1,5 +1,4 @@
 use Rattle.std.proofs.Common.{[], arith, inl, refl}
-use Rattle.std.specs.Prelude.{true}
 use Rattle.bosh_due.specs.UnderWay.UnderWay.{appending}
 use Rattle.examples_replies.proofs.HaltsFirst.{halts_first}
 use Rattle.examples_replies.specs.Caused.{none_wait}
@@ -12,7 +11,7 @@ returns-clause-failed c = record {
   are = refl;
   makes = halts_first _ (record {
     left = appending stemcell;
-    waits = none_wait true;
+    waits = none_wait;
     goes_on = record { is_open = refl; has_number = refl; has_kept = refl; has_shelf = refl };
     makes = (
       record { none = refl; goes_on = refl },
