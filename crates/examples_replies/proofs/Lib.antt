@@ -2,9 +2,12 @@ pub mod Absent
 pub mod Added
 pub mod Behind
 pub mod CutBehind
+pub mod Folders
 pub mod HaltsFirst
 pub mod Later
 pub mod Lines
+pub mod Made
+pub mod Manifests
 pub mod MayBeMade
 pub mod NothingLeft
 pub mod Numbers

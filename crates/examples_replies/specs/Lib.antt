@@ -2,6 +2,8 @@ pub mod Asked
 pub mod AtOnce
 pub mod Caused
 pub mod CutOff
+pub mod Deployed
+pub mod Generated
 pub mod Halted
 pub mod Kept
 pub mod Laws
@@ -17,4 +19,5 @@ pub mod Shelves
 pub mod Stemcells
 pub mod TwoTurns
 pub mod Unasked
+pub mod Uploaded
 pub mod WholeTurns

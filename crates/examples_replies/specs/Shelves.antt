@@ -6,6 +6,7 @@ use Rattle.bosh_due.specs.Files.{FilesRead, IsFile, IsFolder}
 use Rattle.bosh_due.specs.Generating.{said_reply}
 use Rattle.bosh_due.specs.Together.{Numbered, OpensEach}
 use Rattle.bosh_due.specs.UnderWay.{UnderWay}
+use Rattle.bosh_lines.specs.declared.command.Command.{Command}
 use Rattle.bosh_lines.specs.declared.command.Command.TheVariants as commands
 use Rattle.bosh_ports.specs.declared.shelf.ShelfFault.TheVariants.{Failed}
 use Rattle.bosh_release_files.specs.declared.folder.File.{File}
@@ -36,11 +37,14 @@ MayFail failures = IsFile (failed_so_often failures) (codes "m.yml") (Err Failed
 abbrev pub shelf_failed : Reply
 shelf_failed = bare (codes "shelf") (codes "Failed")
 
--- two deploys of files that are looked for
+-- a file is deployed, without an option
+abbrev pub plain_deploy : Command
+plain_deploy =
+    commands.Deploy (record { dep = codes "dep"; path = codes "m.yml"; vars = []; recreate = false; fix = false })
+
+-- .. by the command of a number
 abbrev pub deploy_of_file : ℕ → Numbered
-deploy_of_file number =
-    asks number
-    (commands.Deploy (record { dep = codes "dep"; path = codes "m.yml"; vars = []; recreate = false; fix = false }))
+deploy_of_file number = asks number plain_deploy
 
 abbrev pub two_failures : List Move
 two_failures = said_reply 5 shelf_failed ∷ said_reply 6 shelf_failed ∷ []

@@ -1,4 +1,4 @@
-ghost use Rattle.std.specs.Prelude.{◌≡◌, ◌∷◌, [], false, codes, Ok, Err};
+ghost use Rattle.std.specs.Prelude.{◌≡◌, ◌∷◌, [], codes, Ok, Err};
 ghost use Rattle.bosh_asks.specs.declared.fault.BookFault.TheVariants.{Stopped};
 ghost use Rattle.bosh_base.specs.declared.entry.Entry.TheVariants as entries;
 ghost use Rattle.bosh_base.specs.declared.reply.Reply.TheVariants as replies;
@@ -11,6 +11,7 @@ ghost use Rattle.bosh_lines.specs.declared.command.Command.TheVariants as comman
 ghost use Rattle.bosh_refusals.specs.Told.{book_told, config_told, yaml_told};
 ghost use Rattle.bosh_yaml.specs.declared.fault.ReadFault.TheVariants.{Syntax};
 ghost use Rattle.examples_replies.specs.Kept.{LooksForFirst, at_a_halt, file, going_on};
+ghost use Rattle.examples_replies.specs.Shelves.{plain_deploy};
 
 /// A block stands in the place of the one of its path.
 pub fn files_are_kept()
@@ -25,13 +26,7 @@ pub fn files_are_kept()
 pub fn files_are_looked_for_first()
     ensures no_folder { LooksForFirst (commands.UploadRelease (codes "d") (codes "1")) }
     ensures no_config { LooksForFirst (commands.UpdateCloudConfig (codes "c.yml")) }
-    ensures no_manifest { LooksForFirst (commands.Deploy (record {
-      dep = codes "dep";
-      path = codes "m.yml";
-      vars = [];
-      recreate = false;
-      fix = false;
-    })) }
+    ensures no_manifest { LooksForFirst plain_deploy }
 {}
 
 /// A config that is none is refused before the director is asked, and one that is before it is set.

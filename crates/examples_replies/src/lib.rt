@@ -4,7 +4,9 @@
 mod asked;
 mod caused;
 mod cut_off;
+mod deployed;
 mod files;
+mod generated;
 mod jobs;
 mod laws;
 mod listings;
@@ -30,7 +32,9 @@ pub use cut_off::{
     all_are_taken, lines_keep_their_number, openings_are_cut_off, runs_are_cut_off, tasks_end_last,
     turns_are_cut_in_reading,
 };
+pub use deployed::manifests_are_deployed;
 pub use files::{configs_are_told, files_are_kept, files_are_looked_for_first};
+pub use generated::deployments_are_made;
 pub use jobs::{disks_are_written_and_read, machines_are_lost_and_shown};
 pub use laws::{nothing_is_left, what_is_due_may_be_made};
 pub use listings::{instances_are_listed, records_are_listed, the_cloud_is_listed};
@@ -50,5 +54,5 @@ pub use shelves::{failures_are_counted, kept_files_are_read};
 pub use tasks::{clean_ups_are_told, deploys_are_told, tasks_are_refused_in_order};
 pub use together::tasks_open_in_order;
 pub use two_turns::{later_commands_find_what_was_asked, unread_restarts_have_causes};
-pub use uploads::stemcells_are_told;
+pub use uploads::{folders_are_uploaded, stemcells_are_told};
 pub use whole_turns::turns_are_made;
