@@ -1,10 +1,11 @@
 # run: the program on the first session.  build: proves and builds the program.  test: the gate.  trials: wrong bodies
 # that the gate does not try.  tables: the cases of all tables.  sessions: every session of sessions/ through the built
 # program.  stops: the director is stopped at each call of some sessions.  kills: what keeps stores, and the program, are
-# killed at random moments.  examples: what each example prints.  docs: whether what the pages tell of the tree is so.
+# killed at random moments.  examples: what each example prints.  tutorial: what the commands of docs/TUTORIAL.md print.
+# docs: whether what the pages tell of the tree is so.
 # bench: how times grow, of sessions, of the order of compilation, of texts read, of entries, of releases, of cloud
 # configs and addresses, of goals, of calls on a cloud, of entering a lock.  fmt: lays out all sources.
-.PHONY: run build test trials tables sessions stops kills examples docs bench fmt
+.PHONY: run build test trials tables sessions stops kills examples tutorial docs bench fmt
 
 PROGRAM := crates/boshd/out/boshd
 
@@ -58,6 +59,9 @@ kills: build
 
 examples: build
 	@bash examples/shop/run.sh | diff examples/shop/stdout -
+
+tutorial: build
+	@bash docs/tutorial.sh
 
 docs:
 	@python3 -B docs/check.py
