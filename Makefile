@@ -2,10 +2,10 @@
 # that the gate does not try.  tables: the cases of all tables.  sessions: every session of sessions/ through the built
 # program.  stops: the director is stopped at each call of some sessions.  kills: what keeps stores, and the program, are
 # killed at random moments.  examples: what each example prints.  tutorial: what the commands of docs/TUTORIAL.md print.
-# docs: whether what the pages tell of the tree is so.
+# docs: whether what the pages tell of the tree is so.  pages: writes what pages have by script.
 # bench: how times grow, of sessions, of the order of compilation, of texts read, of entries, of releases, of cloud
 # configs and addresses, of goals, of calls on a cloud, of entering a lock.  fmt: lays out all sources.
-.PHONY: run build test trials tables sessions stops kills examples tutorial docs bench fmt
+.PHONY: run build test trials tables sessions stops kills examples tutorial docs pages bench fmt
 
 PROGRAM := crates/boshd/out/boshd
 
@@ -65,6 +65,9 @@ tutorial: build
 
 docs:
 	@python3 -B docs/check.py
+
+pages:
+	@python3 -B docs/pages.py --write
 
 fmt:
 	@for crate in crates/*/; do (cd "$$crate" && rt fmt) || exit 1; done

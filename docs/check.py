@@ -1,7 +1,7 @@
 #!/usr/bin/env python3
 """Says whether what the pages tell of the tree is so.
 
-It looks at the rows of docs/DEFINITIONS.md, at the files and names of docs/ARCHITECTURE.md, at the contracts that
+It looks at what pages have by script, at the rows of docs/DEFINITIONS.md, at the files and names of docs/ARCHITECTURE.md, at the contracts that
 docs/PROVED.md names, at numbers that can be counted, and at links, commands and names of crates. Each fault is printed,
 and last how many checks were made. The status is 1 where there is a fault.
 
@@ -12,6 +12,7 @@ import re
 import sys
 from collections import Counter
 
+from pages import pages
 from tree import crates, definitions_of, files_of, head_of, headings_of, is_there, items_of, lines_of, names_of
 from tree import rows_of, text_of, times
 
@@ -173,6 +174,12 @@ def check_line(place, line, targets):
         yield bool(is_example) or is_there(path), place, f"there is no {path}"
 
 
+def check_pages():
+    """What pages have by script is as it would be written now."""
+    for page, text in pages().items():
+        yield text == text_of(page), page, "is not as docs/pages.py --write makes it"
+
+
 def check_references():
     """The head of the Makefile says what each target does; README.md leads to each page; what lines name is there."""
     targets = re.findall(r"^([a-z]+):", text_of("Makefile"), re.MULTILINE)
@@ -188,7 +195,7 @@ def check_references():
 def main():
     """Makes all checks, and prints the faults."""
     made, faults = 0, 0
-    for check in (check_definitions, check_places, check_contracts, check_numbers, check_references):
+    for check in (check_pages, check_definitions, check_places, check_contracts, check_numbers, check_references):
         for is_so, place, fault in check():
             made += 1
             if not is_so:
