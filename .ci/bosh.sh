@@ -1,7 +1,7 @@
 #!/usr/bin/env bash
-# Runs each command line of bosh.lines, which begins with `$ `, and compares what is printed, and `status N` where that is
-# not 0, with what follows it there. A stand-in takes the place of the program: it prints the session that it is given,
-# or REPLY where that is set, and then ends with status 1. With --write what is printed is written there.
+# Runs each command line of bosh.lines, which begins with `$ `, and compares what is printed, and `status N` where that
+# is not 0, with what follows it there. A stand-in takes the place of the program: it prints the session that it is
+# given, or REPLY where that is set, and then ends with status 1. With --write what is printed is written there.
 set -u
 here=$(cd "$(dirname "$0")" && pwd)
 folder=$(mktemp -d)

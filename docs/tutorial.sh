@@ -1,7 +1,7 @@
 #!/usr/bin/env bash
-# Carries out the commands of TUTORIAL.md, the lines that begin with `    $ `, one after another from an empty folder on,
-# and compares what they print with what follows them there. With --write what they print is written there. BOSHD may name
-# another program.
+# Carries out the commands of TUTORIAL.md, the lines that begin with `    $ `, one after another from an empty folder
+# on, and compares what they print with what follows them there. With --write what they print is written there. BOSHD
+# may name another program.
 set -u
 if ! command -v sqlite3 > /dev/null; then
     echo "sqlite3 is missing: the tutorial is skipped"
