@@ -1,16 +1,17 @@
 #!/usr/bin/env python3
-"""Writes what pages have by script: the causes and cures of docs/PROFILE.md, and the man page docs/boshd.1.
+"""Writes what pages have by script: causes and cures in docs/PROFILE.md, the man page docs/boshd.1, docs/BELIEVED.md.
 
-The causes and cures are those that bin/bosh tells, and the man page is made of docs/PROFILE.md. With --write the pages
-are written; docs/check.py says where they are otherwise.
+The causes and cures are those that bin/bosh tells, the man page is made of docs/PROFILE.md, and docs/BELIEVED.md lists
+the definitions that statements stand on. With --write the pages are written; docs/check.py says where they are otherwise.
 """
 import os
 import re
 import sys
 
-from tree import TOP, lines_of, text_of
+from tree import TOP, files_of, lines_of, text_of
 
-PROFILE, MANUAL = "docs/PROFILE.md", "docs/boshd.1"
+PROFILE, MANUAL, BELIEVED = "docs/PROFILE.md", "docs/boshd.1", "docs/BELIEVED.md"
+USED = re.compile(r"use Rattle\.(\w+)\.specs\.([\w.]+?)(?:\.\{|$| as )")
 CURES = "## Causes and cures"
 
 
@@ -95,13 +96,78 @@ def manual():
     return "\n".join(lines) + "\n"
 
 
+def used_by(path):
+    """What a file names of the definitions and of the types of this tree: the files of both."""
+    for line in lines_of(path):
+        for crate, place in USED.findall(line):
+            words = place.split(".")
+            if words[0] == "declared":
+                file = f"crates/{crate}/src/{'/'.join(words[1:2])}.rt"
+            else:
+                file = f"crates/{crate}/specs/{'/'.join(words)}.antt"
+            if lines_of(file):
+                yield file
+
+
+def closure(first):
+    """The definitions and the modules of types that a file stands on, through all that these name."""
+    found, left = set(), list(used_by(first))
+    while left:
+        path = left.pop()
+        if path not in found:
+            found.add(path)
+            left += used_by(path) if path.endswith(".antt") else ()
+    return found
+
+
+def believed_rows(paths):
+    """Files as rows of a table, one for each crate."""
+    rows = ["| crate | files of `specs/` |", "|---|---|"]
+    for crate in sorted({path.split("/")[1] for path in paths}):
+        own = sorted(path for path in paths if path.split("/")[1] == crate)
+        rows.append(f"| `{crate}` | {', '.join('`' + path.split('/specs/')[1] + '`' for path in own)} |")
+    return rows
+
+
+def count_lines(paths):
+    """How many lines files have."""
+    return sum(text_of(path).count("\n") for path in paths)
+
+
+def believed():
+    """What has to be read to know what the headline, and the contract of `run`, say."""
+    lines = [
+        "# What must be believed",
+        "",
+        "A proof is worth what its statement says. The prover checks proofs and code, but a definition means what it says"
+        " and no more, and has to be read. This page lists, by script, the definitions that two statements stand on, with"
+        " all that these name in turn. A file is taken whole, so it is somewhat more than the statements need; what `std`"
+        " and the kit's libraries define is left out. [README.md](../README.md), \"What is trusted\", has what is believed"
+        " of the tools and of the system. Lines are rounded.",
+    ]
+    safe, run = "crates/bosh_history/specs/Safe.antt", "crates/bosh_program/src/program.rt"
+    statements = {
+        "The headline": (f"`IsSafe` (`{safe}`) says it of a history.", closure(safe) | {safe}),
+        "The contract of `run`": (f"It is proved of the program's top call (`{run}`).", closure(run)),
+    }
+    for heading, (said, paths) in statements.items():
+        files = [path for path in paths if path.endswith(".antt")]
+        told = f"{said} {len(files)} files of definitions with {round(count_lines(files), -2)} lines,"
+        told += f" over the types of {len(paths) - len(files)} modules of code."
+        lines += ["", f"## {heading}", "", told, "", *believed_rows(files)]
+    lines += ["", "## How much there is", "", "| in all crates | thousand lines |", "|---|---|"]
+    for name, pattern in {"code": "src/**/*.rt", "definitions": "specs/**/*.antt", "proofs": "proofs/**/*.antt"}.items():
+        lines.append(f"| {name} | {round(count_lines(files_of(f'crates/*/{pattern}')), -3) // 1000} |")
+    return "\n".join(lines) + "\n"
+
+
 def pages():
     """Each page that is written here, as it is to be."""
-    return {PROFILE: profile(), MANUAL: manual()}
+    return {PROFILE: profile(), MANUAL: manual(), BELIEVED: believed()}
 
 
 if __name__ == "__main__" and sys.argv[1:] == ["--write"]:
-    for page in (PROFILE, MANUAL):
+    for page in (PROFILE, MANUAL, BELIEVED):
         made = pages()[page]
         with open(os.path.join(TOP, page), "w", encoding="utf-8") as file:
             file.write(made)
