@@ -2,7 +2,8 @@
 """Writes what pages have by script: causes and cures in docs/PROFILE.md, the man page docs/boshd.1, docs/BELIEVED.md.
 
 The causes and cures are those that bin/bosh tells, the man page is made of docs/PROFILE.md, and docs/BELIEVED.md lists
-the definitions that statements stand on. With --write the pages are written; docs/check.py says where they are otherwise.
+the definitions that statements stand on. With --write the pages are written; docs/check.py says where they are
+otherwise.
 """
 import os
 import re
@@ -139,10 +140,11 @@ def believed():
     lines = [
         "# What must be believed",
         "",
-        "A proof is worth what its statement says. The prover checks proofs and code, but a definition means what it says"
-        " and no more, and has to be read. This page lists, by script, the definitions that two statements stand on, with"
-        " all that these name in turn. A file is taken whole, so it is somewhat more than the statements need; what `std`"
-        " and the kit's libraries define is left out. [README.md](../README.md), \"What is trusted\", has what is believed"
+        "A proof is worth what its statement says. The prover checks proofs and code, but a definition means what it"
+        " says and no more, and has to be read. This page lists, by script, the definitions that two statements stand"
+        " on, with all that these name in turn. A file is taken whole, so it is somewhat more than the statements need;"
+        " what `std` and the kit's libraries define is left out. [README.md](../README.md), \"What is trusted\", has"
+        " what is believed"
         " of the tools and of the system. Lines are rounded.",
     ]
     safe, run = "crates/bosh_history/specs/Safe.antt", "crates/bosh_program/src/program.rt"
@@ -156,7 +158,8 @@ def believed():
         told += f" over the types of {len(paths) - len(files)} modules of code."
         lines += ["", f"## {heading}", "", told, "", *believed_rows(files)]
     lines += ["", "## How much there is", "", "| in all crates | thousand lines |", "|---|---|"]
-    for name, pattern in {"code": "src/**/*.rt", "definitions": "specs/**/*.antt", "proofs": "proofs/**/*.antt"}.items():
+    parts = {"code": "src/**/*.rt", "definitions": "specs/**/*.antt", "proofs": "proofs/**/*.antt"}
+    for name, pattern in parts.items():
         lines.append(f"| {name} | {round(count_lines(files_of(f'crates/*/{pattern}')), -3) // 1000} |")
     return "\n".join(lines) + "\n"
 
