@@ -10,8 +10,7 @@ use bosh_keep_sql::{LoadFault, SqlKeeper};
 use bosh_options::threads;
 use bosh_ports::{FolderShelf, OpenGate, Reading, Writing};
 use bosh_program::{Status, StoreName, run, unmade, usage};
-use sqlite::{Connection, FileStore};
-use sqlite_disk::Disk;
+use sqlite::{Alter, Connection};
 use std::io;
 use std::process::ExitCode;
 
@@ -45,10 +44,10 @@ fn with_words(rt: &HostRuntime, words: &[Text]) -> Status {
     }
 }
 
-fn with_director<D: Disk + Drop>(
+fn with_director<S: Alter + Drop>(
     rt: &HostRuntime,
     words: &[Text],
-    connection: Connection<FileStore<D>>,
+    connection: Connection<S>,
 ) -> Status {
     match SqlKeeper::load(rt.alloc(), connection) {
         Ok(store) => with_store(rt, words, store),
@@ -56,22 +55,18 @@ fn with_director<D: Disk + Drop>(
     }
 }
 
-fn with_store<D: Disk + Drop>(
-    rt: &HostRuntime,
-    words: &[Text],
-    store: SqlKeeper<FileStore<D>>,
-) -> Status {
+fn with_store<S: Alter + Drop>(rt: &HostRuntime, words: &[Text], store: SqlKeeper<S>) -> Status {
     match Connection::open(rt, CLOUD) {
         Ok(connection) => with_cloud(rt, words, store, connection),
         Err(_) => not_made(rt, StoreName::Cloud, LoadFault::Failed),
     }
 }
 
-fn with_cloud<D: Disk + Drop, E: Disk + Drop>(
+fn with_cloud<S: Alter + Drop, T: Alter + Drop>(
     rt: &HostRuntime,
     words: &[Text],
-    store: SqlKeeper<FileStore<D>>,
-    connection: Connection<FileStore<E>>,
+    store: SqlKeeper<S>,
+    connection: Connection<T>,
 ) -> Status {
     match SqlKeeper::load(rt.alloc(), connection) {
         Ok(cloud) => session(rt, words, store, cloud),
@@ -79,22 +74,16 @@ fn with_cloud<D: Disk + Drop, E: Disk + Drop>(
     }
 }
 
-// Ends a store, so that its file is whole without its log. Where the log cannot be copied it stays, and nothing is lost
-// by that: the next session goes on from both files, so it is not told.
-fn close<D: Disk + Drop>(store: SqlKeeper<FileStore<D>>) {
-    let _ended = store.close_files();
-}
-
-fn session<D: Disk + Drop, E: Disk + Drop>(
+fn session<S: Alter + Drop, T: Alter + Drop>(
     rt: &HostRuntime,
     words: &[Text],
-    store: SqlKeeper<FileStore<D>>,
-    cloud: SqlKeeper<FileStore<E>>,
+    store: SqlKeeper<S>,
+    cloud: SqlKeeper<T>,
 ) -> Status {
     let mut input = Reading::new(rt.reader());
     let mut out = Writing::new(io::writer(rt));
     let mut shelf = FolderShelf::new(rt);
-    let ended = run(
+    run(
         rt.alloc(),
         words,
         &mut input,
@@ -103,13 +92,8 @@ fn session<D: Disk + Drop, E: Disk + Drop>(
         store,
         cloud,
         &OpenGate,
-    );
-    let (status, stores) = ended.into_stores();
-    if let Some((store, cloud)) = stores {
-        close(store);
-        close(cloud);
-    }
-    status
+    )
+    .close()
 }
 
 fn main(rt: HostRuntime) -> ExitCode {
