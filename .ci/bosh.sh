@@ -3,6 +3,10 @@
 # is not 0, with what follows it there. A stand-in takes the place of the program: it prints the session that it is
 # given, or REPLY where that is set, and then ends with status 1. With --write what is printed is written there.
 set -u
+if ! command -v sqlite3 > /dev/null; then
+    echo "sqlite3 is missing: the command lines of the wrapper are skipped"
+    exit 0
+fi
 here=$(cd "$(dirname "$0")" && pwd)
 folder=$(mktemp -d)
 trap 'rm -rf "$folder"' EXIT
