@@ -1,5 +1,5 @@
 ghost use Rattle.std.specs.Prelude.{◌≡◌, ◌<◌, ◌++◌, [], ◌∷◌, false, length, Err, Some, IfErr, IfOk, OnOk};
-ghost use Rattle.bosh_keep_sql.specs.Ending.{FailsToCopy, StandsAlone};
+ghost use Rattle.bosh_keep_sql.specs.Ending.{EndsWhole, EndsWithLog, FailsToCopy, StandsAlone};
 ghost use Rattle.bosh_keep_sql.specs.Holding.{IsTied};
 ghost use Rattle.bosh_keep_sql.specs.Loads.{DiffersFrom, FailsToLoad, Finds, ListsBodies};
 ghost use Rattle.bosh_keep_sql.specs.Rewrites.{RefusesRewrite, Rewrites};
@@ -123,6 +123,20 @@ impl<D: Disk + Drop> SqlKeeper<FileStore<D>> {
         match connection.close_files() {
             Ok(files) => Ok(files),
             Err((error, store)) => Err((store, fault_of(error))),
+        }
+    }
+
+    /// The same, for a caller that wants nothing of the files.
+    pub fn close(self) -> Result<(), KeepFault>
+        ensures copied { OnOk result (EndsWhole self.bodies self.connection) }
+        ensures failed { IfErr result (EndsWithLog self.connection) }
+    {
+        match self.close_files() {
+            Ok(_files) => Ok(()),
+            Err((store, fault)) => {
+                drop(store.close());
+                Err(fault)
+            }
         }
     }
 }

@@ -10,7 +10,8 @@ use bosh_keep_sql::{LoadFault, SqlKeeper};
 use bosh_options::threads;
 use bosh_ports::{FolderShelf, OpenGate, Reading, Writing};
 use bosh_program::{Status, StoreName, run, unmade, usage};
-use sqlite::{Alter, Connection};
+use sqlite::{Alter, Connection, FileStore};
+use sqlite_disk::Disk;
 use std::io;
 use std::process::ExitCode;
 
@@ -39,26 +40,42 @@ fn carry_out(rt: &HostRuntime, words: &[Text]) -> Status {
 
 fn with_words(rt: &HostRuntime, words: &[Text]) -> Status {
     match Connection::open(rt, DIRECTOR) {
-        Ok(connection) => with_director(rt, words, connection),
+        Ok(connection) => {
+            let (status, store) = with_director(rt, words, connection);
+            end(store);
+            status
+        }
         Err(_) => not_made(rt, StoreName::Director, LoadFault::Failed),
     }
 }
 
+// How the session ended, and the director's store, where it is to be ended.
 fn with_director<S: Alter + Drop>(
     rt: &HostRuntime,
     words: &[Text],
     connection: Connection<S>,
-) -> Status {
+) -> (Status, Option<SqlKeeper<S>>) {
     match SqlKeeper::load(rt.alloc(), connection) {
         Ok(store) => with_store(rt, words, store),
-        Err((_connection, fault)) => not_made(rt, StoreName::Director, fault),
+        Err((_connection, fault)) => (not_made(rt, StoreName::Director, fault), None),
     }
 }
 
-fn with_store<S: Alter + Drop>(rt: &HostRuntime, words: &[Text], store: SqlKeeper<S>) -> Status {
+fn with_store<S: Alter + Drop>(
+    rt: &HostRuntime,
+    words: &[Text],
+    store: SqlKeeper<S>,
+) -> (Status, Option<SqlKeeper<S>>) {
     match Connection::open(rt, CLOUD) {
-        Ok(connection) => with_cloud(rt, words, store, connection),
-        Err(_) => not_made(rt, StoreName::Cloud, LoadFault::Failed),
+        Ok(connection) => {
+            let (status, store, cloud) = with_cloud(rt, words, store, connection);
+            end(cloud);
+            (status, store)
+        }
+        Err(_) => (
+            not_made(rt, StoreName::Cloud, LoadFault::Failed),
+            Some(store),
+        ),
     }
 }
 
@@ -67,10 +84,10 @@ fn with_cloud<S: Alter + Drop, T: Alter + Drop>(
     words: &[Text],
     store: SqlKeeper<S>,
     connection: Connection<T>,
-) -> Status {
+) -> (Status, Option<SqlKeeper<S>>, Option<SqlKeeper<T>>) {
     match SqlKeeper::load(rt.alloc(), connection) {
         Ok(cloud) => session(rt, words, store, cloud),
-        Err((_connection, fault)) => not_made(rt, StoreName::Cloud, fault),
+        Err((_connection, fault)) => (not_made(rt, StoreName::Cloud, fault), Some(store), None),
     }
 }
 
@@ -79,11 +96,11 @@ fn session<S: Alter + Drop, T: Alter + Drop>(
     words: &[Text],
     store: SqlKeeper<S>,
     cloud: SqlKeeper<T>,
-) -> Status {
+) -> (Status, Option<SqlKeeper<S>>, Option<SqlKeeper<T>>) {
     let mut input = Reading::new(rt.reader());
     let mut out = Writing::new(io::writer(rt));
     let mut shelf = FolderShelf::new(rt);
-    run(
+    let ended = run(
         rt.alloc(),
         words,
         &mut input,
@@ -92,8 +109,19 @@ fn session<S: Alter + Drop, T: Alter + Drop>(
         store,
         cloud,
         &OpenGate,
-    )
-    .close()
+    );
+    match ended.into_stores() {
+        (status, Some((store, cloud))) => (status, Some(store), Some(cloud)),
+        (status, None) => (status, None, None),
+    }
+}
+
+// Ends a store, so that its file is whole without its log. Where the log cannot be copied it stays, and nothing is lost by
+// that: the next session goes on from both files, so it is not told.
+fn end<D: Disk + Drop>(store: Option<SqlKeeper<FileStore<D>>>) {
+    if let Some(store) = store {
+        let _copied = store.close();
+    }
 }
 
 fn main(rt: HostRuntime) -> ExitCode {
