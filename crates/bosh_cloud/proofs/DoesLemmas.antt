@@ -2,7 +2,7 @@
 use Rattle.std.proofs.Common.{◌≡◌, ℕ, Bool, true, false, Option, Some, None, Result, Ok, Err, List, [], ◌∷◌, ◌++◌, refl, sym, ◌∙◌, ap, subst, arith, append-nil}
 use Rattle.std.specs.Prelude.{◌⊎◌, IfSome}
 use Rattle.bosh_base.specs.declared.entry.Entry.{Entry}
-use Rattle.bosh_cloud.proofs.LoadingLemmas.{TellsAll-failed, TellsAll-more, TellsAll-same}
+use Rattle.bosh_cloud.proofs.LoadingLemmas.{TellsAll-failed, TellsAll-more, TellsAll-whole}
 use Rattle.bosh_cloud.specs.CloudView.{CloudView}
 use Rattle.bosh_cloud.specs.Notes.{Does, Notes}
 use Rattle.bosh_fates.specs.declared.fate.Doom.{Doom}
@@ -45,7 +45,7 @@ Does-memory bodies faults was added whole = record {
 pub Does-broken : {L T : Type 0} (bodies : L → Option (List (List ℕ))) (faults : L → ℕ) (was : CloudView L)
     (added : List Entry) → was.is_stale ≡ true → Does {T = T} bodies faults (Err Broken) was added was
 Does-broken bodies faults was added stale = record {
-  notes = (stale, stale, refl, refl);
+  notes = (stale, stale, refl, refl, refl);
   count = omega arith;
   kept = λ kept. kept;
 }
@@ -60,23 +60,23 @@ pub Does-kept : {L T : Type 0} (bodies : L → Option (List (List ℕ))) (faults
 Does-kept bodies faults value was now entry whole stays grown list count follows = record {
   notes = (whole, stays, grown, list);
   count = count;
-  kept = TellsAll-more (bodies was.store) (bodies now.store) was.is_stale now.is_stale was.effects now.effects entry
-      whole stays grown list follows;
+  kept = TellsAll-more (bodies was.store) (bodies now.store) was.is_stale now.is_stale was.pending now.pending was.effects
+      now.effects entry whole stays grown list follows;
 }
 
 -- the store failed
 pub Does-failed : {L T : Type 0} (bodies : L → Option (List (List ℕ))) (faults : L → ℕ) (was now : CloudView L)
-    (entry : Entry) → was.is_stale ≡ false → now.is_stale ≡ true → now.effects ≡ was.effects →
+    (entry : Entry) → was.is_stale ≡ false → now.is_stale ≡ true → now.pending ≡ Some (spelling entry) → now.effects ≡ was.effects →
     Rose (faults was.store) (faults now.store) →
     IfSome (bodies was.store)
     (λ list. (bodies now.store ≡ Some list) ⊎ (bodies now.store ≡ Some (list ++ spelling entry ∷ []))) →
     NeverFalls (faults was.store) (faults now.store) → MayFollow was.effects entry →
     Does {T = T} bodies faults (Err StoreFault) was (entry ∷ []) now
-Does-failed bodies faults was now entry whole fails same rose list count follows = record {
-  notes = (whole, fails, same, (λ none. cc), rose, list);
+Does-failed bodies faults was now entry whole fails named same rose list count follows = record {
+  notes = (whole, fails, same, named, rose, list);
   count = count;
-  kept = TellsAll-failed (bodies was.store) (bodies now.store) was.is_stale now.is_stale was.effects now.effects entry
-      whole fails same list follows;
+  kept = TellsAll-failed (bodies was.store) (bodies now.store) was.is_stale now.is_stale was.pending now.pending was.effects
+      now.effects entry whole fails named same list follows;
 }
 
 -- the store had no memory for it
@@ -87,8 +87,8 @@ pub Does-unkept : {L T : Type 0} (bodies : L → Option (List (List ℕ))) (faul
 Does-unkept bodies faults was now added whole stays same list count = record {
   notes = (whole, stays, same, list);
   count = count;
-  kept = TellsAll-same (bodies was.store) (bodies now.store) was.is_stale now.is_stale was.effects now.effects list
-      (stays ∙ sym whole) same;
+  kept = TellsAll-whole (bodies was.store) (bodies now.store) was.is_stale now.is_stale was.pending now.pending was.effects
+      now.effects list whole stays same;
 }
 
 -- the same fault of another call
@@ -153,15 +153,15 @@ Does-kept_seen {L} bodies faults value seen was now entry is whole same grown li
 
 pub Does-failed_seen : {L T : Type 0} (bodies : L → Option (List (List ℕ))) (faults : L → ℕ)
     (seen was now : CloudView L) (entry : Entry) → seen ≡ was → was.is_stale ≡ false → now.is_stale ≡ true →
-    now.effects ≡ seen.effects → Rose (faults seen.store) (faults now.store) →
+    now.pending ≡ Some (spelling entry) → now.effects ≡ seen.effects → Rose (faults seen.store) (faults now.store) →
     IfSome (bodies seen.store)
     (λ list. (bodies now.store ≡ Some list) ⊎ (bodies now.store ≡ Some (list ++ spelling entry ∷ []))) →
     NeverFalls (faults seen.store) (faults now.store) → MayFollow was.effects entry →
     Does {T = T} bodies faults (Err StoreFault) was (entry ∷ []) now
-Does-failed_seen {L} {T} bodies faults seen was now entry is whole fails same rose list count follows =
+Does-failed_seen {L} {T} bodies faults seen was now entry is whole fails named same rose list count follows =
     let whole_seen : seen.is_stale ≡ false = ap (λ (it : CloudView L). it.is_stale) is ∙ whole in
     subst (λ (it : CloudView L). Does {T = T} bodies faults (Err StoreFault) it (entry ∷ []) now) is
-    (Does-failed bodies faults seen now entry whole_seen fails same rose list count
+    (Does-failed bodies faults seen now entry whole_seen fails named same rose list count
     (subst (λ (it : CloudView L). MayFollow it.effects entry) (sym is) follows))
 
 -- what is known of a store that failed

@@ -1,5 +1,5 @@
 -- What is kept is loaded, and what is loaded was kept.
-use Rattle.std.proofs.Common.{◌≡◌, ℕ, Bool, true, false, Option, Some, None, Ok, List, [], ◌∷◌, ◌++◌, sym, ◌∙◌, ap, subst, inl, inr}
+use Rattle.std.proofs.Common.{◌≡◌, ℕ, Bool, true, false, Option, Some, None, Ok, List, [], ◌∷◌, ◌++◌, refl, sym, ◌∙◌, ap, subst, inl, inr}
 use Rattle.std.specs.Prelude.{◌⊎◌, IfSome, if◌then◌else◌}
 use Rattle.std.specs.Option.{option_and_then}
 use Rattle.std.proofs.lemmas.List.Sums.{fold-append}
@@ -30,41 +30,53 @@ loaded-spelled bodies before entry is follows =
     loaded-more bodies before (spelling entry) is ∙ ap (done_with before) (happening-spelled before entry follows)
 
 -- a store whose bodies stay
-pub TellsAll-same : (told later : Option (List (List ℕ))) (was is : Bool) (effects after : List Entry) →
-    IfSome told (λ list. later ≡ Some list) → is ≡ was → after ≡ effects → TellsAll told was effects →
-    TellsAll later is after
-TellsAll-same None later was is effects after list same grown kept = absurd kept
-TellsAll-same (Some bodies) later was is effects after list same grown kept =
-    subst (λ (it : Option (List (List ℕ))). TellsAll it is after) (sym list)
-    (subst (λ (it : Bool). Tell bodies it after) (sym same)
-    (subst (λ (it : List Entry). Tell bodies was it) (sym grown) kept))
+pub TellsAll-same : (told later : Option (List (List ℕ))) (was is : Bool) (pending left : Option (List ℕ))
+    (effects after : List Entry) → IfSome told (λ list. later ≡ Some list) → is ≡ was → left ≡ pending →
+    after ≡ effects → TellsAll told was pending effects → TellsAll later is left after
+TellsAll-same None later was is pending left effects after list same alike grown kept = absurd kept
+TellsAll-same (Some bodies) later was is pending left effects after list same alike grown kept =
+    subst (λ (it : Option (List (List ℕ))). TellsAll it is left after) (sym list)
+    (subst (λ (it : Bool). Tell bodies it left after) (sym same)
+    (subst (λ (it : Option (List ℕ)). Tell bodies was it after) (sym alike)
+    (subst (λ (it : List Entry). Tell bodies was pending it) (sym grown) kept)))
+
+-- .. of a cloud that is whole
+pub TellsAll-whole : (told later : Option (List (List ℕ))) (was is : Bool) (pending left : Option (List ℕ))
+    (effects after : List Entry) → IfSome told (λ list. later ≡ Some list) → was ≡ false → is ≡ false →
+    after ≡ effects → TellsAll told was pending effects → TellsAll later is left after
+TellsAll-whole None later was is pending left effects after list whole stays grown kept = absurd kept
+TellsAll-whole (Some bodies) later was is pending left effects after list whole stays grown kept =
+    let found : effects_in bodies ≡ Ok effects = subst (λ (it : Bool). Tell bodies it pending effects) whole kept in
+    subst (λ (it : Option (List (List ℕ))). TellsAll it is left after) (sym list)
+    (subst (λ (it : Bool). Tell bodies it left after) (sym stays) (found ∙ ap Ok (sym grown)))
 
 -- one that has one body more
-pub TellsAll-more : (told later : Option (List (List ℕ))) (was is : Bool) (effects after : List Entry) (entry : Entry) →
-    was ≡ false → is ≡ false → after ≡ effects ++ entry ∷ [] →
+pub TellsAll-more : (told later : Option (List (List ℕ))) (was is : Bool) (pending left : Option (List ℕ))
+    (effects after : List Entry) (entry : Entry) → was ≡ false → is ≡ false → after ≡ effects ++ entry ∷ [] →
     IfSome told (λ list. later ≡ Some (list ++ spelling entry ∷ [])) → MayFollow effects entry →
-    TellsAll told was effects → TellsAll later is after
-TellsAll-more None later was is effects after entry whole stays grown list follows kept = absurd kept
-TellsAll-more (Some bodies) later was is effects after entry whole stays grown list follows kept =
-    let found : effects_in bodies ≡ Ok effects = subst (λ (it : Bool). Tell bodies it effects) whole kept in
-    subst (λ (it : Option (List (List ℕ))). TellsAll it is after) (sym list)
-    (subst (λ (it : Bool). Tell (bodies ++ spelling entry ∷ []) it after) (sym stays)
+    TellsAll told was pending effects → TellsAll later is left after
+TellsAll-more None later was is pending left effects after entry whole stays grown list follows kept = absurd kept
+TellsAll-more (Some bodies) later was is pending left effects after entry whole stays grown list follows kept =
+    let found : effects_in bodies ≡ Ok effects = subst (λ (it : Bool). Tell bodies it pending effects) whole kept in
+    subst (λ (it : Option (List (List ℕ))). TellsAll it is left after) (sym list)
+    (subst (λ (it : Bool). Tell (bodies ++ spelling entry ∷ []) it left after) (sym stays)
     (subst (λ (it : List Entry). effects_in (bodies ++ spelling entry ∷ []) ≡ Ok it) (sym grown)
     (loaded-spelled bodies effects entry found follows)))
 
 -- one that failed
-pub TellsAll-failed : (told later : Option (List (List ℕ))) (was is : Bool) (effects after : List Entry)
-    (entry : Entry) → was ≡ false → is ≡ true → after ≡ effects →
+pub TellsAll-failed : (told later : Option (List (List ℕ))) (was is : Bool) (pending left : Option (List ℕ))
+    (effects after : List Entry) (entry : Entry) → was ≡ false → is ≡ true → left ≡ Some (spelling entry) → after ≡ effects →
     IfSome told (λ list. (later ≡ Some list) ⊎ (later ≡ Some (list ++ spelling entry ∷ []))) →
-    MayFollow effects entry → TellsAll told was effects → TellsAll later is after
-TellsAll-failed None later was is effects after entry whole fails same list follows kept = absurd kept
-TellsAll-failed (Some bodies) later was is effects after entry whole fails same list follows kept =
-    let found : effects_in bodies ≡ Ok effects = subst (λ (it : Bool). Tell bodies it effects) whole kept in
+    MayFollow effects entry → TellsAll told was pending effects → TellsAll later is left after
+TellsAll-failed None later was is pending left effects after entry whole fails named same list follows kept = absurd kept
+TellsAll-failed (Some bodies) later was is pending left effects after entry whole fails named same list follows kept =
+    let found : effects_in bodies ≡ Ok effects = subst (λ (it : Bool). Tell bodies it pending effects) whole kept in
     let either : (effects_in bodies ≡ Ok after) × (effects_in (bodies ++ spelling entry ∷ []) ≡ Ok (after ++ entry ∷ [])) =
     subst (λ (it : List Entry). (effects_in bodies ≡ Ok it)
     × (effects_in (bodies ++ spelling entry ∷ []) ≡ Ok (it ++ entry ∷ []))) (sym same)
     (found, loaded-spelled bodies effects entry found follows) in
-    subst (λ (it : Bool). TellsAll later it after) (sym fails) (elim list [
-      | inl lost ↦ subst (λ (it : Option (List (List ℕ))). TellsAll it true after) (sym lost) (inl either.0)
-      | inr left ↦ subst (λ (it : Option (List (List ℕ))). TellsAll it true after) (sym left) (inr (entry, either.1))
-    ])
+    subst (λ (it : Bool). TellsAll later it left after) (sym fails)
+    (subst (λ (it : Option (List ℕ)). TellsAll later true it after) (sym named) (elim list [
+      | inl lost ↦ subst (λ (it : Option (List (List ℕ))). TellsAll it true (Some (spelling entry)) after) (sym lost) (inl either.0)
+      | inr left_ ↦ subst (λ (it : Option (List (List ℕ))). TellsAll it true (Some (spelling entry)) after) (sym left_) (inr (entry, refl, either.1))
+    ]))

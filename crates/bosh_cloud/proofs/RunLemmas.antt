@@ -12,11 +12,12 @@ kept_after : {L : Type 0} (bodies : L → Option (List (List ℕ))) (first : Clo
 kept_after bodies first [] kept all = kept
 kept_after bodies first (next ∷ run) kept all = kept_after bodies next run (all.0 kept) all.1
 
-same_found : (told : Option (List (List ℕ))) (is_stale : Bool) (done effects : List Entry) → is_stale ≡ false →
-    TellsAll told is_stale done → IfSome told (λ list. effects_in list ≡ Ok effects) → effects ≡ done
-same_found None is_stale done effects whole kept found = absurd kept
-same_found (Some list) is_stale done effects whole kept found =
-    let told : effects_in list ≡ Ok done = subst (λ (it : Bool). Tell list it done) whole kept in
+same_found : (told : Option (List (List ℕ))) (is_stale : Bool) (pending : Option (List ℕ)) (done effects : List Entry) →
+    is_stale ≡ false → TellsAll told is_stale pending done → IfSome told (λ list. effects_in list ≡ Ok effects) →
+    effects ≡ done
+same_found None is_stale pending done effects whole kept found = absurd kept
+same_found (Some list) is_stale pending done effects whole kept found =
+    let told : effects_in list ≡ Ok done = subst (λ (it : Bool). Tell list it pending done) whole kept in
     let same : Ok effects ≡ Ok done = sym found ∙ told in cc
 
 pub found_after : {L : Type 0} (bodies : L → Option (List (List ℕ))) (faults : L → ℕ) (first : CloudView L)
@@ -24,5 +25,6 @@ pub found_after : {L : Type 0} (bodies : L → Option (List (List ℕ))) (faults
     (after_run first run).is_stale ≡ false → Reads bodies faults (after_run first run).store (Ok effects) store →
     effects ≡ (after_run first run).effects
 found_after bodies faults first run store effects kept all whole reads =
-    same_found (bodies (after_run first run).store) (after_run first run).is_stale (after_run first run).effects effects
+    same_found (bodies (after_run first run).store) (after_run first run).is_stale (after_run first run).pending
+    (after_run first run).effects effects
     whole (kept_after bodies first run kept all) reads.says

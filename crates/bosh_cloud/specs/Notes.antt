@@ -1,5 +1,5 @@
 -- What a cloud is after something was to be done to it.
-use Rattle.std.specs.Prelude.{◌≡◌, ◌≢◌, ◌⊎◌, ℕ, true, false, List, [], ◌++◌, map, Option, Some, IfSome, Result, Ok, Err}
+use Rattle.std.specs.Prelude.{◌≡◌, ◌⊎◌, ℕ, true, false, List, [], ◌∷◌, ◌++◌, map, Option, Some, IfSome, Result, Ok, Err}
 use Rattle.bosh_base.specs.declared.entry.Entry.{Entry}
 use Rattle.bosh_cloud.specs.CloudView.{CloudView}
 use Rattle.bosh_cloud.specs.Loading.{IsKept}
@@ -8,8 +8,13 @@ use Rattle.bosh_cloud.specs.declared.fault.CloudFault.TheVariants.{StoreFault, B
 use Rattle.bosh_entry.specs.Body.{spelling}
 use Rattle.bosh_ports.specs.Faults.{NeverFalls, Rose}
 
--- It was done, and its body stands at the end of the store. Where the store failed it was not done, and the cloud is to
--- be read again; that alone is answered until then. For want of memory nothing is done.
+-- what was to be done is pending
+abbrev pub IsPending : List Entry → Option (List ℕ) → Type 0
+IsPending (entry ∷ []) pending = pending ≡ Some (spelling entry)
+IsPending added pending = ⊥
+
+-- It was done, and its body stands at the end of the store. Where the store failed it was not done, is pending, and the
+-- cloud is to be read again; that alone is answered until then. For want of memory nothing is done.
 abbrev pub Notes : {L T : Type 0} → (L → Option (List (List ℕ))) → (L → ℕ) → Result T CloudFault → CloudView L →
     List Entry → CloudView L → Type 0
 Notes bodies faults (Ok value) was added now =
@@ -17,11 +22,12 @@ Notes bodies faults (Ok value) was added now =
     × IfSome (bodies was.store) (λ list. bodies now.store ≡ Some (list ++ map spelling added))
 Notes bodies faults (Err StoreFault) was added now =
     (was.is_stale ≡ false) × (now.is_stale ≡ true) × (now.effects ≡ was.effects)
-    × (added ≢ []) × Rose (faults was.store) (faults now.store)
+    × IsPending added now.pending × Rose (faults was.store) (faults now.store)
     × IfSome (bodies was.store)
     (λ list. (bodies now.store ≡ Some list) ⊎ (bodies now.store ≡ Some (list ++ map spelling added)))
 Notes bodies faults (Err Broken) was added now =
-    (was.is_stale ≡ true) × (now.is_stale ≡ true) × (now.effects ≡ was.effects) × (now.store ≡ was.store)
+    (was.is_stale ≡ true) × (now.is_stale ≡ true) × (now.effects ≡ was.effects) × (now.pending ≡ was.pending)
+    × (now.store ≡ was.store)
 Notes bodies faults (Err Memory) was added now =
     (was.is_stale ≡ false) × (now.is_stale ≡ false) × (now.effects ≡ was.effects)
     × IfSome (bodies was.store) (λ list. bodies now.store ≡ Some list)

@@ -1,5 +1,5 @@
 -- What it gives to read a store.
-use Rattle.std.specs.Prelude.{◌≡◌, ℕ, Bool, true, false, List, slice_get, Option, Some, IfSome, Result, Ok, Err}
+use Rattle.std.specs.Prelude.{◌≡◌, ℕ, Bool, true, false, List, slice_get, Option, Some, None, IfSome, Result, Ok, Err}
 use Rattle.bosh_base.specs.declared.entry.Entry.{Entry}
 use Rattle.bosh_cloud.specs.Loading.{effects_in, with_body}
 use Rattle.bosh_cloud.specs.declared.fault.CloudFault.{CloudFault}
@@ -53,3 +53,8 @@ abbrev pub is_stale_after : {T : Type 0} → Result T CloudFault → Bool → Bo
 is_stale_after (Ok value) was = false
 is_stale_after (Err Memory) was = was
 is_stale_after (Err fault) was = true
+
+-- what is pending then: nothing, once it was read
+abbrev pub pending_after : {T : Type 0} → Result T CloudFault → Option (List ℕ) → Option (List ℕ)
+pending_after (Ok value) was = None
+pending_after (Err fault) was = was

@@ -6,7 +6,7 @@ ghost use Rattle.bosh_inventory.specs.Rows.{slots};
 ghost use Rattle.bosh_ports.specs.Faults.{count_with};
 
 use crate::CloudFault;
-use bosh_base::{Disk, Entry, Machine, Method, Owner};
+use bosh_base::{Disk, Entry, Machine, Method, Owner, Text};
 use bosh_fates::{Doom, Fate};
 use bosh_inventory::Inventory;
 use bosh_ports::Keeper;
@@ -22,6 +22,8 @@ pub struct SimCloud<L: Keeper> {
     pub(crate) dooms: Vec<Doom>,
     pub(crate) fired: u64,
     pub(crate) is_stale: bool,
+    /// The body that the store failed at last.
+    pub(crate) pending: Option<Text>,
 }
 
 impl<L: Keeper> Model for SimCloud<L> {
@@ -36,6 +38,7 @@ impl<L: Keeper> Model for SimCloud<L> {
       dooms = cloud.dooms.items;
       fired = cloud.fired;
       is_stale = cloud.is_stale;
+      pending = cloud.pending;
     } };
 
     ghost invariant = { λ cloud. cloud.is_stale ≡ false → L.is_broken cloud.store ≡ false };

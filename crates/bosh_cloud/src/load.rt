@@ -1,7 +1,7 @@
 ghost use Rattle.std.specs.Prelude.{◌≡◌, ◌⊎◌, [], ◌∷◌, ◌++◌, false, if◌then◌else◌, length, IfErr, IfOk, IfSome, IsFalse, None, OnOk, Some};
 ghost use Rattle.bosh_cloud.specs.Loading.{done_with, IsKept, with_body};
 ghost use Rattle.bosh_cloud.specs.Notes.{SameFates};
-ghost use Rattle.bosh_cloud.specs.Reads.{is_stale_after, Mends, Reads, ReadsOne, Says, with_effects};
+ghost use Rattle.bosh_cloud.specs.Reads.{is_stale_after, Mends, pending_after, Reads, ReadsOne, Says, with_effects};
 ghost use Rattle.bosh_cloud.specs.declared.fault.CloudFault.TheVariants.{Memory};
 ghost use Rattle.bosh_entry.specs.Body.{IsEntry};
 ghost use Rattle.bosh_inventory.specs.Happens.{happens, MayFollow};
@@ -31,6 +31,7 @@ impl<L: Keeper> SimCloud<L> {
                 dooms: Vec::new(alloc),
                 fired: 0,
                 is_stale: false,
+                pending: None,
             }),
             Err(fault) => Err((store, fault)),
         }
@@ -43,6 +44,7 @@ impl<L: Keeper> SimCloud<L> {
         ensures reads { Reads L.bodies L.faults self.old.store (with_effects result self.new.effects) self.new.store }
         ensures refused { IfErr result (λ _. self.new.effects ≡ self.old.effects) }
         ensures stale { self.new.is_stale ≡ is_stale_after result self.old.is_stale }
+        ensures pending { self.new.pending ≡ pending_after result self.old.pending }
         ensures fates { SameFates self.old self.new }
         ensures kept { IsKept L.bodies self.old → IsKept L.bodies self.new }
     {
@@ -50,6 +52,7 @@ impl<L: Keeper> SimCloud<L> {
             Ok(inventory) => {
                 self.inventory = inventory;
                 self.is_stale = false;
+                self.pending = None;
                 Ok(())
             }
             Err(fault) => {

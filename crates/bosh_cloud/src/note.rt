@@ -99,7 +99,7 @@ impl<L: Keeper> SimCloud<L> {
         ensures fates { SameFates self.old self.new }
     {
         match spelled(self.alloc, &entry) {
-            Ok(body) => self.keep(entry, step, &body),
+            Ok(body) => self.keep(entry, step, Text::from(body)),
             Err(fault) => {
                 drop(entry);
                 drop(step);
@@ -108,19 +108,23 @@ impl<L: Keeper> SimCloud<L> {
         }
     }
 
-    fn keep(&mut self, entry: Entry, step: Step, body: &[u8]) -> Result<(), CloudFault>
+    fn keep(&mut self, entry: Entry, step: Step, body: Text) -> Result<(), CloudFault>
         requires whole { self.old.is_stale ≡ false }
-        requires spelled { body.now ≡ spelling entry }
+        requires spelled { body ≡ spelling entry }
         requires follows { MayFollow self.old.effects entry }
         requires step { IsStep self.old.effects entry step }
         ensures does { Does L.bodies L.faults result self.old (entry ∷ []) self.new }
         ensures fates { SameFates self.old self.new }
     {
-        match self.inventory.put(&mut self.store, body, entry, step) {
+        match self
+            .inventory
+            .put(&mut self.store, body.as_slice(), entry, step)
+        {
             Ok(()) => Ok(()),
             Err(PutFault::Memory) => Err(CloudFault::Memory),
             Err(PutFault::StoreFailed) => {
                 self.is_stale = true;
+                self.pending = Some(body);
                 Err(CloudFault::StoreFault)
             }
         }

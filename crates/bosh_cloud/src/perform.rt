@@ -1,9 +1,10 @@
-ghost use Rattle.std.specs.Prelude.{◌≡◌, false, IfOk, None, Some};
+ghost use Rattle.std.specs.Prelude.{◌≡◌, false, IfErr, IfOk, None, Some};
 ghost use Rattle.bosh_agent.specs.Compiled.{compiled_digest};
 ghost use Rattle.bosh_base.specs.Call.{method_of};
 ghost use Rattle.bosh_base.specs.CallStep.{CallStep};
 ghost use Rattle.bosh_cloud.specs.Notes.{Does, SameFates};
 ghost use Rattle.bosh_cloud.specs.Performs.{new_effects, effects_if, answer_under, fate_of, has_effect, lacked_memory, MeetsFates, Spends};
+ghost use Rattle.bosh_cloud.specs.declared.fault.CloudFault.TheVariants.{Memory};
 
 use crate::{CloudFault, SimCloud};
 use bosh_base::{Answer, Call, Method, Name, Owner};
@@ -44,11 +45,24 @@ impl<L: Keeper> SimCloud<L> {
         answer
     }
 
+    /// What a call would be answered now, with nothing done: `perform` answers the same.
+    pub fn foresee(&self, owner: &Owner, call: &Call) -> Result<Answer, CloudFault>
+        ensures answer { IfOk result (λ answer.
+            answer ≡ answer_under (fate_of self.now owner.now call.now) self.now.effects call.now) }
+        ensures memory { IfErr result (λ fault. fault ≡ Memory) }
+    {
+        match decided(&self.dooms, call.method(), owner) {
+            None => Ok(self.inventory.answer(self.alloc, call)?),
+            Some(_) => Ok(Answer::Failed),
+        }
+    }
+
     fn spend_fates(&mut self, method: Method, owner: &Owner)
         ensures spends { Spends method owner.now self.old self.new }
         ensures store { self.new.store ≡ self.old.store }
         ensures effects { self.new.effects ≡ self.old.effects }
         ensures whole { self.new.is_stale ≡ self.old.is_stale }
+        ensures pending { self.new.pending ≡ self.old.pending }
     {
         let met = met(&self.dooms, method, owner) as u64;
         self.fired = self.fired.saturating_add(met);
