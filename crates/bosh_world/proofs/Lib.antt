@@ -7,3 +7,4 @@ pub mod RestartLemmas
 pub mod SiteLemmas
 pub mod SiteRestartLemmas
 pub mod StopLemmas
+pub mod ToldLemmas

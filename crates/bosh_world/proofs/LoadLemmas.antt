@@ -71,7 +71,7 @@ joins bodies faults is_broken store cloud book was site starts joined comes keep
           ∙ ap (λ it. map Note (drop (read_count it) it.journal.entries)) (sym same);
       told = told;
       running = keeps.same_halt ∙ ap (λ h. h.is_halted) joined.history;
-      no_calls = ap (λ it. it.places.entries) keeps.same_calls ∙ joined.no_calls;
+      no_calls = ap (λ it. it.unsettled) keeps.same_calls ∙ joined.no_calls;
       no_traps = keeps.same_armed ∙ joined.no_traps;
     }
 

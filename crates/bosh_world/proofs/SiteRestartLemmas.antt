@@ -9,9 +9,12 @@ use Rattle.bosh_base.specs.declared.entry.Entry.{Entry}
 use Rattle.bosh_base.specs.declared.moves.Cause.{Cause}
 use Rattle.bosh_base.specs.declared.moves.Move.{Move}
 use Rattle.bosh_base.specs.declared.moves.Move.TheVariants as moves
+use Rattle.bosh_book.specs.Running.{is_stopped}
 use Rattle.bosh_book.specs.Starts.{IsNotReloaded, StartsFrom}
 use Rattle.bosh_book.specs.declared.book.Book.{Book}
 use Rattle.bosh_cloud.specs.CloudView.{CloudView}
+use Rattle.bosh_cloud.specs.Loading.{IsKept}
+use Rattle.bosh_cloud.specs.Notes.{SameFates}
 use Rattle.bosh_cloud.specs.Reads.{Reads}
 use Rattle.bosh_moves.proofs.StoryLemmas.{extends_more}
 use Rattle.bosh_moves.proofs.TellLemmas.{story_all, told_on}
@@ -20,7 +23,8 @@ use Rattle.bosh_moves.specs.Story.{HistoryView, effects_told, halts, kept_count,
 use Rattle.bosh_ports.specs.Rigged.{RigState, broken_of, faults_of}
 use Rattle.bosh_ports.specs.declared.keeper.Keeper as keeper
 use Rattle.bosh_world.specs.Anew.{BookRestarts, GoesAnew, Halts, HaltsAnew, IsAtHalt, SameTraps, StaysUnread}
-use Rattle.bosh_world.specs.Restarts.{IsBookUnread, IsNotRead, IsUnread, RefusesRestart, Restarts, first_halt, read_count}
+use Rattle.bosh_world.specs.IsSite.{IsSite}
+use Rattle.bosh_world.specs.Restarts.{IsBookUnread, IsNotRead, IsUnread, RefusesRestart, Rereads, Restarts, first_halt, read_count}
 use Rattle.bosh_world.specs.Steps.{bodies_of}
 use Rattle.bosh_world.specs.declared.fault.SiteFault.{SiteFault}
 use Rattle.bosh_world.specs.declared.site.Site.{Site}
@@ -55,6 +59,7 @@ pub record IsHaltOf {K L : Type 0} {k : keeper.Ghosts K} {l : keeper.Ghosts L} (
   pub at : IsAtHalt mid.history was.book.journal.entries
   pub same_book : mid.book ≡ was.book
   pub same_cloud : mid.cloud ≡ was.cloud
+  pub same_calls : mid.calls ≡ was.calls
   pub same_armed : mid.traps.items ≡ was.traps.items
   pub same_opening : mid.opening ≡ was.opening
 
@@ -63,15 +68,14 @@ pub restarts : {K L : Type 0} {k : keeper.Ghosts K} {l : keeper.Ghosts L}
     (cloud_bodies : L → Option (List (List ℕ))) (cloud_faults : L → ℕ) (was mid : Site K L k l)
     (started : Result (Unit {0}) BookFault) (halt : Option Cause) (now : Site K L k l) → IsHaltOf was mid →
     BookRestarts bodies faults is_broken mid started halt now →
-    Reads cloud_bodies cloud_faults mid.cloud.store (Ok now.cloud.effects) now.cloud.store → SameTraps mid now →
+    Rereads cloud_bodies cloud_faults mid.cloud now.cloud → SameTraps mid now →
     Restarts bodies faults is_broken cloud_bodies cloud_faults was started halt now
 restarts bodies faults is_broken cloud_bodies cloud_faults was mid started halt now of anew reads same = record {
   book =
       subst (λ (it : Book (RigState _)). StartsFrom (bodies_of bodies) (faults_of faults) (broken_of is_broken) false
       it.journal.store started now.book) of.same_book anew.book;
   cloud =
-      subst (λ (it : CloudView _). Reads cloud_bodies cloud_faults it.store (Ok now.cloud.effects) now.cloud.store)
-      of.same_cloud reads;
+      subst (λ (it : CloudView _). Rereads cloud_bodies cloud_faults it now.cloud) of.same_cloud reads;
   comes = record {
     grows =
         extends_more was.history.moves mid.history.moves now.history.moves anew.anew.grows.0 of.first.grows
@@ -91,7 +95,7 @@ pub restarts_on : {K L F : Type 0} {k : keeper.Ghosts K} {l : keeper.Ghosts L}
     (cloud_bodies : L → Option (List (List ℕ))) (cloud_faults : L → ℕ) (was mid now : Site K L k l)
     (result : Result (Unit {0}) F) → IsHaltOf was mid →
     OnOk result (BookRestarts bodies faults is_broken mid (Ok tt) None now
-    × Reads cloud_bodies cloud_faults mid.cloud.store (Ok now.cloud.effects) now.cloud.store) → SameTraps mid now →
+    × Rereads cloud_bodies cloud_faults mid.cloud now.cloud) → SameTraps mid now →
     OnOk result (Restarts bodies faults is_broken cloud_bodies cloud_faults was (Ok tt) None now)
 restarts_on bodies faults is_broken cloud_bodies cloud_faults was mid now (Ok value) of anew same =
     restarts bodies faults is_broken cloud_bodies cloud_faults was mid (Ok tt) None now of anew.0 anew.1 same
@@ -103,7 +107,8 @@ unread_of : {K L : Type 0} {k : keeper.Ghosts K} {l : keeper.Ghosts L}
     (cloud_bodies : L → Option (List (List ℕ))) (cloud_faults : L → ℕ) (was mid now : Site K L k l) (fault : SiteFault) →
     IsHaltOf was mid → IsUnread bodies faults is_broken cloud_bodies cloud_faults mid fault now →
     IsUnread bodies faults is_broken cloud_bodies cloud_faults was fault now
-unread_of bodies faults is_broken cloud_bodies cloud_faults was mid now fault of (inl memory) = inl memory
+unread_of bodies faults is_broken cloud_bodies cloud_faults was mid now fault of (inl memory) =
+    inl (memory.0, memory.1 ∙ of.same_cloud, memory.2 ∙ of.same_book)
 unread_of bodies faults is_broken cloud_bodies cloud_faults was mid now fault of (inr (inl refused)) =
     inr (inl (
       refused.0,
@@ -115,15 +120,14 @@ unread_of bodies faults is_broken cloud_bodies cloud_faults was mid now fault of
     ))
 unread_of bodies faults is_broken cloud_bodies cloud_faults was mid now fault of (inr (inr unread)) =
     inr (inr (
-      subst (λ (it : CloudView _). Reads cloud_bodies cloud_faults it.store (Ok now.cloud.effects) now.cloud.store)
-          of.same_cloud unread.0,
+      subst (λ (it : CloudView _). Rereads cloud_bodies cloud_faults it now.cloud) of.same_cloud unread.0,
       subst (λ (it : Book (RigState _)). IsBookUnread bodies faults is_broken it fault now.book) of.same_book unread.1,
     ))
 
 not_read : {K L : Type 0} {k : keeper.Ghosts K} {l : keeper.Ghosts L}
     (bodies : K → Option (List (List ℕ))) (faults : K → ℕ) (is_broken : K → Bool)
     (cloud_bodies : L → Option (List (List ℕ))) (cloud_faults : L → ℕ) (was mid now : Site K L k l) (fault : SiteFault) →
-    IsHaltOf was mid → IsUnread bodies faults is_broken cloud_bodies cloud_faults mid fault now → StaysUnread mid now →
+    IsHaltOf was mid → IsUnread bodies faults is_broken cloud_bodies cloud_faults mid fault now → StaysUnread cloud_bodies mid now →
     SameTraps mid now → IsNotRead bodies faults is_broken cloud_bodies cloud_faults was fault now
 not_read bodies faults is_broken cloud_bodies cloud_faults was mid now fault of unread stays same =
     let entries : now.book.journal.entries ≡ was.book.journal.entries =
@@ -142,6 +146,10 @@ not_read bodies faults is_broken cloud_bodies cloud_faults was mid now fault of 
       };
       halted = ap (λ h. h.is_halted) stays.same_history ∙ of.at.halted;
       same_entries = entries;
+      same_fates = subst (λ (it : CloudView _). SameFates it now.cloud) of.same_cloud stays.same_fates;
+      cloud_kept = subst (λ (it : CloudView _). IsKept cloud_bodies it → IsKept cloud_bodies now.cloud) of.same_cloud
+          stays.cloud_kept;
+      same_calls = stays.same_calls ∙ of.same_calls;
       same_armed = same.same_armed ∙ of.same_armed;
       same_opening = same.same_opening ∙ of.same_opening;
     }
@@ -151,8 +159,8 @@ pub refuses_restart : {K L T : Type 0} {k : keeper.Ghosts K} {l : keeper.Ghosts 
     (cloud_bodies : L → Option (List (List ℕ))) (cloud_faults : L → ℕ) (was mid now : Site K L k l)
     (result : Result T SiteFault) → IsHaltOf was mid →
     IfErr result (λ fault. HaltsAnew bodies faults is_broken mid fault now
-    × Reads cloud_bodies cloud_faults mid.cloud.store (Ok now.cloud.effects) now.cloud.store
-    ⊎ IsUnread bodies faults is_broken cloud_bodies cloud_faults mid fault now × StaysUnread mid now) →
+    × Rereads cloud_bodies cloud_faults mid.cloud now.cloud
+    ⊎ IsUnread bodies faults is_broken cloud_bodies cloud_faults mid fault now × StaysUnread cloud_bodies mid now) →
     SameTraps mid now →
     IfErr result (λ fault. RefusesRestart bodies faults is_broken cloud_bodies cloud_faults was fault now)
 refuses_restart bodies faults is_broken cloud_bodies cloud_faults was mid now (Ok value) of refused same = tt
@@ -174,14 +182,15 @@ refuses_restart bodies faults is_broken cloud_bodies cloud_faults was mid now (E
 pub halt_of : {K L : Type 0} {k : keeper.Ghosts K} {l : keeper.Ghosts L} (was mid : Site K L k l)
     (entries effects : List Entry) → entries ≡ was.book.journal.entries → effects ≡ was.cloud.effects →
     Halts was.history entries effects mid.history → IsAtHalt mid.history entries → mid.book ≡ was.book →
-    mid.cloud ≡ was.cloud → mid.traps.items ≡ was.traps.items → mid.opening ≡ was.opening → IsHaltOf was mid
-halt_of was mid entries effects is are first at book cloud armed opening = record {
+    mid.cloud ≡ was.cloud → mid.calls ≡ was.calls → mid.traps.items ≡ was.traps.items → mid.opening ≡ was.opening → IsHaltOf was mid
+halt_of was mid entries effects is are first at book cloud calls armed opening = record {
   first =
       subst (λ (es : List Entry). Halts was.history was.book.journal.entries es mid.history) are
       (subst (λ (es : List Entry). Halts was.history es effects mid.history) is first);
   at = subst (λ (es : List Entry). IsAtHalt mid.history es) is at;
   same_book = book;
   same_cloud = cloud;
+  same_calls = calls;
   same_armed = armed;
   same_opening = opening;
 }
@@ -195,3 +204,48 @@ pub started_by : {K T : Type 0} (bodies : K → Option (List (List ℕ))) (fault
 started_by bodies faults is_broken was now result mended (inl unread) is some =
     absurd (false≢true (sym (ap (λ it. is_some it) (is ∙ unread.mended)) ∙ some))
 started_by bodies faults is_broken was now result mended (inr starts) is some = starts
+
+-- the cloud was read again before
+pub refused_reread : {K L T : Type 0} {k : keeper.Ghosts K} {l : keeper.Ghosts L}
+    (bodies : K → Option (List (List ℕ))) (faults : K → ℕ) (is_broken : K → Bool)
+    (cloud_bodies : L → Option (List (List ℕ))) (cloud_faults : L → ℕ) (was now : Site K L k l) (cloud : CloudView L)
+    (site : IsSite was.book.journal.entries (is_stopped was.book) cloud.is_stale was.history) (result : Result T SiteFault) →
+    Rereads cloud_bodies cloud_faults was.cloud cloud → now.cloud ≡ cloud →
+    IfErr result (λ fault. HaltsAnew bodies faults is_broken (record was { cloud = cloud; is_site = site }) fault now
+    ⊎ IsBookUnread bodies faults is_broken was.book fault now.book
+    × StaysUnread cloud_bodies (record was { cloud = cloud; is_site = site }) now) →
+    IfErr result (λ fault. HaltsAnew bodies faults is_broken was fault now
+    × Rereads cloud_bodies cloud_faults was.cloud now.cloud
+    ⊎ IsUnread bodies faults is_broken cloud_bodies cloud_faults was fault now × StaysUnread cloud_bodies was now)
+refused_reread bodies faults is_broken cloud_bodies cloud_faults was now cloud site (Ok value) rereads same refused = tt
+refused_reread bodies faults is_broken cloud_bodies cloud_faults was now cloud site (Err fault) rereads same (inl anew) =
+    inl (
+      record {
+        started = anew.started;
+        cause = anew.cause;
+        again = anew.again;
+        restarts = record {
+          book = anew.restarts.book;
+          anew = anew.restarts.anew;
+          no_calls = anew.restarts.no_calls;
+        };
+      },
+      subst (λ (it : CloudView _). Rereads cloud_bodies cloud_faults was.cloud it) (sym same) rereads,
+    )
+refused_reread bodies faults is_broken cloud_bodies cloud_faults was now cloud site (Err fault) rereads same (inr unread) =
+    inr (
+      inr (inr (
+        subst (λ (it : CloudView _). Rereads cloud_bodies cloud_faults was.cloud it) (sym same) rereads,
+        unread.0,
+      )),
+      record {
+        same_history = unread.1.same_history;
+        same_entries = unread.1.same_entries;
+        same_fates = (
+          unread.1.same_fates.0 ∙ rereads.same_fates.0,
+          unread.1.same_fates.1 ∙ rereads.same_fates.1,
+        );
+        cloud_kept = λ kept. unread.1.cloud_kept (rereads.kept kept);
+        same_calls = unread.1.same_calls;
+      },
+    )

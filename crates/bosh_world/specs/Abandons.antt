@@ -16,6 +16,7 @@ pub record GivesUp {K L : Type 0} {k : keeper.Ghosts K} {l : keeper.Ghosts L} (w
   pub halted : now.history.is_halted ≡ true
   pub book : now.book ≡ record was.book { standing = Abandoned }
   pub same_cloud : now.cloud ≡ was.cloud
+  pub same_calls : now.calls ≡ was.calls
   pub same_armed : now.traps.items ≡ was.traps.items
   pub same_opening : now.opening ≡ was.opening
 

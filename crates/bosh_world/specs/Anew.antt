@@ -9,6 +9,8 @@ use Rattle.bosh_base.specs.declared.moves.Cause.TheVariants as causes
 use Rattle.bosh_base.specs.declared.moves.Move.TheVariants as moves
 use Rattle.bosh_book.specs.Starts.{StartsFrom}
 use Rattle.bosh_book.specs.declared.book.Book.{Book}
+use Rattle.bosh_cloud.specs.Loading.{IsKept}
+use Rattle.bosh_cloud.specs.Notes.{SameFates}
 use Rattle.bosh_moves.specs.Found.{kept_at, stop_of}
 use Rattle.bosh_moves.specs.Story.{HistoryView, IsOf, IsTold, effects_told, halts, kept_count, story}
 use Rattle.bosh_ports.specs.Rigged.{RigState, broken_of, faults_of}
@@ -58,7 +60,7 @@ pub record BookRestarts {K L : Type 0} {k : keeper.Ghosts K} {l : keeper.Ghosts 
   pub book : StartsFrom (bodies_of bodies) (faults_of faults) (broken_of is_broken) false was.book.journal.store started
       now.book
   pub anew : GoesAnew was.history now.book.journal.entries now.cloud.effects (has_kept_entry was.history now.book) halt now.history
-  pub no_calls : now.calls.places.entries ≡ []
+  pub no_calls : now.calls.unsettled ≡ []
 
 -- the same of a book that did not start, or whose start was not told
 pub record HaltsAnew {K L : Type 0} {k : keeper.Ghosts K} {l : keeper.Ghosts L}
@@ -70,9 +72,13 @@ pub record HaltsAnew {K L : Type 0} {k : keeper.Ghosts K} {l : keeper.Ghosts L}
   pub restarts : BookRestarts bodies faults is_broken was started (Some cause) now
 
 -- a store was not read, and nothing was told
-pub record StaysUnread {K L : Type 0} {k : keeper.Ghosts K} {l : keeper.Ghosts L} (was now : Site K L k l) : Type 0 where
+pub record StaysUnread {K L : Type 0} {k : keeper.Ghosts K} {l : keeper.Ghosts L} (bodies : L → Option (List (List ℕ)))
+    (was now : Site K L k l) : Type 0 where
   pub same_history : now.history ≡ was.history
   pub same_entries : now.book.journal.entries ≡ was.book.journal.entries
+  pub same_fates : SameFates was.cloud now.cloud
+  pub cloud_kept : IsKept bodies was.cloud → IsKept bodies now.cloud
+  pub same_calls : now.calls ≡ was.calls
 
 -- the rest of a site stays where it starts anew
 pub record SameTraps {K L : Type 0} {k : keeper.Ghosts K} {l : keeper.Ghosts L} (was now : Site K L k l) : Type 0 where

@@ -4,7 +4,7 @@ use Rattle.bosh_base.specs.declared.answer.Answer.{Answer}
 use Rattle.bosh_base.specs.declared.moves.Move.{Move}
 use Rattle.bosh_base.specs.declared.moves.Move.TheVariants.{Did}
 use Rattle.bosh_book.specs.Current.{IsCurrent}
-use Rattle.bosh_world.specs.Calls.{place_of}
+use Rattle.bosh_calls.specs.Calls.{place_of}
 use Rattle.bosh_ports.specs.declared.keeper.Keeper as keeper
 use Rattle.bosh_world.specs.declared.site.Site.{Site}
 use Rattle.bosh_world.specs.declared.held.HeldCall.{HeldCall}
@@ -23,4 +23,4 @@ HasAnswered moves None n answer = ⊥
 abbrev pub IsHeld : {K L : Type 0} {k : keeper.Ghosts K} {l : keeper.Ghosts L} → Site K L k l → HeldCall → Type 0
 IsHeld site call =
     IsCurrent site.book call.permit
-    × HasAnswered site.history.moves (place_of site.calls call.permit.n) call.permit.n call.answer
+    × HasAnswered site.history.moves (place_of site.calls.unsettled call.permit.n) call.permit.n call.answer

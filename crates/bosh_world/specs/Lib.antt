@@ -1,8 +1,6 @@
 pub mod Abandons
 pub mod Anew
 pub mod Arms
-pub mod Calls
-pub mod Did
 pub mod Faults
 pub mod Holds
 pub mod Jobs

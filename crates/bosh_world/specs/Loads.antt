@@ -1,11 +1,12 @@
 -- What a site is that was loaded.
-use Rattle.std.specs.Prelude.{◌≡◌, ◌⊎◌, ℕ, Bool, true, false, List, [], length, map, drop, Option, None, Ok, Err}
+use Rattle.std.specs.Prelude.{◌≡◌, ◌⊎◌, ℕ, Bool, true, false, List, [], length, map, drop, IfSome, Option, None, Ok, Err}
 use Rattle.bosh_asks.specs.declared.fault.BookFault.{BookFault}
 use Rattle.bosh_base.specs.declared.entry.Entry.{Entry}
 use Rattle.bosh_base.specs.declared.moves.Move.TheVariants as moves
 use Rattle.bosh_book.specs.Starts.{IsNotLoaded, StartsFrom}
 use Rattle.bosh_book.specs.declared.book.Book.{Book}
 use Rattle.bosh_cloud.specs.CloudView.{CloudView}
+use Rattle.bosh_cloud.specs.Loading.{IsKept}
 use Rattle.bosh_cloud.specs.Reads.{Reads}
 use Rattle.bosh_cloud.specs.declared.fault.CloudFault.{CloudFault}
 use Rattle.bosh_ports.specs.Rigged.{RigState, broken_of, faults_of}
@@ -30,12 +31,13 @@ pub record Loads {K L : Type 0} {k : keeper.Ghosts K} {l : keeper.Ghosts L}
   pub book : StartsFrom {T = Unit {0}} (bodies_of bodies) (faults_of faults) (broken_of is_broken) true (without_rigs store)
       (Ok tt) site.book
   pub cloud_of : Reads cloud_bodies cloud_faults cloud (Ok site.cloud.effects) site.cloud.store
+  pub cloud_kept : IfSome (cloud_bodies cloud) (λ _. IsKept cloud_bodies site.cloud)
   pub fresh : site.cloud ≡ record site.cloud { dooms = []; fired = 0; is_stale = false }
   pub opening : site.opening ≡ (read_count site.book, length site.cloud.effects)
   pub moves_of : site.history.moves ≡ map moves.Note (drop (read_count site.book) site.book.journal.entries)
   pub told : IsAllTold site
   pub running : site.history.is_halted ≡ false
-  pub no_calls : site.calls.places.entries ≡ []
+  pub no_calls : site.calls.unsettled ≡ []
   pub no_traps : site.traps.items ≡ []
 
 -- the book was not loaded
@@ -77,7 +79,7 @@ pub record IsJoined {K L : Type 0} {k : keeper.Ghosts K} {l : keeper.Ghosts L}
     is_halted = false;
   }
   pub opening : site.opening ≡ (read_count book, length cloud.effects)
-  pub no_calls : site.calls.places.entries ≡ []
+  pub no_calls : site.calls.unsettled ≡ []
   pub no_traps : site.traps.items ≡ []
 
 -- the book of a store joins a cloud, and the moves tell the ends of its tasks
@@ -91,5 +93,5 @@ pub record Joins {K L : Type 0} {k : keeper.Ghosts K} {l : keeper.Ghosts L}
   pub moves_of : site.history.moves ≡ map moves.Note (drop (read_count site.book) site.book.journal.entries)
   pub told : IsAllTold site
   pub running : site.history.is_halted ≡ false
-  pub no_calls : site.calls.places.entries ≡ []
+  pub no_calls : site.calls.unsettled ≡ []
   pub no_traps : site.traps.items ≡ []

@@ -9,6 +9,9 @@ use Rattle.bosh_base.specs.declared.moves.Move.{Move}
 use Rattle.bosh_base.specs.declared.moves.Move.TheVariants as moves
 use Rattle.bosh_book.specs.Starts.{IsNotReloaded, StartsFrom}
 use Rattle.bosh_book.specs.declared.book.Book.{Book}
+use Rattle.bosh_cloud.specs.CloudView.{CloudView}
+use Rattle.bosh_cloud.specs.Loading.{IsKept}
+use Rattle.bosh_cloud.specs.Notes.{SameFates}
 use Rattle.bosh_cloud.specs.Reads.{Reads}
 use Rattle.bosh_cloud.specs.declared.fault.CloudFault.{CloudFault}
 use Rattle.bosh_moves.specs.Found.{kept_at, stop_of}
@@ -49,6 +52,14 @@ restart_moves was now halt =
     + kept_count (Some (has_found_entry was now.book))) now.book.journal.entries)
     ++ halts halt
 
+-- the cloud was read again: what its store tells was done to it, and the fates wait on
+pub record Rereads {L : Type 0}
+    (bodies : L → Option (List (List ℕ))) (faults : L → ℕ) (was now : CloudView L) : Type 0 where
+  pub reads : Reads bodies faults was.store (Ok now.effects) now.store
+  pub whole : now.is_stale ≡ false
+  pub same_fates : SameFates was now
+  pub kept : IsKept bodies was → IsKept bodies now
+
 -- The director starts anew over its two stores, and no call is open.
 pub record Restarts {K L : Type 0} {k : keeper.Ghosts K} {l : keeper.Ghosts L}
     (bodies : K → Option (List (List ℕ))) (faults : K → ℕ) (is_broken : K → Bool)
@@ -56,10 +67,10 @@ pub record Restarts {K L : Type 0} {k : keeper.Ghosts K} {l : keeper.Ghosts L}
     (started : Result (Unit {0}) BookFault) (halt : Option Cause) (now : Site K L k l) : Type 0 where
   pub book : StartsFrom (bodies_of bodies) (faults_of faults) (broken_of is_broken) false was.book.journal.store started
       now.book
-  pub cloud : Reads cloud_bodies cloud_faults was.cloud.store (Ok now.cloud.effects) now.cloud.store
+  pub cloud : Rereads cloud_bodies cloud_faults was.cloud now.cloud
   pub comes : Comes was (first_halt was.history.is_halted ++ restart_moves was now halt) now
   pub halted : now.history.is_halted ≡ is_some halt
-  pub no_calls : now.calls.places.entries ≡ []
+  pub no_calls : now.calls.unsettled ≡ []
   pub same_armed : now.traps.items ≡ was.traps.items
   pub same_opening : now.opening ≡ was.opening
 
@@ -86,10 +97,10 @@ abbrev pub IsUnread : {K L : Type 0} {k : keeper.Ghosts K} {l : keeper.Ghosts L}
     (K → Option (List (List ℕ))) → (K → ℕ) → (K → Bool) →
     (L → Option (List (List ℕ))) → (L → ℕ) → Site K L k l → SiteFault → Site K L k l → Type 0
 IsUnread bodies faults is_broken cloud_bodies cloud_faults was fault now =
-    (fault ≡ Memory)
+    ((fault ≡ Memory) × (now.cloud ≡ was.cloud) × (now.book ≡ was.book))
     ⊎ (((refusal : CloudFault) × (Reads cloud_bodies cloud_faults was.cloud.store (Err refusal) now.cloud.store
     × (fault ≡ of_cloud refusal)))
-    ⊎ (Reads cloud_bodies cloud_faults was.cloud.store (Ok now.cloud.effects) now.cloud.store
+    ⊎ (Rereads cloud_bodies cloud_faults was.cloud now.cloud
     × IsBookUnread bodies faults is_broken was.book fault now.book))
 
 -- the site has halted, and the entries were not read
@@ -101,6 +112,9 @@ pub record IsNotRead {K L : Type 0} {k : keeper.Ghosts K} {l : keeper.Ghosts L}
   pub comes : Comes was (first_halt was.history.is_halted) now
   pub halted : now.history.is_halted ≡ true
   pub same_entries : now.book.journal.entries ≡ was.book.journal.entries
+  pub same_fates : SameFates was.cloud now.cloud
+  pub cloud_kept : IsKept cloud_bodies was.cloud → IsKept cloud_bodies now.cloud
+  pub same_calls : now.calls ≡ was.calls
   pub same_armed : now.traps.items ≡ was.traps.items
   pub same_opening : now.opening ≡ was.opening
 

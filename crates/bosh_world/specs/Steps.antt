@@ -1,6 +1,6 @@
 -- What a call of a site has done: the entries of the book, the effects of the cloud, and the moves that tell of them.
 use Rattle.std.specs.Prelude.{◌≡◌, ◌≤◌, ◌⊎◌, ℕ, is_some, All, List, [], ◌∷◌, ◌++◌, length, map, Option, Some, None}
-use Rattle.std.specs.Prelude.{Ok}
+use Rattle.std.specs.Prelude.{Result, Ok, Err}
 use Rattle.bosh_asks.specs.declared.ask.Ask.{Ask}
 use Rattle.bosh_base.specs.History.{Extends}
 use Rattle.bosh_base.specs.declared.entry.Entry.{Entry}
@@ -17,8 +17,11 @@ use Rattle.bosh_book.specs.Opens.{IsOpeningOf}
 use Rattle.bosh_book.specs.Claims as claims
 use Rattle.bosh_book.specs.Turns.{Gives, IsUpdate}
 use Rattle.bosh_book.specs.declared.claim.Claim.{Claim}
+use Rattle.bosh_book.specs.declared.claim.Claim.TheVariants as given
 use Rattle.bosh_book.specs.declared.uploads.Added.{Added}
 use Rattle.bosh_book.specs.declared.uploads.Added.TheVariants.{New, Same}
+use Rattle.bosh_calls.specs.Calls.{with_begun, without}
+use Rattle.bosh_calls.specs.declared.calls.OpenCall.{OpenCall}
 use Rattle.bosh_ports.specs.Rigged.{RigState, faults_of}
 use Rattle.bosh_ports.specs.declared.keeper.Keeper as keeper
 use Rattle.bosh_world.specs.declared.site.Site.{Site}
@@ -109,3 +112,13 @@ pub record Claims {K L : Type 0} {k : keeper.Ghosts K} {l : keeper.Ghosts L}
   pub gives : Gives claim last
   pub notes : Notes bodies faults was (updates ++ last) None now
   pub by_turns : claims.Claims (bodies_of bodies) (faults_of faults) task worker was.book (Ok claim) now.book
+
+-- the open calls after a claim: one that was given can be performed
+abbrev pub calls_claimed : {F : Type 0} → Result Claim F → List OpenCall → List OpenCall
+calls_claimed (Ok (given.Work permit)) calls = with_begun permit.n calls
+calls_claimed answer calls = calls
+
+-- .. and after one was to be settled
+abbrev pub calls_settled : {T F : Type 0} → Result T F → ℕ → List OpenCall → List OpenCall
+calls_settled (Ok value) n calls = without n calls
+calls_settled (Err fault) n calls = calls

@@ -4,7 +4,7 @@ use Rattle.bosh_base.specs.declared.moves.Move.{Move}
 use Rattle.bosh_book.specs.Current.{IsCurrent}
 use Rattle.bosh_book.specs.declared.granted.Granted.{Granted}
 use Rattle.bosh_moves.specs.Story.{story}
-use Rattle.bosh_world.specs.Calls.{is_performable}
+use Rattle.bosh_calls.specs.Calls.{is_performable}
 use Rattle.bosh_ports.specs.declared.keeper.Keeper as keeper
 use Rattle.bosh_world.specs.declared.site.Site.{Site}
 
@@ -14,4 +14,4 @@ story_of site = story site.history site.book.journal.entries site.cloud.effects
 
 -- a permit whose call can be performed: it is open, and was not performed yet
 abbrev pub IsPerformable : {K L : Type 0} {k : keeper.Ghosts K} {l : keeper.Ghosts L} → Site K L k l → Granted → Type 0
-IsPerformable site permit = IsCurrent site.book permit × (is_performable site.calls permit.n ≡ true)
+IsPerformable site permit = IsCurrent site.book permit × (is_performable site.calls.unsettled permit.n ≡ true)

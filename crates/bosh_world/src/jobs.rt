@@ -5,7 +5,7 @@ ghost use Rattle.bosh_base.specs.Cloud.{is_disk_there, is_vm_there};
 ghost use Rattle.bosh_base.specs.declared.entry.Entry.TheVariants as entries;
 ghost use Rattle.bosh_base.specs.declared.moves.Move.TheVariants as moves;
 ghost use Rattle.bosh_holdings.specs.Finding.{lost_vm, read_disk, written_disk};
-ghost use Rattle.bosh_world.specs.Jobs.{Changes, FailsJob, IsMissing, IsNotRead, IsNotRunning, RefusesJob};
+ghost use Rattle.bosh_world.specs.Jobs.{Changes, FailsJob, IsLoss, IsMissing, IsNotRead, IsNotRunning, IsWrite, RefusesJob};
 ghost use Rattle.bosh_world.specs.Steps.{IsAllTold};
 ghost use Rattle.bosh_world.specs.declared.fault.SiteFault.TheVariants as faults;
 ghost use Rattle.bosh_world.specs.Silent.{IsSilent, moves_of};
@@ -25,7 +25,7 @@ impl<K: Keeper, L: Keeper> Site<K, L> {
             × Changes L.bodies L.faults self.old (entries.Write (record { disk = disk; text = text.now }))
             (moves.Wrote (record { inst = inst.now; text = text.now })) self.new) }
         ensures refused { IfErr result (λ fault. RefusesJob L.bodies L.faults self.old
-            (IsNotRunning self.old inst.now) fault self.new) }
+            (IsWrite self.old inst.now text.now) (IsNotRunning self.old inst.now) fault self.new) }
         ensures grows { Extends (moves_of self.old) (moves_of self.new) }
         ensures silent { IsSilent self.old self.new }
     {
@@ -49,11 +49,12 @@ impl<K: Keeper, L: Keeper> Site<K, L> {
     fn write_to(&mut self, disk: u64, inst: &Inst, text: &[u8]) -> Result<(), SiteFault>
         requires running { self.old.history.is_halted ≡ false }
         requires there { IsTrue (is_disk_there self.old.cloud.effects disk) }
+        requires its { written_disk self.old.book.records self.old.cloud.effects inst.now ≡ Some disk }
         ensures written { OnOk result (
             Changes L.bodies L.faults self.old (entries.Write (record { disk = disk; text = text.now }))
             (moves.Wrote (record { inst = inst.now; text = text.now })) self.new) }
         ensures refused { IfErr result (λ fault. RefusesJob L.bodies L.faults self.old
-            (IsNotRunning self.old inst.now) fault self.new) }
+            (IsWrite self.old inst.now text.now) (IsNotRunning self.old inst.now) fault self.new) }
         ensures grows { Extends (moves_of self.old) (moves_of self.new) }
         ensures silent { IsSilent self.old self.new }
     {
@@ -71,7 +72,8 @@ impl<K: Keeper, L: Keeper> Site<K, L> {
         ensures written { OnOk result (
             Changes L.bodies L.faults self.old (entries.Write (record { disk = disk; text = text.now }))
             (moves.Wrote wrote) self.new) }
-        ensures refused { IfErr result (λ fault. FailsJob L.bodies L.faults self.old fault self.new) }
+        ensures refused { IfErr result (λ fault. FailsJob L.bodies L.faults self.old
+            (entries.Write (record { disk = disk; text = text.now })) fault self.new) }
         ensures grows { Extends (moves_of self.old) (moves_of self.new) }
         ensures silent { IsSilent self.old self.new }
     {
@@ -124,7 +126,7 @@ impl<K: Keeper, L: Keeper> Site<K, L> {
             × Changes L.bodies L.faults self.old (entries.Lost (record { vm = vm; whole = whole }))
             (moves.Lost (record { vm = vm; whole = whole })) self.new) }
         ensures refused { IfErr result (λ fault. RefusesJob L.bodies L.faults self.old
-            (IsMissing self.old inst.now) fault self.new) }
+            (IsLoss self.old inst.now whole) (IsMissing self.old inst.now) fault self.new) }
         ensures grows { Extends (moves_of self.old) (moves_of self.new) }
         ensures silent { IsSilent self.old self.new }
     {
@@ -150,7 +152,7 @@ impl<K: Keeper, L: Keeper> Site<K, L> {
         requires there { IsTrue (is_vm_there self.old.cloud.effects loss.vm) }
         ensures lost { OnOk result (
             Changes L.bodies L.faults self.old (entries.Lost loss) (moves.Lost loss) self.new) }
-        ensures refused { IfErr result (λ fault. FailsJob L.bodies L.faults self.old fault self.new) }
+        ensures refused { IfErr result (λ fault. FailsJob L.bodies L.faults self.old (entries.Lost loss) fault self.new) }
         ensures grows { Extends (moves_of self.old) (moves_of self.new) }
         ensures silent { IsSilent self.old self.new }
     {
@@ -164,7 +166,7 @@ impl<K: Keeper, L: Keeper> Site<K, L> {
         requires there { IsTrue (is_vm_there self.old.cloud.effects loss.vm) }
         ensures lost { OnOk result (
             Changes L.bodies L.faults self.old (entries.Lost loss) (moves.Lost loss) self.new) }
-        ensures refused { IfErr result (λ fault. FailsJob L.bodies L.faults self.old fault self.new) }
+        ensures refused { IfErr result (λ fault. FailsJob L.bodies L.faults self.old (entries.Lost loss) fault self.new) }
         ensures grows { Extends (moves_of self.old) (moves_of self.new) }
         ensures silent { IsSilent self.old self.new }
     {

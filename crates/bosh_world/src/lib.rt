@@ -3,8 +3,6 @@
 
 mod abandoning;
 mod answers;
-mod calls;
-mod did;
 mod fault;
 mod giving;
 mod halting;

@@ -5,10 +5,10 @@ ghost use Rattle.bosh_world.specs.Restarts.{read_count};
 ghost use Rattle.bosh_world.specs.Steps.{Comes, IsAllTold, KeepsBooks};
 ghost use Rattle.bosh_world.specs.declared.fault.SiteFault.TheVariants.{Memory};
 
-use crate::calls::Calls;
 use crate::fault::{of_book, of_cloud};
 use crate::{Site, Unloaded};
 use bosh_book::Book;
+use bosh_calls::Calls;
 use bosh_cloud::SimCloud;
 use bosh_moves::History;
 use bosh_ports::{Keeper, Rigged};

@@ -2,22 +2,22 @@ ghost use Rattle.std.specs.Prelude.{◌≡◌, [], false, IfErr, IfOk, None, OnO
 ghost use Rattle.bosh_asks.specs.declared.fault.BookFault.TheVariants as book;
 ghost use Rattle.bosh_base.specs.Call.{method_of};
 ghost use Rattle.bosh_base.specs.History.{Extends};
+ghost use Rattle.bosh_cloud.specs.Performs.{answer_under, fate_of};
 ghost use Rattle.bosh_world.specs.Holds.{IsHeld};
-ghost use Rattle.bosh_world.specs.Performing.{Holds, IsAsked, Performs, RefusesToPerform};
+ghost use Rattle.bosh_world.specs.Performing.{Holds, IsAsked, Performs, RefusesToPerform, traps_by};
 ghost use Rattle.bosh_world.specs.Told.{IsPerformable};
 ghost use Rattle.bosh_world.specs.Steps.{Comes, IsAllTold, KeepsBooks};
 ghost use Rattle.bosh_traps.specs.Traps.{decision};
 ghost use Rattle.bosh_world.specs.declared.fault.SiteFault.TheVariants.{Book};
 ghost use Rattle.bosh_world.specs.Silent.{IsSilent, moves_of};
 
-use crate::did::did_of;
 use crate::halting::refused_by_cloud;
 use crate::{HeldCall, Site, SiteFault};
 use bosh_base::{Answer, Did, Move};
 use bosh_book::{BookFault, Permit};
 use bosh_cloud::CloudFault;
 use bosh_ports::Keeper;
-use bosh_traps::{decided, see};
+use bosh_traps::{Armed, decided, see};
 
 impl<K: Keeper, L: Keeper> Site<K, L> {
     /// Performs the call of a permit, unless a trap stops the director in it. A refusal gives the permit back. One that
@@ -98,9 +98,32 @@ impl<K: Keeper, L: Keeper> Site<K, L> {
         }
     }
 
-    // What the cloud answers, and how that is told. Where its store fails the site halts.
+    // What the cloud answers, and how that is told: the answer is foreseen, so that there is memory for both before anything
+    // is done. Where its store fails the site halts.
     fn ask_cloud(&mut self, permit: &Permit) -> Result<(Did, Answer), SiteFault>
         requires running { self.old.history.is_halted ≡ false }
+        requires unstopped { decision (method_of permit.now.call) permit.now.owner self.old.traps.items ≡ None }
+        ensures asked { IfOk result (λ it. IsAsked L.bodies L.faults self.old permit.now it.0 it.1 self.new) }
+        ensures refused { IfErr result (λ fault.
+            RefusesToPerform L.bodies L.faults self.old permit.now fault self.new) }
+        ensures grows { Extends (moves_of self.old) (moves_of self.new) }
+        ensures silent { IsSilent self.old self.new }
+    {
+        match self.cloud.foresee(permit.owner(), permit.call()) {
+            Ok(answer) => self.ask_foreseen(permit, answer),
+            Err(_) => Err(SiteFault::Memory),
+        }
+    }
+
+    fn ask_foreseen(
+        &mut self,
+        permit: &Permit,
+        foreseen: Answer,
+    ) -> Result<(Did, Answer), SiteFault>
+        requires running { self.old.history.is_halted ≡ false }
+        requires unstopped { decision (method_of permit.now.call) permit.now.owner self.old.traps.items ≡ None }
+        requires foreseen { foreseen
+            ≡ answer_under (fate_of self.old.cloud permit.now.owner permit.now.call) self.old.cloud.effects permit.now.call }
         ensures asked { IfOk result (λ it. IsAsked L.bodies L.faults self.old permit.now it.0 it.1 self.new) }
         ensures refused { IfErr result (λ fault.
             RefusesToPerform L.bodies L.faults self.old permit.now fault self.new) }
@@ -114,12 +137,16 @@ impl<K: Keeper, L: Keeper> Site<K, L> {
         {
             Ok(answer) => {
                 let effect = before < self.cloud.effects().len();
-                did_of(self.alloc, permit.n(), effect, answer)
+                let did = Did {
+                    n: permit.n(),
+                    effect,
+                    answer: foreseen,
+                };
+                Ok((did, answer))
             }
             Err(fault) => {
-                if fault != CloudFault::Memory {
-                    see(&mut self.traps, permit.call().method(), permit.owner());
-                }
+                drop(foreseen);
+                see_refused(&mut self.traps, permit, &fault);
                 Err(refused_by_cloud(
                     &mut self.history,
                     self.alloc,
@@ -142,6 +169,16 @@ impl<K: Keeper, L: Keeper> Site<K, L> {
         let effects = self.cloud.effects().len();
         let place = self.history.push_with(Move::Did(did), effects);
         self.calls.perform(permit.n(), place);
+    }
+}
+
+// The traps see a call that the cloud refused, but for want of memory.
+fn see_refused(traps: &mut Vec<Armed>, permit: &Permit, fault: &CloudFault)
+    ensures { traps.new.items ≡ traps_by fault.now (method_of permit.now.call) permit.now.owner traps.old.items }
+{
+    match fault {
+        CloudFault::Memory => {}
+        _ => see(traps, permit.call().method(), permit.owner()),
     }
 }
 

@@ -1,22 +1,21 @@
 ghost use Rattle.std.specs.Prelude.{◌≡◌, ◌⊎◌, ◌<◌, false, length, true, IfErr, IfOk, None, OnErr, OnOk, Ok, Some};
 ghost use Rattle.bosh_book.specs.Starts.{StartsFrom};
-ghost use Rattle.bosh_cloud.specs.Reads.{Reads};
 ghost use Rattle.bosh_moves.specs.Replies.{replies_in};
 ghost use Rattle.bosh_moves.specs.Story.{IsOf, IsTold, Tells};
 ghost use Rattle.bosh_ports.specs.Rigged.{broken_of, faults_of};
 ghost use Rattle.bosh_world.specs.Anew.{BookRestarts, GoesAnew, Halts, HaltsAnew, IsAtHalt, SameTraps, StaysUnread};
 ghost use Rattle.bosh_world.specs.Anew.{halt_after, has_kept_entry};
 ghost use Rattle.bosh_world.specs.Faults.{fault_as};
-ghost use Rattle.bosh_world.specs.Restarts.{HaltsAgain, IsBookUnread, IsUnread, RefusesRestart, Restarts, cause_again};
+ghost use Rattle.bosh_world.specs.Restarts.{HaltsAgain, IsBookUnread, IsUnread, RefusesRestart, Rereads, Restarts, cause_again};
 ghost use Rattle.bosh_world.specs.Silent.{IsSilent};
 ghost use Rattle.bosh_world.specs.Steps.{bodies_of};
 
-use crate::calls::Calls;
 use crate::fault::{cause_of, of_book, of_cloud, store_fault};
 use crate::loading::read;
 use crate::{Site, SiteFault};
 use bosh_base::{Cause, CopyFault, Entry};
 use bosh_book::{Book, BookFault};
+use bosh_calls::Calls;
 use bosh_moves::History;
 use bosh_ports::{Keeper, Rig, Rigged};
 use std::alloc::Global;
@@ -48,11 +47,11 @@ impl<K: Keeper, L: Keeper> Site<K, L> {
     fn restart_cloud(&mut self) -> Result<(), SiteFault>
         requires halted { IsAtHalt self.old.history self.old.book.journal.entries }
         ensures restarted { OnOk result (BookRestarts K.bodies K.faults K.is_broken self.old (Ok tt) None self.new
-            × Reads L.bodies L.faults self.old.cloud.store (Ok self.new.cloud.effects) self.new.cloud.store) }
+            × Rereads L.bodies L.faults self.old.cloud self.new.cloud) }
         ensures refused { IfErr result (λ fault. HaltsAnew K.bodies K.faults K.is_broken self.old fault self.new
-            × Reads L.bodies L.faults self.old.cloud.store (Ok self.new.cloud.effects) self.new.cloud.store
+            × Rereads L.bodies L.faults self.old.cloud self.new.cloud
             ⊎ IsUnread K.bodies K.faults K.is_broken L.bodies L.faults self.old fault self.new
-            × StaysUnread self.old self.new) }
+            × StaysUnread L.bodies self.old self.new) }
         ensures same { SameTraps self.old self.new }
         ensures silent { IsSilent self.old self.new }
     {
@@ -69,7 +68,7 @@ impl<K: Keeper, L: Keeper> Site<K, L> {
         ensures restarted { OnOk result (BookRestarts K.bodies K.faults K.is_broken self.old (Ok tt) None self.new) }
         ensures refused { IfErr result (λ fault. HaltsAnew K.bodies K.faults K.is_broken self.old fault self.new
             ⊎ IsBookUnread K.bodies K.faults K.is_broken self.old.book fault self.new.book
-            × StaysUnread self.old self.new) }
+            × StaysUnread L.bodies self.old self.new) }
         ensures same_cloud { self.new.cloud ≡ self.old.cloud }
         ensures same { SameTraps self.old self.new }
         ensures silent { IsSilent self.old self.new }

@@ -4,7 +4,7 @@ ghost use Rattle.bosh_base.specs.declared.entry.Entry.TheVariants as entries;
 ghost use Rattle.bosh_book.specs.Faults.{MayEnd};
 ghost use Rattle.bosh_world.specs.Holds.{IsHeld};
 ghost use Rattle.bosh_world.specs.Refuses.{IsUnheld, Refuses};
-ghost use Rattle.bosh_world.specs.Steps.{Notes};
+ghost use Rattle.bosh_world.specs.Steps.{Notes, calls_settled};
 ghost use Rattle.bosh_world.specs.Silent.{IsSilent, moves_of};
 
 use crate::halting::refused;
@@ -20,6 +20,7 @@ impl<K: Keeper, L: Keeper> Site<K, L> {
         ensures may_end { OnOk result (MayEnd self.old.book call.permit call.answer) }
         ensures settled { OnOk result (Notes K.bodies K.faults self.old
             (entries.End (record { n = call.permit.n; answer = call.answer }) ∷ []) None self.new) }
+        ensures calls { self.new.calls.unsettled ≡ calls_settled result call.permit.n self.old.calls.unsettled }
         ensures refused { IfErr result (λ back. (back.0 ≡ call)
             × Refuses K.bodies K.faults self.old [] back.1 self.new) }
         ensures fault { IfErr result (λ back. IsUnheld self.old call back.1) }
@@ -51,6 +52,7 @@ impl<K: Keeper, L: Keeper> Site<K, L> {
         ensures may_end { OnOk result (MayEnd self.old.book call.permit call.answer) }
         ensures settled { OnOk result (Notes K.bodies K.faults self.old
             (entries.End (record { n = call.permit.n; answer = call.answer }) ∷ []) None self.new) }
+        ensures calls { self.new.calls.unsettled ≡ calls_settled result call.permit.n self.old.calls.unsettled }
         ensures refused { IfErr result (λ back. (back.0 ≡ call)
             × Refuses K.bodies K.faults self.old [] back.1 self.new) }
         ensures fault { IfErr result (λ back. IsUnheld self.old call back.1) }
@@ -61,7 +63,7 @@ impl<K: Keeper, L: Keeper> Site<K, L> {
         let n = permit.n();
         match self.book.settle(permit, answer) {
             Ok(()) => {
-                self.calls.forget(n);
+                self.calls.end(n);
                 self.history.follow(self.alloc, self.book.entries(), self.cloud.effects(), None);
                 Ok(())
             }

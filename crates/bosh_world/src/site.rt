@@ -2,8 +2,8 @@ ghost use Rattle.bosh_book.specs.Running.{is_stopped};
 ghost use Rattle.bosh_world.specs.IsSite.{IsSite};
 
 use crate::Armed;
-use crate::calls::Calls;
 use bosh_book::Book;
+use bosh_calls::Calls;
 use bosh_cloud::SimCloud;
 use bosh_moves::History;
 use bosh_ports::{Keeper, Rigged};

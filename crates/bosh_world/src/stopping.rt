@@ -4,19 +4,17 @@ ghost use Rattle.bosh_base.specs.Call.{method_of};
 ghost use Rattle.bosh_base.specs.History.{Extends};
 ghost use Rattle.bosh_base.specs.declared.moves.Cause.TheVariants as causes;
 ghost use Rattle.bosh_book.specs.Current.{dep_of};
-ghost use Rattle.bosh_cloud.specs.Notes.{Does};
-ghost use Rattle.bosh_cloud.specs.Performs.{new_effects};
 ghost use Rattle.bosh_cloud.specs.declared.fault.CloudFault.TheVariants as cloud;
 ghost use Rattle.bosh_world.specs.Performing.{RefusesToPerform};
-ghost use Rattle.bosh_world.specs.Stopping.{EachTakes, TakesEffect, TakesEffects, comes, effect_by, effect_of, new_effects_of};
+ghost use Rattle.bosh_world.specs.Stopping.{EachTakes, Takes, TakesEffect, TakesEffects, comes, effect_by, effect_of};
 ghost use Rattle.bosh_traps.specs.Traps.{decision};
 ghost use Rattle.bosh_world.specs.Silent.{IsSilent, moves_of};
 
-use crate::calls::Calls;
 use crate::fault::stop_fault;
 use crate::{Site, SiteFault};
 use bosh_base::{Begin, Cause, Name, Owner};
 use bosh_book::{Book, Permit};
+use bosh_calls::OpenCall;
 use bosh_cloud::{CloudFault, SimCloud};
 use bosh_ports::Keeper;
 use bosh_records::Records;
@@ -32,7 +30,13 @@ impl<K: Keeper, L: Keeper> Site<K, L> {
         ensures grows { Extends (moves_of self.old) (moves_of self.new) }
         ensures silent { IsSilent self.old self.new }
     {
-        let came = take_effects(&self.book, &mut self.cloud, &self.calls, permit.n(), firing);
+        let came = take_effects(
+            &self.book,
+            &mut self.cloud,
+            self.calls.unsettled(),
+            permit.n(),
+            firing,
+        );
         let cause = match came {
             Some(cause) => cause,
             None => return SiteFault::Memory,
@@ -48,27 +52,26 @@ impl<K: Keeper, L: Keeper> Site<K, L> {
     }
 }
 
-// Open calls that were not performed have their effects, by number: the call in which the director stops, and with it the
+// Open calls that were not performed have their effects, in the order in which they began: the call in which the director stops, and with it the
 // others, as the trap says; as far as there is memory. Why the director stops; nothing, where there was no memory for the
 // first of them.
 fn take_effects<K: Keeper, L: Keeper>(
     book: &Book<K>,
     cloud: &mut SimCloud<L>,
-    calls: &Calls,
+    calls: &[OpenCall],
     n: u64,
     firing: Firing,
 ) -> Option<Cause>
     requires { cloud.old.is_stale ≡ false }
     ensures takes { TakesEffects L.bodies L.faults cloud.old result cloud.new }
-    ensures each { EachTakes L.bodies L.faults book.now.records firing n false calls.now.places.entries cloud.old result
-        cloud.new }
+    ensures each { EachTakes L.bodies L.faults book.now.records firing n false calls.now cloud.old result cloud.new }
 {
     let mut came = false;
-    for (call, performed) in calls.iter() {
-        if !comes(firing, *call == n, *performed) {
+    for call in calls {
+        if !comes(firing, call.n == n, call.place) {
             continue;
         }
-        match take_effect(book, cloud, *call) {
+        match take_effect(book, cloud, call.n) {
             Ok(()) => came = true,
             Err(CloudFault::Memory) if came => return Some(Cause::Stop),
             Err(CloudFault::Memory) => return None,
@@ -96,8 +99,7 @@ fn take_effect<K: Keeper, L: Keeper>(
 ) -> Result<(), CloudFault>
     requires { cloud.old.is_stale ≡ false }
     ensures takes { TakesEffect L.bodies L.faults cloud.old result cloud.new }
-    ensures does { Does L.bodies L.faults result cloud.old
-        (new_effects_of cloud.old (effect_of book.now.records n)) cloud.new }
+    ensures does { Takes L.bodies L.faults result cloud.old (effect_of book.now.records n) cloud.new }
 {
     let records = book.records();
     match records.call(n) {
@@ -113,8 +115,8 @@ fn perform_begun<L: Keeper>(
 ) -> Result<(), CloudFault>
     requires { cloud.old.is_stale ≡ false }
     ensures takes { TakesEffect L.bodies L.faults cloud.old result cloud.new }
-    ensures does { Does L.bodies L.faults result cloud.old
-        (new_effects_of cloud.old (option_map (effect_by begin.now) (dep_of records.now begin.now.owner))) cloud.new }
+    ensures does { Takes L.bodies L.faults result cloud.old
+        (option_map (effect_by begin.now) (dep_of records.now begin.now.owner)) cloud.new }
 {
     match dep_of(records, &begin.owner) {
         Some(dep) => perform_for(cloud, begin, dep),
@@ -129,8 +131,7 @@ fn perform_for<L: Keeper>(
 ) -> Result<(), CloudFault>
     requires { cloud.old.is_stale ≡ false }
     ensures takes { TakesEffect L.bodies L.faults cloud.old result cloud.new }
-    ensures does { Does L.bodies L.faults result cloud.old
-        (new_effects cloud.old (effect_by begin.now dep.now)) cloud.new }
+    ensures does { Takes L.bodies L.faults result cloud.old (Some (effect_by begin.now dep.now)) cloud.new }
 {
     match cloud.perform(begin.n, &begin.owner, dep, &begin.call) {
         Ok(answer) => {

@@ -23,6 +23,7 @@ impl<K: Keeper, L: Keeper> Site<K, L> {
         ensures notes { IfOk result (λ added.
             Notes K.bodies K.faults self.old (entries_for added (entries.Release release)) None self.new) }
         ensures told { IfOk result (IsUpload self.old.book.records.releases.items release) }
+        ensures calls { self.new.calls ≡ self.old.calls }
         ensures refused { IfErr result (λ fault. Refuses K.bodies K.faults self.old [] fault self.new) }
         ensures fault { IfErr result (IsBooks (IsUploadFault self.old.book
             (name_and_version release.name release.version) (IsOther self.old.book.records.releases.items release))) }
@@ -47,6 +48,7 @@ impl<K: Keeper, L: Keeper> Site<K, L> {
         ensures notes { IfOk result (λ added. Notes K.bodies K.faults self.old
             (entries_for added (entries.Stemcell (record { os = os.now; version = version.now }))) None self.new) }
         ensures told { IfOk result (IsAdded self.old.book.records.stemcells.items os.now version.now) }
+        ensures calls { self.new.calls ≡ self.old.calls }
         ensures refused { IfErr result (λ fault. Refuses K.bodies K.faults self.old [] fault self.new) }
         ensures fault { IfErr result (IsBooks (IsUploadFault self.old.book
             (name_and_version os.now version.now) (¬ IsVersion version.now))) }
@@ -71,6 +73,7 @@ impl<K: Keeper, L: Keeper> Site<K, L> {
         ensures notes { OnOk result (
             Notes K.bodies K.faults self.old (entries.Config file.now ∷ []) None self.new) }
         ensures spells { OnOk result (is_some (config_in file.now) ≡ true) }
+        ensures calls { self.new.calls ≡ self.old.calls }
         ensures refused { IfErr result (λ fault. Refuses K.bodies K.faults self.old [] fault self.new) }
         ensures fault { IfErr result (IsBooks (IsConfigFault self.old.book file.now)) }
         ensures grows { Extends (moves_of self.old) (moves_of self.new) }

@@ -1,8 +1,8 @@
-use Rattle.std.proofs.Common.{◌∙◌, ap, length, refl}
+use Rattle.std.proofs.Common.{◌∙◌, ap, refl}
 use Rattle.bosh_base.specs.Call.{method_of}
 use Rattle.bosh_base.specs.declared.moves.Move.TheVariants as moves
+use Rattle.bosh_calls.specs.Calls.{with_performed}
 use Rattle.bosh_traps.specs.Traps.{traps_after}
-use Rattle.bosh_world.proofs.PerformLemmas.{at_place_as}
 use Rattle.bosh_world.proofs.PushLemmas.{push_comes, push_silent, push_any}
 use Rattle.bosh_world.proofs.site.Site.hold.Goals as goal
 
@@ -19,9 +19,9 @@ returns-clause-holds g c = record {
   comes = push_comes c.args.self.now _ (moves.Did c.args.did) c.push_with-place.new.self.free _ c.requires.told
       (λ j. c.args.self.now.book) c.push_with-place.ensures.pushed;
   moves = λ j. (c.push_with-place.ensures.pushed j).moves;
-  at_place = at_place_as c.args.self.now.calls.places c.perform.new.self.places c.n.result c.args.permit.now.n
-      c.push_with-place.result (length c.args.self.now.history.moves) c.n.ensures c.push_with-place.ensures.place
-      c.perform.ensures.open;
+  calls = c.perform.ensures
+      ∙ ap (λ m. with_performed m c.push_with-place.result c.args.self.now.calls.unsettled) c.n.ensures
+      ∙ ap (λ p. with_performed c.args.permit.now.n p c.args.self.now.calls.unsettled) c.push_with-place.ensures.place;
   halted = λ j. (c.push_with-place.ensures.pushed j).is_halted;
   armed = c.see.ensures
       ∙ ap (λ m. traps_after m c.owner.result.now c.args.self.now.traps.items) (c.method.ensures ∙ ap method_of c.call.ensures)

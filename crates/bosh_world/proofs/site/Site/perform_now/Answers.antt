@@ -6,8 +6,8 @@ pub returns-in-Ok-clause-performed : goal.returns-in-Ok-clause-performed
 returns-in-Ok-clause-performed g c = (
   refl,
   performs_as g.L.Keeper.bodies g.L.Keeper.faults c.args.self.now c.ask_cloud.new.self c.hold.new.self c.args.permit
-      c.in-Ok.did c.in-Ok.answer c.in-Ok.ensures.asked c.hold.ensures.holds c.args.self.now.is_site.is_of c.requires.running
-      c.requires.unstopped,
+      c.in-Ok.did c.in-Ok.answer c.in-Ok.ensures.asked c.hold.ensures.holds c.args.self.now.is_site.is_of c.requires.told
+      c.requires.running c.requires.unstopped,
 )
 
 pub returns-in-Ok-clause-held : goal.returns-in-Ok-clause-held

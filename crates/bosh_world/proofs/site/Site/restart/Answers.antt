@@ -9,7 +9,7 @@ returns-in-Ok-clause-restarted g c =
     c.restart_cloud.result
     (halt_of c.args.self.now (record c.args.self.now { history = c.halt_first.new.history; is_site = _ })
     c.entries.result.now c.effects.result.now c.entries.ensures c.effects.ensures c.in-Ok.ensures.ok.0
-    c.in-Ok.ensures.ok.1 refl refl refl refl)
+    c.in-Ok.ensures.ok.1 refl refl refl refl refl)
     c.restart_cloud.ensures.restarted c.restart_cloud.ensures.same
 
 pub returns-in-Ok-clause-refused : goal.returns-in-Ok-clause-refused
@@ -19,5 +19,5 @@ returns-in-Ok-clause-refused g c =
     c.restart_cloud.result
     (halt_of c.args.self.now (record c.args.self.now { history = c.halt_first.new.history; is_site = _ })
     c.entries.result.now c.effects.result.now c.entries.ensures c.effects.ensures c.in-Ok.ensures.ok.0
-    c.in-Ok.ensures.ok.1 refl refl refl refl)
+    c.in-Ok.ensures.ok.1 refl refl refl refl refl)
     c.restart_cloud.ensures.refused c.restart_cloud.ensures.same

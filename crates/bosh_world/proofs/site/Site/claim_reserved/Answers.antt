@@ -2,7 +2,7 @@ use Rattle.bosh_book.specs.Faults.{IsClaimFault}
 use Rattle.bosh_ports.specs.Rigged.{faults_of}
 use Rattle.bosh_world.proofs.CallLemmas.{books_told, claim_refused, claims_told, follows_at, not_stopped, site_stays}
 use Rattle.bosh_world.specs.Faults.{halt_of}
-use Rattle.bosh_world.proofs.site.Site.claim_expecting.Goals as goal
+use Rattle.bosh_world.proofs.site.Site.claim_reserved.Goals as goal
 
 pub invariant_of-self : goal.invariant_of-self
 invariant_of-self g c = record {
