@@ -112,7 +112,8 @@ stuck_in_call bodies faults was mid now permit (Book (book.NotOrphaned disk)) le
 stuck_in_call bodies faults was mid now permit (Book (book.Goal other)) left stays = absurd left
 stuck_in_call bodies faults was mid now permit (Book book.Limit) left stays = absurd left
 stuck_in_call bodies faults was mid now permit (Book (book.Consumed by)) left stays = absurd left
-stuck_in_call bodies faults was mid now permit CloudStore (halts, rose) stays = stays halts.halted
+stuck_in_call bodies faults was mid now permit CloudStore (inl fails) stays = stays fails.halts.halted
+stuck_in_call bodies faults was mid now permit CloudStore (inr stops) stays = stays stops.halts.halted
 stuck_in_call bodies faults was mid now permit Memory left stays = tt
 stuck_in_call bodies faults was mid now permit (CloudDamaged position) left stays = absurd left
 stuck_in_call bodies faults was mid now permit (NotRunning inst) left stays = absurd left

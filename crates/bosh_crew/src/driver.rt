@@ -1,7 +1,8 @@
-ghost use Rattle.std.specs.Prelude.{◌≡◌, ◌≢◌, ◌↔◌, All, Contains, IfErr, IfOk, IsTrue, OnOk};
+ghost use Rattle.std.specs.Prelude.{◌≡◌, ◌≢◌, ◌⊎◌, ◌↔◌, ℕ, Contains, IfErr, IfOk, IsTrue, List, OnOk};
 ghost use Rattle.bosh_asks.specs.declared.fault.BookFault.TheVariants as book;
+ghost use Rattle.bosh_crew.specs.Carried.{Carries, GoesRound, IsLeft};
 ghost use Rattle.bosh_crew.specs.Driven.{AreEnded, Goes, IsEnded, IsStuck};
-ghost use Rattle.bosh_crew.specs.declared.driver.Round.TheVariants.{Ended};
+ghost use Rattle.bosh_crew.specs.declared.driver.Round.TheVariants.{Ended, Moved};
 ghost use Rattle.bosh_world.specs.Silent.{IsSilent};
 ghost use Rattle.bosh_world.specs.declared.fault.SiteFault.TheVariants.{Book};
 
@@ -25,18 +26,21 @@ enum Round {
 }
 
 /// Carries tasks to their ends, by one worker that goes round them in order: at each it makes one call, or ends it. It
-/// never waits: where all that is left is under calls that others have open, that is refused as `Locked`.
+/// never waits: where all that is left is under calls that others have open, that is refused as `Locked`, with the last
+/// task that waits.
 pub fn drive<K: Keeper, L: Keeper>(site: &mut Site<K, L>, tasks: &[u64]) -> Result<(), SiteFault>
     ensures ended { OnOk result (AreEnded site.new tasks.now) }
+    ensures carries { Carries K.bodies K.faults L.bodies L.faults tasks.now site.old result site.new }
     ensures goes { Goes site.old site.new }
     ensures silent { IsSilent site.old site.new }
     ensures stuck { IfErr result (IsStuck site.new) }
 {
     for _ in 0..u64::MAX {
-        match go_round(site, tasks)? {
-            Round::Ended => return Ok(()),
-            Round::Moved => {}
-            Round::Waits(task) => return Err(locked(task)),
+        match go_round(site, tasks) {
+            Ok(Round::Ended) => return Ok(()),
+            Ok(Round::Moved) => {}
+            Ok(Round::Waits(task)) => return Err(locked(task)),
+            Err(fault) => return Err(fault),
         }
     }
     Err(SiteFault::Memory)
@@ -51,13 +55,17 @@ fn locked(task: u64) -> SiteFault
 // Takes a step of each task that has no end.
 fn go_round<K: Keeper, L: Keeper>(site: &mut Site<K, L>, tasks: &[u64]) -> Result<Round, SiteFault>
     ensures ended { IfOk result (λ round. round ≡ Ended → AreEnded site.new tasks.now) }
+    ensures goes_round { GoesRound K.bodies K.faults L.bodies L.faults tasks.now site.old result site.new }
     ensures goes { Goes site.old site.new }
     ensures silent { IsSilent site.old site.new }
     ensures stuck { IfErr result (IsStuck site.new) }
 {
     let mut round = Round::Ended;
     for task in tasks {
-        round = attend(site, round, *task)?;
+        match attend(site, round, *task) {
+            Ok(now) => round = now,
+            Err(fault) => return Err(fault),
+        }
     }
     Ok(round)
 }
@@ -70,6 +78,8 @@ fn attend<K: Keeper, L: Keeper>(
 ) -> Result<Round, SiteFault>
     ensures ended { IfOk result (λ now. now ≡ Ended → (round ≡ Ended)
         × (site.new.book.records ≡ site.old.book.records) × IsEnded site.old.book.records task) }
+    ensures goes_round { (tasks : List ℕ) → Contains tasks task → IsLeft K.bodies K.faults tasks round site.old →
+        GoesRound K.bodies K.faults L.bodies L.faults tasks site.old result site.new }
     ensures goes { Goes site.old site.new }
     ensures silent { IsSilent site.old site.new }
     ensures stuck { IfErr result (IsStuck site.new) }
@@ -83,15 +93,15 @@ fn attend<K: Keeper, L: Keeper>(
     }
 }
 
-// A round in which something was done for one task goes on, and else the first that waits is told.
+// A round in which something was done for one task goes on, and else the last that waits is told.
 fn both(round: Round, step: Round) -> Round
     requires { step ≢ Ended }
-    ensures { result ≢ Ended }
+    ensures going { result ≢ Ended }
+    ensures last { (result ≡ Moved) ⊎ (result ≡ step) }
 {
     match (round, step) {
-        (Round::Ended, step) => step,
-        (_, Round::Moved) => Round::Moved,
-        (round, _) => round,
+        (Round::Moved, _) => Round::Moved,
+        (_, step) => step,
     }
 }
 
@@ -107,19 +117,24 @@ fn has_ended(records: &Records, task: u64) -> bool
 // Makes the next call of a task, or ends it.
 fn take_step<K: Keeper, L: Keeper>(site: &mut Site<K, L>, task: u64) -> Result<Round, SiteFault>
     ensures moved { IfOk result (λ round. round ≢ Ended) }
+    ensures goes_round { (tasks : List ℕ) → Contains tasks task →
+        GoesRound K.bodies K.faults L.bodies L.faults tasks site.old result site.new }
     ensures goes { Goes site.old site.new }
     ensures silent { IsSilent site.old site.new }
     ensures stuck { IfErr result (IsStuck site.new) }
 {
-    match site.claim(task, WORKER)? {
-        Claim::Work(permit) => make_call(site, permit),
-        Claim::Over => end(site, task),
-        Claim::Wait => Ok(Round::Waits(task)),
+    match site.claim(task, WORKER) {
+        Ok(Claim::Work(permit)) => make_call(site, permit),
+        Ok(Claim::Over) => end(site, task),
+        Ok(Claim::Wait) => Ok(Round::Waits(task)),
+        Err(fault) => Err(fault),
     }
 }
 
 fn end<K: Keeper, L: Keeper>(site: &mut Site<K, L>, task: u64) -> Result<Round, SiteFault>
     ensures moved { IfOk result (λ round. round ≢ Ended) }
+    ensures goes_round { (tasks : List ℕ) → Contains tasks task →
+        GoesRound K.bodies K.faults L.bodies L.faults tasks site.old result site.new }
     ensures goes { Goes site.old site.new }
     ensures silent { IsSilent site.old site.new }
     ensures stuck { IfErr result (IsStuck site.new) }
@@ -136,6 +151,8 @@ fn make_call<K: Keeper, L: Keeper>(
     permit: Permit,
 ) -> Result<Round, SiteFault>
     ensures moved { IfOk result (λ round. round ≢ Ended) }
+    ensures goes_round { (tasks : List ℕ) →
+        GoesRound K.bodies K.faults L.bodies L.faults tasks site.old result site.new }
     ensures goes { Goes site.old site.new }
     ensures silent { IsSilent site.old site.new }
     ensures stuck { IfErr result (IsStuck site.new) }
@@ -151,6 +168,8 @@ fn make_call<K: Keeper, L: Keeper>(
 
 fn settle<K: Keeper, L: Keeper>(site: &mut Site<K, L>, call: HeldCall) -> Result<Round, SiteFault>
     ensures moved { IfOk result (λ round. round ≢ Ended) }
+    ensures goes_round { (tasks : List ℕ) →
+        GoesRound K.bodies K.faults L.bodies L.faults tasks site.old result site.new }
     ensures goes { Goes site.old site.new }
     ensures silent { IsSilent site.old site.new }
     ensures stuck { IfErr result (IsStuck site.new) }

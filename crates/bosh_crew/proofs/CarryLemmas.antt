@@ -1,0 +1,78 @@
+-- Steps of a worker, one after the other.
+use Rattle.std.proofs.Common.{◌≡◌, ◌<◌, ℕ, zero, suc, Option, List, [], ◌∷◌, Result, Ok, Err, arith, inl, inr, length, refl, slice_index_or, subst, sym}
+use Rattle.std.specs.Prelude.{◌⊎◌, Contains}
+use Rattle.bosh_crew.specs.Carried.{GoesRound, IsLeft, IsStopped, Reaches, Steps, Stops}
+use Rattle.bosh_crew.specs.Carried.Reaches.{stays, steps}
+use Rattle.bosh_crew.specs.declared.driver.Round.{Round}
+use Rattle.bosh_crew.specs.declared.driver.Round.TheVariants as rounds
+use Rattle.bosh_ports.specs.declared.keeper.Keeper as keeper
+use Rattle.bosh_world.specs.declared.fault.SiteFault.{SiteFault}
+use Rattle.bosh_world.specs.declared.site.Site.{Site}
+
+-- one step
+pub reached_one : {K L : Type 0} {k : keeper.Ghosts K} {l : keeper.Ghosts L} (bodies : K → Option (List (List ℕ)))
+    (faults : K → ℕ) (cloud_bodies : L → Option (List (List ℕ))) (cloud_faults : L → ℕ) (tasks : List ℕ)
+    (was now : Site K L k l) → Steps bodies faults cloud_bodies cloud_faults tasks was now →
+    Reaches bodies faults cloud_bodies cloud_faults tasks was now
+reached_one bodies faults cloud_bodies cloud_faults tasks was now step =
+    steps was now now step (stays now)
+
+-- steps after steps
+pub reached_then : {K L : Type 0} {k : keeper.Ghosts K} {l : keeper.Ghosts L} (bodies : K → Option (List (List ℕ)))
+    (faults : K → ℕ) (cloud_bodies : L → Option (List (List ℕ))) (cloud_faults : L → ℕ) (tasks : List ℕ)
+    (was mid now : Site K L k l) → Reaches bodies faults cloud_bodies cloud_faults tasks was mid →
+    Reaches bodies faults cloud_bodies cloud_faults tasks mid now →
+    Reaches bodies faults cloud_bodies cloud_faults tasks was now
+reached_then bodies faults cloud_bodies cloud_faults tasks was mid now (stays site) rest = rest
+reached_then bodies faults cloud_bodies cloud_faults tasks was mid now (steps first next last step more) rest =
+    steps first next now step (reached_then bodies faults cloud_bodies cloud_faults tasks next last now more rest)
+
+-- a round after steps
+pub round_then : {K L : Type 0} {k : keeper.Ghosts K} {l : keeper.Ghosts L} (bodies : K → Option (List (List ℕ)))
+    (faults : K → ℕ) (cloud_bodies : L → Option (List (List ℕ))) (cloud_faults : L → ℕ) (tasks : List ℕ)
+    (was mid now : Site K L k l) (result : Result Round SiteFault) →
+    Reaches bodies faults cloud_bodies cloud_faults tasks was mid →
+    GoesRound bodies faults cloud_bodies cloud_faults tasks mid result now →
+    GoesRound bodies faults cloud_bodies cloud_faults tasks was result now
+round_then bodies faults cloud_bodies cloud_faults tasks was mid now (Ok round) before goes =
+    (reached_then bodies faults cloud_bodies cloud_faults tasks was mid now before goes.0, goes.1)
+round_then bodies faults cloud_bodies cloud_faults tasks was mid now (Err fault) before goes =
+    (goes.0, reached_then bodies faults cloud_bodies cloud_faults tasks was mid goes.0 before goes.1, goes.2)
+
+-- a round after one step
+pub round_after : {K L : Type 0} {k : keeper.Ghosts K} {l : keeper.Ghosts L} (bodies : K → Option (List (List ℕ)))
+    (faults : K → ℕ) (cloud_bodies : L → Option (List (List ℕ))) (cloud_faults : L → ℕ) (tasks : List ℕ)
+    (was mid now : Site K L k l) (result : Result Round SiteFault) →
+    Steps bodies faults cloud_bodies cloud_faults tasks was mid →
+    GoesRound bodies faults cloud_bodies cloud_faults tasks mid result now →
+    GoesRound bodies faults cloud_bodies cloud_faults tasks was result now
+round_after bodies faults cloud_bodies cloud_faults tasks was mid now result step goes =
+    round_then bodies faults cloud_bodies cloud_faults tasks was mid now result
+    (reached_one bodies faults cloud_bodies cloud_faults tasks was mid step) goes
+
+-- the worker is stopped at once
+pub stopped_at_once : {K L : Type 0} {k : keeper.Ghosts K} {l : keeper.Ghosts L} (bodies : K → Option (List (List ℕ)))
+    (faults : K → ℕ) (cloud_bodies : L → Option (List (List ℕ))) (cloud_faults : L → ℕ) (tasks : List ℕ)
+    (was : Site K L k l) (fault : SiteFault) (now : Site K L k l) →
+    Stops bodies faults cloud_bodies cloud_faults tasks was fault now →
+    IsStopped bodies faults cloud_bodies cloud_faults tasks was fault now
+stopped_at_once bodies faults cloud_bodies cloud_faults tasks was fault now stops = (was, stays was, stops)
+
+-- after a step for one task a round waits only where that step does
+pub left_by : {K L : Type 0} {k : keeper.Ghosts K} {l : keeper.Ghosts L} (bodies : K → Option (List (List ℕ)))
+    (faults : K → ℕ) (tasks : List ℕ) (round step : Round) (now : Site K L k l) →
+    (round ≡ rounds.Moved) ⊎ (round ≡ step) → IsLeft bodies faults tasks step now → IsLeft bodies faults tasks round now
+left_by bodies faults tasks round step now (inl moved) left =
+    subst (λ (r : Round). IsLeft bodies faults tasks r now) (sym moved) tt
+left_by bodies faults tasks round step now (inr same) left =
+    subst (λ (r : Round). IsLeft bodies faults tasks r now) (sym same) left
+
+-- what stands at a place, whatever would be there past the end
+same_at : (xs : List ℕ) (place a b : ℕ) → place < length xs → slice_index_or xs place a ≡ slice_index_or xs place b
+same_at [] place a b within = absurd (omega (arith, within))
+same_at (x ∷ xs) zero a b within = refl
+same_at (x ∷ xs) (suc place) a b within = same_at xs place a b (omega (arith, within))
+
+-- the task at a place of the list is one of them
+pub task_at : (tasks : List ℕ) (place : ℕ) → place < length tasks → Contains tasks (slice_index_or tasks place 0)
+task_at tasks place within = (place, within, same_at tasks place (slice_index_or tasks place 0) 0 within)

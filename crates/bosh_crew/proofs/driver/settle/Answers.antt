@@ -1,0 +1,23 @@
+use Rattle.std.proofs.Common.{subst, sym}
+use Rattle.bosh_crew.proofs.CarryLemmas.{reached_one, stopped_at_once}
+use Rattle.bosh_crew.specs.Carried.Steps.{settles}
+use Rattle.bosh_crew.specs.Carried.Stops.{in_settling}
+use Rattle.bosh_world.specs.Refuses.{IsUnheld}
+use Rattle.bosh_world.specs.declared.held.HeldCall.{HeldCall}
+use Rattle.bosh_crew.proofs.driver.settle.Goals as goal
+
+pub returns-in-Ok-clause-goes_round : goal.returns-in-Ok-clause-goes_round
+returns-in-Ok-clause-goes_round g c = λ tasks. (
+  reached_one g.K.Keeper.bodies g.K.Keeper.faults g.L.Keeper.bodies g.L.Keeper.faults tasks c.args.site.now c.settle.new.self
+      (settles c.args.call c.in-Ok.ensures.held c.in-Ok.ensures.may_end c.in-Ok.ensures.settled c.in-Ok.ensures.calls),
+  tt,
+)
+
+pub returns-in-Err-clause-goes_round : goal.returns-in-Err-clause-goes_round
+returns-in-Err-clause-goes_round g c = λ tasks.
+    stopped_at_once g.K.Keeper.bodies g.K.Keeper.faults g.L.Keeper.bodies g.L.Keeper.faults tasks c.args.site.now c.in-Err.fault
+    c.abandon_held.new.self
+    (in_settling c.in-Err.call c.settle.new.self c.in-Err.ensures.refused.1
+    (subst (λ (call : HeldCall). IsUnheld c.args.site.now call c.in-Err.fault) (sym c.in-Err.ensures.refused.0)
+    c.in-Err.ensures.fault) c.in-Err.ensures.calls
+    c.abandon_held.ensures.abandons)
