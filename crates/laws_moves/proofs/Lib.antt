@@ -1,0 +1,3 @@
+pub mod HaltLemmas
+pub mod MoveLemmas
+pub mod NoteLemmas
