@@ -10,8 +10,8 @@ use Rattle.bosh_history.specs.Moments.{Moment, OpenCall}
 use Rattle.bosh_history.specs.Sound.{addrs, has_addr}
 use Rattle.bosh_rows.specs.SoundSnapshot.{are_distinct}
 use Rattle.laws_facts.specs.Addresses.{AddressFacts, Free, Holder, Machine, Recorded, Wanted}
-use Rattle.laws_facts.specs.Addresses.{has_each_once, holds_address, make_held, may_take_over}
-use Rattle.laws_facts.specs.CallFacts.{IsOwnerKept, PerformedFacts, is_answer_heard_of, is_call_heard_of}
+use Rattle.laws_facts.specs.Addresses.{holds_address, make_held, may_take_over}
+use Rattle.laws_facts.specs.CallFacts.{IsOwnerKept, PerformedFacts, is_answer_heard_of}
 use Rattle.laws_facts.specs.Facts.{Holds}
 use Rattle.laws_facts.specs.KnownFacts.{KnownFacts}
 use Rattle.laws_facts.specs.OpenCalls.{has_migrated}

@@ -33,11 +33,12 @@ use Rattle.laws_moves.specs.Parts.{IsKeptByParts, MayHappen, Part, Performed, Wr
 writer : (m : Moment) (disk : ℕ) (instances : List Inst) → list_any (has_active m disk) instances ≡ true
     → Writer m disk
 writer m disk [] none = absurd (false≢true none)
-writer m disk (i ∷ others) some = by (has_active m disk i) refl some
+writer m disk (i ∷ others) some = by (has_active m disk i) refl some (λ any. writer m disk others any)
   where
-    by : (has : Bool) → has_active m disk i ≡ has → (has || list_any (has_active m disk) others) ≡ true → Writer m disk
-    by true is any = record { inst = i; is_active = is }
-    by false is any = writer m disk others any
+    by : (has : Bool) → has_active m disk i ≡ has → (has || list_any (has_active m disk) others) ≡ true
+        → (list_any (has_active m disk) others ≡ true → Writer m disk) → Writer m disk
+    by true is any later = record { inst = i; is_active = is }
+    by false is any later = later any
 
 -- what is taken at a stop may be performed, as a call that fails
 taken_performs : (outside : Outside) (m : Moment) (n : ℕ) (call : Option OpenCall)
