@@ -1,0 +1,9 @@
+pub mod CallLemmas
+pub mod CloudLemmas
+pub mod DiskLemmas
+pub mod DoneLemmas
+pub mod DoubtFrames
+pub mod NumberLemmas
+pub mod OrphanFrames
+pub mod OwnerFrames
+pub mod TellLemmas
