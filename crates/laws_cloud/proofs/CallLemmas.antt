@@ -266,7 +266,7 @@ disk_joins effects call d is = tt
 -- ---- an open call
 
 module _ (m : Moment) (h : Holds m) (n : ℕ) (call : OpenCall) (is : m.calls n ≡ Some call) where
-  known_fits : (owner : Owner) → call.begin.owner ≡ owner → fits_known m.known call.begin owner ≡ true
+  pub known_fits : (owner : Owner) → call.begin.owner ≡ owner → fits_known m.known call.begin owner ≡ true
   known_fits owner own =
       subst (λ (o : Owner). fits_known m.known call.begin o ≡ true) own (h.known.calls n call is).fits
 
@@ -313,7 +313,7 @@ module _ (m : Moment) (h : Holds m) (n : ℕ) (call : OpenCall) (is : m.calls n 
           (migrates_own (want_of (m.known.task call.begin.task) i) (row_before call.begin.call (m.known.row i))
           call.begin.call next)
 
-  slot_some : (t s : ℕ) → call.begin.owner ≡ Compile t s
+  pub slot_some : (t s : ℕ) → call.begin.owner ≡ Compile t s
       → (it : Slot) × (m.known.slot t s ≡ Some it) × (fits_slot call.begin.n call.begin.call it ≡ true)
   slot_some t s own = by (m.known.slot t s) refl (known_fits (Compile t s) own)
     where
@@ -323,7 +323,7 @@ module _ (m : Moment) (h : Holds m) (n : ℕ) (call : OpenCall) (is : m.calls n 
       by (Some it) at_slot fits = (it, at_slot, fits)
       by None at_slot fits = absurd (false≢true fits)
 
-  on_orphan : (d : ℕ) → call.begin.owner ≡ Disk d → is_on_orphan call.begin.call d ≡ true
+  pub on_orphan : (d : ℕ) → call.begin.owner ≡ Disk d → is_on_orphan call.begin.call d ≡ true
   on_orphan d own = (and_parts (is_on_orphan call.begin.call d) _ (known_fits (Disk d) own)).0
 
   -- it names machines of its own owner alone

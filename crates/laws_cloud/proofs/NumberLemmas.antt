@@ -234,7 +234,7 @@ module _ (outside : Outside) (m : Moment) (h : Holds m) where
 
   -- a call begins
   module _ (b : Begin) (may : Begins m b) where
-    new_number : is_taken m.effects b.n ≡ false
+    pub new_number : is_taken m.effects b.n ≡ false
     new_number =
         not_past b.n m.known.last_call (is_some (m.calls b.n)) (is_taken m.effects b.n) (h.known.numbers.past b.n)
         may.number

@@ -32,7 +32,7 @@ use Rattle.laws_facts.proofs.DepLemmas.{dep_begin}
 use Rattle.laws_facts.proofs.MadeLemmas.{same_tasks}
 use Rattle.laws_facts.specs.Disks.{is_recorded_once}
 use Rattle.laws_facts.specs.Facts.{Holds}
-use Rattle.laws_facts.specs.Numbers.{is_open_for}
+use Rattle.laws_facts.specs.Numbers.{EffectFacts, is_open_for}
 use Rattle.laws_facts.specs.OpenCalls.{fits_known, fits_slot, is_on_orphan}
 use Rattle.laws_facts.specs.Owners.{doubt_of}
 use Rattle.laws_items.proofs.DoneLemmas.{some_from}
@@ -63,16 +63,20 @@ some_of o x is = ap is_some is
 
 -- ---- a row and its call in doubt
 
+-- what is in doubt of a row is the row's own
+pub doubt_of_row : (m : Moment) → EffectFacts m → ((i : Inst) → (m.known.row i).inst ≡ i) → (i : Inst)
+    → IsDoubtItsOwn m.effects (m.known.row i)
+doubt_of_row m effects own_row i =
+    (λ j. where_any
+    (λ d. list_all (is_effect_of d.n (Instance (own_row i j)) (own_row i j).dep d.call) m.effects)
+    (m.known.row i).doubt)
+    ∙ where_first (λ d. list_all (is_effect_of d.n (Instance i) i.dep d.call) m.effects)
+    (λ d. where_any (is_open_for (Instance i) d.call) (m.calls d.n)) (m.known.row i).doubt
+    (effects.doubts_own (Instance i))
+
 module _ (m : Moment) (h : Holds m) where
   pub row_doubt : (i : Inst) → IsDoubtItsOwn m.effects (m.known.row i)
-  row_doubt i =
-      (λ j. where_any
-      (λ d. list_all
-      (is_effect_of d.n (Instance (h.known.lists.own_row i j)) (h.known.lists.own_row i j).dep d.call) m.effects)
-      (m.known.row i).doubt)
-      ∙ where_first (λ d. list_all (is_effect_of d.n (Instance i) i.dep d.call) m.effects)
-      (λ d. where_any (is_open_for (Instance i) d.call) (m.calls d.n)) (m.known.row i).doubt
-      (h.effects.doubts_own (Instance i))
+  row_doubt = doubt_of_row m h.effects h.known.lists.own_row
 
   -- a disk of a row is not orphaned
   pub not_orphaned : (i : Inst) (d : ℕ) → is_recorded (m.known.row i).disks d ≡ true
