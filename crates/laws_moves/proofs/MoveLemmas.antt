@@ -66,7 +66,7 @@ module _ (All : Moment → Type 0) (outside : Outside)
   taken m last [] kept may also all = rest m kept also all
   taken m last (n ∷ took) kept may also all =
       taken (taking m n) n took kept may.1
-      (kept_stays m (taking m n).effects (taking m n).calls (taking m n).heard m.early
+      (kept_stays m (taking m n).effects (taking m n).calls (taking m n).heard m.early m.halted
       (one_performed outside m (record { n = n; effect = true; answer = Failed }) performs) outside kept also)
       (parts m (Performed (record { n = n; effect = true; answer = Failed })) performs all)
     where
@@ -80,13 +80,13 @@ module _ (All : Moment → Type 0) (outside : Outside)
           → All (forgetting (keeping (fold taking (with_written m wrote) s.took) s.kept))
       by (Some (entries.Write w)) wrote took =
           taken (with_written m (Some (entries.Write w))) 0 s.took s.kept took
-          (kept_stays m (m.effects ++ entries.Write w ∷ []) m.calls m.heard m.early (none_performed m.calls) outside
+          (kept_stays m (m.effects ++ entries.Write w ∷ []) m.calls m.heard m.early m.halted (none_performed m.calls) outside
           s.kept may.kept)
           (parts m (Written w) (writer m w.disk m.known.instances wrote) all)
       by (Some (entries.Lost loss)) wrote took =
           taken (with_written m (Some (entries.Lost loss))) 0 s.took s.kept took
           (kept_stays m (m.effects ++ entries.Lost loss ∷ []) m.calls m.heard
-          (with_written m (Some (entries.Lost loss))).early (none_performed m.calls) outside s.kept may.kept)
+          (with_written m (Some (entries.Lost loss))).early m.halted (none_performed m.calls) outside s.kept may.kept)
           (parts m (Lost loss) wrote all)
       by (Some entry) wrote took = absurd wrote
       by None wrote took = taken m 0 s.took s.kept took may.kept all

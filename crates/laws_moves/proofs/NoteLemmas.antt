@@ -1,5 +1,5 @@
 -- What may be noted may be noted as well once the cloud performed calls that it had not performed, and whatever else was
--- done: so the entry that a stop keeps may be noted after what the cloud did.
+-- done, halted or not: so the entry that a stop keeps may be noted after what the cloud did.
 use Rattle.std.proofs.Common.{◌≡◌, ◌∙◌, ℕ, Bool, true, false, Option, Some, None, List, refl, sym, ap, subst, arith}
 use Rattle.std.specs.Prelude.{eqb, not, ◌==◌, if◌then◌else◌, is_some}
 use Rattle.std.specs.List.{list_all, list_any}
@@ -42,10 +42,10 @@ by_begin test (Some call) = refl
 by_begin test None = refl
 
 module _ (m : Moment) (effects : List Entry) (calls : ℕ → Option OpenCall) (heard early : (t v : ℕ) → Bool)
-    (only : OnlyPerformed m.calls calls) where
+    (is_halted : Bool) (only : OnlyPerformed m.calls calls) where
   -- the moment once the cloud did something
   abbrev now : Moment
-  now = record m { effects = effects; calls = calls; heard = heard; early = early }
+  now = record m { effects = effects; calls = calls; heard = heard; early = early; halted = is_halted }
 
   asked : (test : Begin → Bool) (n : ℕ) → holds (λ it. test it.begin) (calls n) ≡ holds (λ it. test it.begin) (m.calls n)
   asked test n = by_begin test (calls n) ∙ ap (holds test) (only.begins n) ∙ sym (by_begin test (m.calls n))

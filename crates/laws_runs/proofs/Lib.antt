@@ -1,6 +1,7 @@
 pub mod ClaimLemmas
 pub mod DeletionLemmas
 pub mod KeptLemmas
+pub mod PartLemmas
 pub mod PhaseLemmas
 pub mod PlainLemmas
 pub mod ReadLemmas

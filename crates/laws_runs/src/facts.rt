@@ -7,10 +7,16 @@ ghost use Rattle.bosh_history.specs.Notes.{Outside};
 ghost use Rattle.bosh_history.specs.Permitted.{IsRun};
 ghost use Rattle.laws_facts.specs.Kept.{IsKept};
 ghost use Rattle.laws_facts.specs.KnownFacts.{KnownFacts};
+ghost use Rattle.laws_moves.specs.Parts.{IsKeptByPartsAlone};
 
 /// Each permitted move keeps all facts on what is known.
 pub fn each_move_keeps_the_facts()
     ensures { IsKept KnownFacts }
+{}
+
+/// So does each part of a move, also in the middle of a stop.
+pub fn each_part_keeps_the_facts()
+    ensures { IsKeptByPartsAlone KnownFacts }
 {}
 
 /// All facts on what is known hold at each moment of a permitted history that began on a fit pair.
