@@ -3,6 +3,8 @@ pub mod CloudLemmas
 pub mod DiskLemmas
 pub mod DoneLemmas
 pub mod DoubtFrames
+pub mod NameLemmas
+pub mod NoteLemmas
 pub mod NumberLemmas
 pub mod OrphanFrames
 pub mod OwnerFrames

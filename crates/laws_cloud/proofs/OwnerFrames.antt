@@ -58,8 +58,10 @@ pub where_first : {X : Type 0} (p q : X → Bool) (o : Option X) → where_any (
 where_first p q (Some x) is = (and_parts (p x) (q x) is).0
 where_first p q None is = refl
 
-some_of : {X : Type 0} (o : Option X) (x : X) → o ≡ Some x → is_some o ≡ true
-some_of o x is = ap is_some is
+pub where_each : {X : Type 0} (test : X → Bool) (o : Option X) → ((x : X) → o ≡ Some x → test x ≡ true)
+    → where_any test o ≡ true
+where_each test (Some x) each = each x refl
+where_each test None each = refl
 
 -- ---- a row and its call in doubt
 

@@ -35,7 +35,7 @@ use Rattle.bosh_rows.specs.NextStep.{next_step}
 use Rattle.bosh_rows.specs.Same.{same_inst}
 use Rattle.laws_answered_rows.proofs.BeforeCases.{before_kept}
 use Rattle.laws_answered_rows.proofs.FactCases.{facts_kept}
-use Rattle.laws_cloud.proofs.NumberLemmas.{new_number}
+use Rattle.laws_cloud.proofs.NoteLemmas.{new_number}
 use Rattle.laws_cloud.proofs.OwnerFrames.{row_doubt}
 use Rattle.laws_facts.proofs.CurrentLemmas.{done_works}
 use Rattle.laws_facts.specs.CallFacts.{IsOwnerKept}
