@@ -39,7 +39,7 @@ last_rests : (m : Moment) (x : Move) → ends_stopped (x ∷ []) ≡ true → Re
 last_rests m (moves.Stop s) stopped = record { no_call = λ n. refl; stopped = refl }
 last_rests m x stopped = absurd (false≢true stopped)
 
-rests_then : (m : Moment) (session : List Move) → ends_stopped session ≡ true → Rests (fold later m session)
+pub rests_then : (m : Moment) (session : List Move) → ends_stopped session ≡ true → Rests (fold later m session)
 rests_then m [] stopped = absurd (false≢true stopped)
 rests_then m (x ∷ []) stopped = last_rests m x stopped
 rests_then m (x ∷ y ∷ more) stopped = rests_then (later m x) (y ∷ more) (sym (more_stopped x y more) ∙ stopped)
@@ -100,7 +100,7 @@ module _ (m : Moment) (h : KnownFacts m) (written : List Entry) (known : m.known
   shortened (entries.Snapshot s ∷ e ∷ more) short = absurd short
   shortened (e ∷ more) short = absurd short
 
-  stands : (stored : List Entry) → StandFor stored written → Outlasts m.known (known_of stored)
+  pub stands : (stored : List Entry) → StandFor stored written → Outlasts m.known (known_of stored)
   stands stored (inl alike) =
       outlasts_as m.known m.known (known_of stored)
       (alike_told stored written alike ∙ (λ j. plain_known (sym known j)))

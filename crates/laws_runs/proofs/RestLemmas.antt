@@ -109,10 +109,10 @@ none_after tasks t open_now = by (nat_lt tasks t) refl (nat_le t tasks) refl
     by true after false is = (λ j. after j && (is j && open_now))
     by true after true is = absurd (grind (arith, after, is))
 
-none_works : (k : Known) (effects : List Entry) (t : ℕ) → works (reopened k effects) t ≡ false
+pub none_works : (k : Known) (effects : List Entry) (t : ℕ) → works (reopened k effects) t ≡ false
 none_works k effects t = none_after k.tasks t (is_open k t)
 
-never_so : (b : Bool) → b ≡ false → b ≡ true → ⊥
+pub never_so : (b : Bool) → b ≡ false → b ≡ true → ⊥
 never_so b none is = false≢true (sym none ∙ is)
 
 implied_never : (a b : Bool) → a ≡ false → implies a b ≡ true
@@ -217,7 +217,7 @@ module _ (m : Moment) (rests : Rests m) (h : KnownFacts m) (new : Known) (same :
       noted true = refl
       noted false = refl
 
-  doubt_rest : (owner : Owner) → doubt_of new owner ≡ doubt_of m.known owner
+  pub doubt_rest : (owner : Owner) → doubt_of new owner ≡ doubt_of m.known owner
   doubt_rest (Instance i) = λ j. (same.row i j).doubt
   doubt_rest (Compile t s) =
       slot_part m.known new same t s (λ slot. option_and_then (λ (it : Slot). it.doubt) slot) doubt_keyless
