@@ -1,0 +1,5 @@
+pub mod BeganLemmas
+pub mod FrameLemmas
+pub mod KeptLemmas
+pub mod NamedLemmas
+pub mod OwnLemmas
