@@ -1,5 +1,6 @@
 -- What is done beside a compile machine leaves its facts, and those of what it was before its call and will be after it.
-use Rattle.std.proofs.Common.{◌≡◌, ◌∙◌, ℕ, Bool, true, false, Option, Some, None, List, [], ◌∷◌, ◌++◌, ap, refl, sym, subst}
+use Rattle.std.proofs.Common.{◌≡◌, ◌∙◌, ℕ, Bool, true, false, Option, Some, None, List, [], ◌∷◌, ◌++◌, ap, refl, sym}
+use Rattle.std.proofs.Common.{subst}
 use Rattle.std.specs.Prelude.{◌&&◌, ◌==◌, ◌≢◌}
 use Rattle.std.specs.List.{list_all}
 use Rattle.std.specs.Option.{option_and_then}
@@ -19,11 +20,11 @@ use Rattle.bosh_base.specs.declared.entry.Loss.{Loss}
 use Rattle.bosh_base.specs.declared.entry.Write.{Write}
 use Rattle.bosh_base.specs.declared.moves.Did.{Did}
 use Rattle.bosh_base.specs.declared.owner.Owner.{Owner}
-use Rattle.bosh_base.specs.declared.owner.Owner.TheVariants.{Instance, Compile, Disk}
+use Rattle.bosh_base.specs.declared.owner.Owner.TheVariants.{Compile, Disk, Instance}
 use Rattle.bosh_base.specs.declared.row.Doubt.{Doubt}
 use Rattle.bosh_base.specs.declared.row.Vm.{Vm}
-use Rattle.bosh_history.specs.Known.{Slot, SlotName, dep_named}
-use Rattle.bosh_history.specs.Moments.{Moment, OpenCall, dep_of}
+use Rattle.bosh_history.specs.Known.{dep_named, Slot, SlotName}
+use Rattle.bosh_history.specs.Moments.{dep_of, Moment, OpenCall}
 use Rattle.bosh_history.specs.Permitted.{can_lose, is_instances}
 use Rattle.bosh_history.specs.Slots.{slot_after, slot_told}
 use Rattle.bosh_rows.specs.Same.{same_owner}
@@ -38,7 +39,7 @@ use Rattle.laws_row_facts.specs.Cloud.{is_for_instance, is_instance}
 use Rattle.laws_row_facts.specs.Numbers.{is_effect_of}
 use Rattle.laws_row_facts.specs.Words.{implies, same_call, where_any}
 use Rattle.laws_slots.proofs.SlotFrames.{slot_loss, slot_other, slot_write}
-use Rattle.laws_slots.specs.Slots.{SlotFacts, is_slot_doubt_its_own, owner_of}
+use Rattle.laws_slots.specs.Slots.{is_slot_doubt_its_own, owner_of, SlotFacts}
 
 -- ---- what was before a call and what will be after it is in doubt of the same call, if of any
 

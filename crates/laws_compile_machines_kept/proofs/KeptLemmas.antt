@@ -3,19 +3,19 @@ use Rattle.std.proofs.Common.{◌≡◌, ◌∙◌, ℕ, Bool, true, false, Opti
 use Rattle.std.specs.Prelude.{[], ◌≢◌, ◌==◌, ◌++◌, ◌∷◌, eqb, if◌then◌else◌, not, is_some}
 use Rattle.std.proofs.lemmas.Bool.{and_from, eq-eqb, eqb-true, false≢true}
 use Rattle.bosh_base.specs.CallStep.{CallStep}
-use Rattle.bosh_base.specs.declared.answer.Answer.TheVariants as answers
 use Rattle.bosh_base.specs.declared.answer.Answer.{Answer}
+use Rattle.bosh_base.specs.declared.answer.Answer.TheVariants as answers
 use Rattle.bosh_base.specs.declared.entry.Begin.{Begin}
 use Rattle.bosh_base.specs.declared.entry.Entry.{Entry}
 use Rattle.bosh_base.specs.declared.entry.Entry.TheVariants as entries
 use Rattle.bosh_base.specs.declared.moves.Did.{Did}
 use Rattle.bosh_base.specs.declared.owner.Owner.{Owner}
-use Rattle.bosh_base.specs.declared.owner.Owner.TheVariants.{Instance, Compile, Disk}
+use Rattle.bosh_base.specs.declared.owner.Owner.TheVariants.{Compile, Disk, Instance}
 use Rattle.bosh_base.specs.declared.row.Doubt.{Doubt}
 use Rattle.bosh_history.specs.Calls.{begins, call_ended, key_for}
-use Rattle.bosh_history.specs.Known.{Slot, dep_of_task}
+use Rattle.bosh_history.specs.Known.{dep_of_task, Slot}
 use Rattle.bosh_history.specs.Learn.{learn}
-use Rattle.bosh_history.specs.Moments.{Moment, OpenCall, losing, noting, performed_call, performing}
+use Rattle.bosh_history.specs.Moments.{losing, Moment, noting, OpenCall, performed_call, performing}
 use Rattle.bosh_history.specs.Notes.{Begins, EndsCall, MayNote, Outside}
 use Rattle.bosh_history.specs.Notes as notes
 use Rattle.bosh_history.specs.Permitted.{PerformsOpen}
@@ -23,9 +23,11 @@ use Rattle.bosh_history.specs.Slots.{slot_after, slot_begun}
 use Rattle.bosh_history.specs.Steps.{call_now}
 use Rattle.bosh_history.specs.Words.{at}
 use Rattle.bosh_rows.specs.Same.{same_owner}
-use Rattle.laws_compile_machines_kept.proofs.FrameLemmas.{Leaves, doubts_itself, lost, others, own_now, owner_left, written}
+use Rattle.laws_compile_machines_kept.proofs.FrameLemmas.{doubts_itself, Leaves, lost, others, own_now, owner_left}
+use Rattle.laws_compile_machines_kept.proofs.FrameLemmas.{written}
 use Rattle.laws_compile_machines_kept.proofs.NamedLemmas.{effect_made}
-use Rattle.laws_compile_machines_kept.proofs.OwnLemmas.{done_effects, failed_instead, failed_slot, next_fresh, own_done}
+use Rattle.laws_compile_machines_kept.proofs.OwnLemmas.{done_effects, failed_instead, failed_slot, next_fresh}
+use Rattle.laws_compile_machines_kept.proofs.OwnLemmas.{own_done}
 use Rattle.laws_compile_machines_kept.specs.CompileMachines.{AreAsRecorded, AreOwnersKept}
 use Rattle.laws_effects.specs.Orderly.{is_taken}
 use Rattle.laws_facts.specs.CallFacts.{IsOwnerKept, named}
@@ -34,13 +36,14 @@ use Rattle.laws_facts.specs.OpenCalls.{slot_as_before}
 use Rattle.laws_items.proofs.ItemLemmas.{LeavesOpen, slot_same, spares}
 use Rattle.laws_items.proofs.MarkLemmas.{Spares}
 use Rattle.laws_items.proofs.OwnerLemmas.{same_owner_is}
-use Rattle.laws_items.proofs.SlotCalls.{SlotCall, compiles, creates, deletes, finds, looks, slot_call}
-use Rattle.laws_items.proofs.SlotFrames.{Slots, begun_own, slots_begin, slots_begun, slots_ended, slots_note, slots_told}
+use Rattle.laws_items.proofs.SlotCalls.{compiles, creates, deletes, finds, looks, slot_call, SlotCall}
+use Rattle.laws_items.proofs.SlotFrames.{begun_own, Slots, slots_begin, slots_begun, slots_ended, slots_note}
+use Rattle.laws_items.proofs.SlotFrames.{slots_told}
 use Rattle.laws_moves.specs.Parts.{Forgotten, IsKeptByParts, Lost, Noted, Performed, Written}
 use Rattle.laws_row_facts.specs.Words.{is_some_with}
 use Rattle.laws_rows.specs.Rightful.{done_with, is_machine}
 use Rattle.laws_slots.proofs.SlotCases.{slot_kept}
-use Rattle.laws_slots.specs.Slots.{SlotFacts, is_call_of_slot}
+use Rattle.laws_slots.specs.Slots.{is_call_of_slot, SlotFacts}
 
 -- ---- one compile machine changes
 

@@ -15,13 +15,13 @@ use Rattle.bosh_base.specs.declared.goal.GoalRow.{GoalRow}
 use Rattle.bosh_base.specs.declared.inst.Inst.{Inst}
 use Rattle.bosh_base.specs.declared.make.Make.{Make}
 use Rattle.bosh_base.specs.declared.owner.Owner.{Owner}
-use Rattle.bosh_base.specs.declared.owner.Owner.TheVariants.{Instance, Compile, Disk}
+use Rattle.bosh_base.specs.declared.owner.Owner.TheVariants.{Compile, Disk, Instance}
 use Rattle.bosh_base.specs.declared.row.Doubt.{Doubt}
 use Rattle.bosh_base.specs.declared.row.Row.{Row}
 use Rattle.bosh_base.specs.declared.row.Vm.{Vm}
 use Rattle.bosh_history.specs.Items.{is_to_ping}
 use Rattle.bosh_history.specs.Known.{Known, Slot, Task}
-use Rattle.bosh_history.specs.Moments.{Moment, OpenCall, dep_of}
+use Rattle.bosh_history.specs.Moments.{dep_of, Moment, OpenCall}
 use Rattle.bosh_history.specs.Steps.{want_of}
 use Rattle.bosh_history.specs.Ties.{was_made_as}
 use Rattle.bosh_history.specs.Words.{holds}
@@ -33,8 +33,8 @@ use Rattle.laws_calls.proofs.BeginLemmas.{vm_before}
 use Rattle.laws_effects.specs.Orderly.{vms_named_by}
 use Rattle.laws_facts.specs.CallFacts.{named}
 use Rattle.laws_facts.specs.Facts.{Holds}
-use Rattle.laws_facts.specs.OpenCalls.{call_of_row, fits_known, fits_row, fits_slot, is_on_orphan}
 use Rattle.laws_facts.specs.Numbers.{is_open_for}
+use Rattle.laws_facts.specs.OpenCalls.{call_of_row, fits_known, fits_row, fits_slot, is_on_orphan}
 use Rattle.laws_facts.specs.Owners.{doubt_of, is_doubt}
 use Rattle.laws_items.proofs.OwnerLemmas.{same_owner_is}
 use Rattle.laws_kept_facts.proofs.CallCases.{by_all}

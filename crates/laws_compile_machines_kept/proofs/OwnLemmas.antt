@@ -1,5 +1,6 @@
 -- What the cloud does of the call of a compile machine keeps its facts.
-use Rattle.std.proofs.Common.{◌≡◌, ◌∙◌, ℕ, Bool, true, false, Option, Some, None, List, refl, sym, subst, append-nil, inl, inr, ◌+◌, ◌≤◌, arith}
+use Rattle.std.proofs.Common.{◌≡◌, ◌∙◌, ℕ, Bool, true, false, Option, Some, None, List, refl, sym, subst, append-nil}
+use Rattle.std.proofs.Common.{inl, inr, ◌+◌, ◌≤◌, arith}
 use Rattle.std.specs.Prelude.{◌++◌, ◌≢◌, ◌&&◌, ◌⊎◌, nat_le, not, is_some}
 use Rattle.std.specs.List.{list_all}
 use Rattle.std.proofs.lemmas.Bool.{and_parts, false≢true, leb-true, not-true, or_cases}
@@ -14,8 +15,8 @@ use Rattle.bosh_base.specs.declared.entry.Entry.{Entry}
 use Rattle.bosh_base.specs.declared.key.KeyWork.{KeyWork}
 use Rattle.bosh_base.specs.declared.moves.Did.{Did}
 use Rattle.bosh_base.specs.declared.owner.Owner.TheVariants.{Compile}
-use Rattle.bosh_history.specs.Known.{Slot, dep_named}
-use Rattle.bosh_history.specs.Moments.{Moment, OpenCall, call_effects, dep_of, performing}
+use Rattle.bosh_history.specs.Known.{dep_named, Slot}
+use Rattle.bosh_history.specs.Moments.{call_effects, dep_of, Moment, OpenCall, performing}
 use Rattle.bosh_history.specs.Slots.{slot_after}
 use Rattle.bosh_history.specs.Words.{holds}
 use Rattle.bosh_rows.specs.Standing.{same_truth}
@@ -32,7 +33,7 @@ use Rattle.laws_row_facts.specs.Numbers.{is_effect_of}
 use Rattle.laws_row_facts.specs.Words.{where_any}
 use Rattle.laws_rows.specs.Rightful.{done_with}
 use Rattle.laws_slots.proofs.SlotCases.{slot_kept}
-use Rattle.laws_slots.specs.Slots.{SlotFacts, has_shape, is_slot_doubt_its_own}
+use Rattle.laws_slots.specs.Slots.{has_shape, is_slot_doubt_its_own, SlotFacts}
 
 -- ---- what the cloud does of a call
 

@@ -388,7 +388,7 @@ opened_stands m o h may t i working = by (eqb_tells o.task t)
 
 -- ---- moves
 
-stands_note : (outside : Outside) (m : Moment) (e : Entry) → Holds m → may_follow m e ≡ true → MayNote outside m e
+pub stands_note : (outside : Outside) (m : Moment) (e : Entry) → Holds m → may_follow m e ≡ true → MayNote outside m e
     → StandWhereThrough (noting m e)
 stands_note outside m (entries.TaskOpen o) h follows may t i working = opened_stands m o h may.0 t i working
 stands_note outside m (entries.Begin b) h follows may t i working =
