@@ -1,0 +1,4 @@
+pub mod KeptLemmas
+pub mod MigrationLemmas
+pub mod SilenceLemmas
+pub mod WriteLemmas
