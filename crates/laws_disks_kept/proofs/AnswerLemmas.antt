@@ -193,12 +193,14 @@ module _ (xs : List Entry) (orderly : AreOrderly xs) (i : Inst) (n m v : ℕ) (w
       by : (same : Bool) → (m == e.n) ≡ same → same ≡ false
       by false other = refl
       by true same =
-          absurd (none_found (λ d. is_disk_there xs d && has_number m (disk_creation xs d)) (numbers_to (disks_created xs))
-          is d (numbered_in d (disks_created xs) (numbered xs orderly d e made) ((are_within xs).disks d e made))
+          absurd
+          (none_found (λ d. is_disk_there xs d && has_number m (disk_creation xs d)) (numbers_to (disks_created xs)) is
+          d (numbered_in d (disks_created xs) (numbered xs orderly d e made) ((are_within xs).disks d e made))
           (and_from (is_disk_there xs d) _ there
           ((λ j. has_number m (made j)) ∙ eq-eqb e.n m (sym (eqb-true m e.n same)))))
 
-  pub finding : (built : KeyWork → List Digest → Digest) (has : Bool) (answer : Answer) → CallStep built xs (calls.FindDisk m) has answer
+  pub finding : (built : KeyWork → List Digest → Digest) (has : Bool) (answer : Answer)
+      → CallStep built xs (calls.FindDisk m) has answer
       → KeepsCount xs i n (calls.FindDisk m) answer row
   finding built has answer (inl (says, takes)) d e there made own =
       (λ j. times (after n (calls.FindDisk m) (says j) row) d e.n)

@@ -60,7 +60,7 @@ same_grows xs (Disk d) = λ gone. gone
 
 -- ---- entries
 
-begun_apart : (b : Begin) (owner : Owner) (k : Known) (i : Inst) → owner ≢ Instance i
+pub begun_apart : (b : Begin) (owner : Owner) (k : Known) (i : Inst) → owner ≢ Instance i
     → (begins b owner k).row i ≡ k.row i
 begun_apart b (Instance j) k i apart =
     row_apart j i (begun_row b.n b.call (k.row j)) k.row (λ same. apart (λ l. Instance (same l)))
@@ -94,7 +94,8 @@ module _ (outside : Outside) (m : Moment) (h : Holds m) (n : ℕ) (call : OpenCa
       keeps_as m.effects m.effects m.known (learn m.known e) call.begin did.answer call.begin.owner
       (owner_same e may other) (same_grows m.effects call.begin.owner) (answers_keep m h n call did is told)
 
-pub answers_noted : (outside : Outside) (m : Moment) (e : Entry) → MayNote outside m e → Holds m → AnswersKeep (noting m e)
+pub answers_noted : (outside : Outside) (m : Moment) (e : Entry) → MayNote outside m e → Holds m
+    → AnswersKeep (noting m e)
 answers_noted outside m (entries.Begin b) may h n call did is told = by (eqb b.n n) is
   where
     by : (same : Bool) → (if same then Some (record { begin = b; did = None }) else m.calls n) ≡ Some call

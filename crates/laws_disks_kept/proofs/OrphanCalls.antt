@@ -62,7 +62,8 @@ module _ (xs : List Entry) (n d : ℕ) (it : Orphan) where
         was = record it { doubt = None };
         is_call = and_from (disk == d) true parts.0 refl;
         begun = λ j. record it { doubt = sym doubted j };
-        recorded = deleting (doubted ∙ (λ j. Some (record { n = n; call = calls.DeleteDisk (eqb-true disk d parts.0 j) })));
+        recorded =
+            deleting (doubted ∙ (λ j. Some (record { n = n; call = calls.DeleteDisk (eqb-true disk d parts.0 j) })));
       }
   orphan_began (calls.HasDisk disk) fits =
       record { was = it; is_call = fits; begun = refl; recorded = λ is fresh. is }

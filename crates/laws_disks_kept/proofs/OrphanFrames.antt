@@ -44,7 +44,8 @@ module _ (m : Moment) (h : Holds m) (d : ℕ) (n : ℕ) (call : OpenCall) (is : 
       (and_from (not (is_deletion_of_disk d call.begin.call)) _
       (λ j. not (deletes_own m h n call is d apart j)) (by it.doubt refl))
     where
-      by : (o : Option Doubt) → it.doubt ≡ o → where_any (λ (doubt : Doubt). not (call.begin.n == doubt.n)) it.doubt ≡ true
+      by : (o : Option Doubt) → it.doubt ≡ o
+          → where_any (λ (doubt : Doubt). not (call.begin.n == doubt.n)) it.doubt ≡ true
       by None none = λ j. where_any (λ (doubt : Doubt). not (call.begin.n == doubt.n)) (none j)
       by (Some doubt) has =
           let (was, at, had) = doubts it doubt refl has in
