@@ -1,0 +1,9 @@
+pub mod AnswerLemmas
+pub mod EntryLemmas
+pub mod KeptLemmas
+pub mod LeftLemmas
+pub mod NoteLemmas
+pub mod OpenLemmas
+pub mod RowLemmas
+pub mod SpecLemmas
+pub mod TellLemmas
