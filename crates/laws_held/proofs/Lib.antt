@@ -1,2 +1,4 @@
 pub mod HeldLemmas
+pub mod PartLemmas
 pub mod RestLemmas
+pub mod SafeLemmas

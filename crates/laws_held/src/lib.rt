@@ -1,24 +1,48 @@
-//! All facts, those on the cloud too, outlast a session.
+//! All facts, those on the cloud too, hold at each moment of a permitted history; so records stay what the cloud has, and
+//! machines share no address.
 #![tactic(auto)]
 
 ghost use Rattle.std.specs.Prelude.{List};
 ghost use Rattle.bosh_base.specs.declared.moves.Move.{Move};
+ghost use Rattle.bosh_history.specs.Addresses.{shares_no_address};
+ghost use Rattle.bosh_history.specs.Each.{EachMove};
 ghost use Rattle.bosh_history.specs.Fit.{IsFit, LeavesPair};
-ghost use Rattle.bosh_history.specs.Moments.{Opening, beginning, moment};
+ghost use Rattle.bosh_history.specs.Moments.{Moment, Opening, beginning, later, moment};
 ghost use Rattle.bosh_history.specs.Notes.{Outside};
-ghost use Rattle.bosh_history.specs.Permitted.{IsRun};
+ghost use Rattle.bosh_history.specs.Permitted.{IsPermitted, IsRun};
+ghost use Rattle.bosh_history.specs.Ties.{IsTied};
 ghost use Rattle.laws_facts.specs.Facts.{Holds};
-ghost use Rattle.laws_moves.specs.Parts.{IsKeptByParts};
+ghost use Rattle.laws_held.specs.Whole.{IsWholeKept, Whole};
+
+/// Each part of a move keeps all facts, and so does each permitted move.
+pub fn each_move_keeps_all_facts()
+    ensures parts { IsWholeKept }
+    ensures moves { (outside : Outside) (m : Moment) (move : Move) → IsPermitted outside m move → Whole m →
+        Whole (later m move) }
+{}
 
 /// Where all facts held at the last moment of a session that ends with a stop, they hold where the next session begins, on
 /// the entries that it made durable, or a snapshot in their place, and on what it did to the cloud.
-pub fn what_a_session_leaves_has_the_facts()
+pub fn what_a_session_leaves_has_all_facts()
     ensures { (outside : Outside) (before next : Opening) (session : List Move) →
-        LeavesPair outside before session next → Holds (moment before session) → Holds (beginning next) }
+        LeavesPair outside before session next → Whole (moment before session) → Whole (beginning next) }
 {}
 
-/// Where each part of a move keeps all facts, they hold at each moment of a permitted history that began on a fit pair.
-pub fn what_each_part_keeps_holds_at_each_moment()
-    ensures { IsKeptByParts Holds → (outside : Outside) (o : Opening) (moves : List Move) → IsFit outside o →
-        IsRun outside o moves → Holds (moment o moves) }
+/// All facts hold at each moment of a permitted history that began on a fit pair.
+pub fn each_moment_has_all_facts()
+    ensures { (outside : Outside) (o : Opening) (moves : List Move) → IsFit outside o → IsRun outside o moves →
+        Holds (moment o moves) }
+{}
+
+/// At each moment of a permitted history that began on a fit pair, what is recorded is what the cloud has, and the cloud
+/// has nothing that is not recorded.
+pub fn records_stay_what_the_cloud_has()
+    ensures { (outside : Outside) (o : Opening) (moves : List Move) → IsFit outside o → IsRun outside o moves →
+        IsTied o moves }
+{}
+
+/// No two machines that are there, or that open calls may be making, share an address.
+pub fn machines_share_no_address()
+    ensures { (outside : Outside) (o : Opening) (moves : List Move) → IsFit outside o → IsRun outside o moves →
+        EachMove shares_no_address (beginning o) moves }
 {}
