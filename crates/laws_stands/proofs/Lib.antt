@@ -1,0 +1,13 @@
+pub mod AnswerLemmas
+pub mod ChoiceLemmas
+pub mod FirstLemmas
+pub mod GroupLemmas
+pub mod ItemLemmas
+pub mod LineLemmas
+pub mod MarkLemmas
+pub mod PartLemmas
+pub mod PhaseLemmas
+pub mod PremiseLemmas
+pub mod SlotLemmas
+pub mod UpdateLemmas
+pub mod WantLemmas
