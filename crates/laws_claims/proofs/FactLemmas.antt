@@ -168,7 +168,7 @@ pub record IsWorking (m : Moment) (t : ℕ) : Type 0 where
   pub told : IsToldWell (m.known.task t)
 
 -- while a task works, none is left that a stop interrupted
-recovered : (m : Moment) (t : ℕ) → KnownFacts m → works m t ≡ true → is_recovering m ≡ false
+pub recovered : (m : Moment) (t : ℕ) → KnownFacts m → works m t ≡ true → is_recovering m ≡ false
 recovered m t facts working = by (is_recovering m) refl
   where
     by : (b : Bool) → is_recovering m ≡ b → b ≡ false

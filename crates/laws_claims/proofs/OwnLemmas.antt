@@ -92,7 +92,7 @@ module _ (m : Moment) (are : AreCallsOwn m) where
       (dep_ ∙ ap (λ (it : Slot). Some it.dep)
       (let e : Some also ≡ Some it = sym is_ ∙ is in let same : also ≡ it = cc in same) ∙ sym dep)
 
-  same_task : (t u p q : ℕ) (o : Owner) → works m t ≡ true → works m u ≡ true
+  pub same_task : (t u p q : ℕ) (o : Owner) → works m t ≡ true → works m u ≡ true
       → phase_of m.known t o ≡ Some p → phase_of m.known u o ≡ Some q → u ≡ t
   same_task t u p q (Instance i) working open_ at other =
       are.locks_differ u t open_ working (dep_of_instance u q i open_ other ∙ sym (dep_of_instance t p i working at))

@@ -1,14 +1,13 @@
 //! All tables.
-ghost use Rattle.std.specs.Prelude.{◌≡◌, ℕ};
+ghost use Rattle.std.specs.Prelude.{◌≡◌};
 ghost use Rattle.bosh_base.specs.declared.inst.Inst.{Inst};
 ghost use Rattle.bosh_history.specs.Known.{want_in};
-ghost use Rattle.bosh_records.specs.Readers.{want_of};
+ghost use Rattle.bosh_records.specs.Readers.{goal_of, want_of};
+ghost use Rattle.bosh_records.specs.Recorded.{recorded};
 ghost use Rattle.bosh_records.specs.declared.records.Records.{Records};
 ghost use Rattle.laws_stands.specs.Linked.{IsLinked};
-ghost use Rattle.laws_stands.specs.Stands.{Stands};
-ghost use Rattle.bosh_records.specs.Readers.{goal_of};
 
 /// The want of an instance is the one that the current goal of its deployment has.
 pub fn wants_are_found()
-    ensures { (records : Records) (i : Inst) → IsLinked records → want_of records i ≡ want_in (goal_of records i.dep) i }
+    ensures { (records : Records) (i : Inst) → IsLinked (recorded records) → want_of records i ≡ want_in (goal_of records i.dep) i }
 {}

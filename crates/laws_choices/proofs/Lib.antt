@@ -1,0 +1,4 @@
+pub mod ClaimLemmas
+pub mod ReadLemmas
+pub mod SameCallLemmas
+pub mod StandLemmas
