@@ -1,0 +1,222 @@
+-- The update of an instance begins.
+use Rattle.std.proofs.Common.{◌≡◌, ◌∙◌, ℕ, ◌<◌, ◌≤◌, Bool, true, false, ◌&&◌, not, List, ◌==◌, Option, Some, None, ap, refl, sym, subst, arith}
+use Rattle.std.specs.Prelude.{eqb, filter, is_some, map, nat_le, if◌then◌else◌}
+use Rattle.std.specs.BTreeMap.{is_at}
+use Rattle.std.specs.Option.{option_and_then, option_map}
+use Rattle.std.specs.Ordering.{nat_cmp}
+use Rattle.std.proofs.lemmas.Bool.{and_parts, eq-eqb, eqb-true}
+use Rattle.bosh_base.specs.declared.entry.Begin.{Begin}
+use Rattle.bosh_base.specs.declared.entry.Entry.TheVariants as entries
+use Rattle.bosh_base.specs.declared.entry.Update.{Update}
+use Rattle.bosh_base.specs.declared.goal.Goal.{Goal}
+use Rattle.bosh_base.specs.declared.inst.Inst.{Inst}
+use Rattle.bosh_base.specs.declared.key.Key.{Key}
+use Rattle.bosh_base.specs.declared.task.TaskRow.{TaskRow}
+use Rattle.bosh_compile.specs.Readiness.{same_key}
+use Rattle.bosh_fold.specs.Updates.{update_begun_in}
+use Rattle.bosh_history.specs.Goals.{is_waiting}
+use Rattle.bosh_history.specs.Held.{is_open}
+use Rattle.bosh_history.specs.Items.{is_finished, is_in_deployment}
+use Rattle.bosh_history.specs.Known.{Known, SlotName, Task}
+use Rattle.bosh_history.specs.Slots.{keys_of}
+use Rattle.bosh_history.specs.Snapshots.{task_row}
+use Rattle.bosh_history.specs.Updates.{update_at}
+use Rattle.bosh_history.specs.Words.{at}
+use Rattle.bosh_progress.specs.Tree.{first_marked}
+use Rattle.bosh_records.specs.Places.{part_of}
+use Rattle.bosh_records.specs.Recorded.{Recorded}
+use Rattle.bosh_roll.specs.Upd.{is_busy}
+use Rattle.bosh_roll.specs.declared.upd.Upd.{Upd}
+use Rattle.bosh_roll.specs.declared.upd.Upd.TheVariants.{Busy}
+use Rattle.bosh_rows.specs.Same.{same_inst}
+use Rattle.bosh_rows.specs.SoundSnapshot.{are_distinct}
+use Rattle.bosh_work.specs.Work as work_specs
+use Rattle.bosh_work.specs.declared.part.MachineName.{MachineName}
+use Rattle.bosh_work.specs.declared.work.Work.{Work}
+use Rattle.laws_stands.specs.GroupsStand.{change_place}
+use Rattle.laws_stands.specs.LineStands.{place_of}
+use Rattle.laws_stands.specs.Linked.{same_machine}
+use Rattle.laws_stands.specs.Reading.{dep_of, task_of, work_of}
+use Rattle.laws_stands.specs.Stands.{AreSwept, IsWork, StandsIn, key_of_slot, key_place}
+use Rattle.laws_stands.specs.Told.{TellsWell, Told, idle_in, is_going, telling}
+use Rattle.laws_stands.specs.WorkStands.{StandsFor}
+use Rattle.laws_stands_on.proofs.FrameLemmas.{SameForTask, work_goes_on}
+use Rattle.laws_stands_on.proofs.TableLemmas.{nat_at, nat_keys, thing_changed}
+use Rattle.laws_stands_on.proofs.WorkLemmas.{after_update_begun}
+use Rattle.laws_stands_on.specs.Allows.{AllowsUpdate}
+
+module _ (u : Update) (told : Told) (it : Recorded) (allows : AllowsUpdate told u) (stands : StandsIn told it) where
+  abbrev n : ℕ
+  n = u.task
+
+  abbrev i : Inst
+  i = u.inst
+
+  abbrev new : Told
+  new = telling told (entries.UpdBegin u)
+
+  abbrev k : Known
+  k = told.known
+
+  -- what an update does not change in a task
+  task_same : {X : Type 0} (f : Task → X) → ((t : Task) → f (update_at Busy i t) ≡ f t) → (t : ℕ) → f (new.known.task t) ≡ f (k.task t)
+  task_same f same t = by (eqb n t) refl
+    where
+      by : (b : Bool) → eqb n t ≡ b → f (if b then update_at Busy i (k.task n) else k.task t) ≡ f (k.task t)
+      by true is = same (k.task n) ∙ ap (λ n. f (k.task n)) (eqb-true n t is)
+      by false is = refl
+
+  going_same : (t : ℕ) → is_going new.known t ≡ is_going k t
+  going_same t = task_same (λ it. nat_le 1 t && (nat_le t k.tasks && not (is_some it.end))) (λ it. refl) t
+
+  swept_same : (t : ℕ) (swept : List MachineName) → AreSwept k t swept → AreSwept new.known t swept
+  swept_same t swept are = are ∙ sym (task_same (λ it. filter (λ (name : SlotName). not (name.task == t) && is_in_deployment k it.dep name) k.machines) (λ it. refl) t)
+
+  -- the new work of a task
+  work_is : (t : ℕ) → work_of (update_begun_in u it) t ≡ (if eqb n t then option_map (λ work. work_specs.update_begun work (part_of it i).change) (work_of it t) else work_of it t)
+  work_is t =
+      thing_changed nat_cmp nat_keys n (λ work. work_specs.update_begun work (part_of it i).change) it.works t
+      ∙ ap (λ b. if b then option_map (λ work. work_specs.update_begun work (part_of it i).change) (work_of it t) else work_of it t) (nat_at n t)
+
+  dep_is : dep_of it n ≡ Some i.dep
+  dep_is =
+      ap (option_and_then (λ (row : TaskRow). row.dep))
+      (stands.tasks n ∙ (λ j. if opened j then Some (task_row k n) else None))
+      ∙ allows.dep
+    where
+      opened : (nat_le 1 n && nat_le n k.tasks) ≡ true
+      opened = by (nat_le 1 n) (nat_le n k.tasks) (is_open k n) allows.going
+        where
+          by : (a b c : Bool) → (a && (b && c)) ≡ true → (a && b) ≡ true
+          by true true c is = refl
+          by true false c is = is
+          by false b c is = is
+
+  -- the work of the task itself
+  own_work : (o : Option Work) → work_of it n ≡ o → IsWork told n o → IsWork new n (option_map (λ work. work_specs.update_begun work (part_of it i).change) o)
+  own_work (Some work) is (going, (swept, work_stands, are_swept)) =
+      (going_same n ∙ going, (swept,
+      after_update_begun told n swept work (work_specs.update_begun work (part_of it i).change) i work_stands allows.apart allows.idle
+      (λ j. work_specs.update_begun work ((stands.linked.changes n work i is dep_is ∙ ap (λ changed. change_place changed i) work_stands.changed_are) j)),
+      swept_same n swept are_swept))
+  own_work None is gone = λ later. going_same n ∙ gone later
+
+  same_for : (t : ℕ) → SameForTask told new (k.task t) t
+  same_for t = record {
+    idle = λ owner. refl;
+    orphans = λ d. refl;
+    slots = λ u s. refl;
+    compiled = λ key. refl;
+    worked = λ key. refl;
+    machines = refl;
+    failed = refl;
+    calls = refl;
+  }
+
+  -- .. and of another task
+  other_work : (t : ℕ) → eqb n t ≡ false → (o : Option Work) → IsWork told t o → IsWork new t o
+  other_work t other (Some work) (going, (swept, work_stands, are_swept)) =
+      (going_same t ∙ going, (swept,
+      subst (λ (it : Task). StandsFor new it t swept work) (sym (λ j. if other j then update_at Busy i (k.task n) else k.task t))
+      (work_goes_on told new (k.task t) t swept work (same_for t) work_stands),
+      swept_same t swept are_swept))
+  other_work t other None gone = λ later. going_same t ∙ gone later
+
+  works_stand : (t : ℕ) → IsWork new t (work_of (update_begun_in u it) t)
+  works_stand t = subst (IsWork new t) (sym (work_is t)) (by (eqb n t) refl)
+    where
+      by : (b : Bool) → eqb n t ≡ b → IsWork new t (if b then option_map (λ work. work_specs.update_begun work (part_of it i).change) (work_of it t) else work_of it t)
+      by true is = subst (λ t. IsWork new t (option_map (λ work. work_specs.update_begun work (part_of it i).change) (work_of it t))) (eqb-true n t is) (own_work (work_of it n) refl (stands.works n))
+      by false is = other_work t is (work_of it t) (stands.works t)
+
+  -- what a work lists it listed before
+  record WasWork (t : ℕ) (w : Work) : Type 0 where
+    pub old : Work
+    pub is : work_of it t ≡ Some old
+    pub pings : w.pings.items ≡ old.pings.items
+    pub obsolete : w.obsolete.items ≡ old.obsolete.items
+    pub changed : w.changed ≡ old.changed
+    pub sweep : w.sweep.items ≡ old.sweep.items
+    pub disks : w.disks.items ≡ old.disks.items
+
+  was_work : (t : ℕ) (w : Work) → work_of (update_begun_in u it) t ≡ Some w → WasWork t w
+  was_work t w is = by (eqb n t) (work_of it t) refl (sym (work_is t) ∙ is)
+    where
+      by : (b : Bool) (o : Option Work) → work_of it t ≡ o → (if b then option_map (λ work. work_specs.update_begun work (part_of it i).change) (work_of it t) else work_of it t) ≡ Some w → WasWork t w
+      by true (Some old) there is =
+          let e : Some (work_specs.update_begun old (part_of it i).change) ≡ Some w = (λ j. option_map (λ work. work_specs.update_begun work (part_of it i).change) (sym there j)) ∙ is in
+          let same : work_specs.update_begun old (part_of it i).change ≡ w = cc in
+          record {
+            old = old;
+            is = there;
+            pings = ap (λ (w : Work). w.pings.items) (sym same);
+            obsolete = ap (λ (w : Work). w.obsolete.items) (sym same);
+            changed = ap (λ (w : Work). w.changed) (sym same);
+            sweep = ap (λ (w : Work). w.sweep.items) (sym same);
+            disks = ap (λ (w : Work). w.disks.items) (sym same);
+          }
+      by true None there is = absurd (let e : None ≡ Some w = (λ j. option_map (λ work. work_specs.update_begun work (part_of it i).change) (sym there j)) ∙ is in cc)
+      by false (Some old) there is =
+          let e : Some old ≡ Some w = sym there ∙ is in
+          let same : old ≡ w = cc in
+          record {
+            old = old;
+            is = there;
+            pings = ap (λ (w : Work). w.pings.items) (sym same);
+            obsolete = ap (λ (w : Work). w.obsolete.items) (sym same);
+            changed = ap (λ (w : Work). w.changed) (sym same);
+            sweep = ap (λ (w : Work). w.sweep.items) (sym same);
+            disks = ap (λ (w : Work). w.disks.items) (sym same);
+          }
+      by false None there is = absurd (let e : None ≡ Some w = sym there ∙ is in cc)
+
+  -- no update is told to have failed
+  updates_told : (t : ℕ) (x : Inst) → is_finished ((new.known.task t).upd x) ≡ (not (is_waiting ((new.known.task t).upd x)) && not (is_busy ((new.known.task t).upd x)))
+  updates_told t x = by (eqb n t)
+    where
+      own : (b : Bool) → is_finished (if b then Busy else (k.task n).upd x) ≡ (not (is_waiting (if b then Busy else (k.task n).upd x)) && not (is_busy (if b then Busy else (k.task n).upd x)))
+      own true = refl
+      own false = stands.tells_well.updates n x
+
+      by : (b : Bool) → is_finished ((if b then update_at Busy i (k.task n) else k.task t).upd x)
+          ≡ (not (is_waiting ((if b then update_at Busy i (k.task n) else k.task t).upd x)) && not (is_busy ((if b then update_at Busy i (k.task n) else k.task t).upd x)))
+      by true = own (same_inst i x)
+      by false = stands.tells_well.updates t x
+
+  -- what is recorded of a task
+  abbrev row_by : ℕ → Task → TaskRow
+  row_by t it = record { task = t; kind = it.kind; dep = it.dep; end = it.end; source = it.source; calls = it.calls }
+
+  pub after_begun : StandsIn new (update_begun_in u it)
+  after_begun = record {
+    uploads = stands.uploads;
+    deployments = stands.deployments;
+    rows = stands.rows;
+    row_calls = stands.row_calls;
+    machines = stands.machines;
+    machine_keys = λ name. stands.machine_keys name
+        ∙ sym (task_same (λ (it : Task). option_and_then (λ key. first_marked (map (λ work. same_key work.key key) (keys_of it.goal))) (key_of_slot (k.slot name.task name.slot))) (λ it. refl) name.task);
+    machine_calls = stands.machine_calls;
+    orphans = stands.orphans;
+    orphan_calls = stands.orphan_calls;
+    digests = stands.digests;
+    compiling = stands.compiling;
+    tasks = λ t. stands.tasks t
+        ∙ sym (task_same (λ (it : Task). if nat_le 1 t && nat_le t k.tasks then Some (row_by t it) else None) (λ it. refl) t);
+    calls = stands.calls;
+    works = works_stand;
+    linked = record {
+      wants = stands.linked.wants;
+      pings = λ t w x is dep. let was : WasWork t w = was_work t w is in stands.linked.pings t was.old x was.is dep ∙ ap (λ items. place_of same_inst x items) (sym was.pings);
+      leaving = λ t w x is dep. let was : WasWork t w = was_work t w is in stands.linked.leaving t was.old x was.is dep ∙ ap (λ items. place_of same_inst x items) (sym was.obsolete);
+      changes = λ t w x is dep. let was : WasWork t w = was_work t w is in stands.linked.changes t was.old x was.is dep ∙ ap (λ changed. change_place changed x) (sym was.changed);
+      sweeps = λ t w name machine is there dep. let was : WasWork t w = was_work t w is in stands.linked.sweeps t was.old name machine was.is there dep ∙ ap (λ items. place_of same_machine name items) (sym was.sweep);
+      deletions = λ t w d loose is there dep. let was : WasWork t w = was_work t w is in stands.linked.deletions t was.old d loose was.is there dep ∙ ap (λ items. place_of eqb d items) (sym was.disks);
+    };
+    tells_well = record {
+      number = stands.tells_well.number;
+      past = stands.tells_well.past;
+      going = λ c b is. going_same b.task ∙ stands.tells_well.going c b is;
+      updates = updates_told;
+    };
+  }
