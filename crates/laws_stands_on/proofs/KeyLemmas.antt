@@ -1,5 +1,6 @@
 -- The orders of instances, of compile machines and of keys tell them apart.
 use Rattle.std.proofs.Common.{◌≡◌, ◌∙◌, Bool, true, false, ◌&&◌, refl, sym, ap}
+use Rattle.std.specs.BTreeMap.{is_at}
 use Rattle.std.specs.Cmp.Lexicographic.{slice_cmp}
 use Rattle.std.specs.Ordering.{is_eq, nat_cmp, ordering_then}
 use Rattle.std.specs.Str.{bytes_eq}
@@ -15,8 +16,9 @@ use Rattle.bosh_compile.proofs.KeyLemmas.{same_key_decides}
 use Rattle.bosh_compile.specs.Readiness.{same_key}
 use Rattle.bosh_records.specs.Keys.{key_cmp}
 use Rattle.bosh_records.specs.Readers.{machine_cmp}
+use Rattle.bosh_rows.specs.Same.{same_inst}
 use Rattle.bosh_work.specs.declared.part.MachineName.{MachineName}
-use Rattle.laws_stands_on.proofs.TableLemmas.{TellsKeys, nat_keys}
+use Rattle.laws_stands_on.proofs.TableLemmas.{TellsKeys, nat_at, nat_keys}
 
 both_equal : (a b : Ordering) → is_eq (ordering_then a b) ≡ true → (is_eq a ≡ true) × (is_eq b ≡ true)
 both_equal Less b is = absurd (false≢true is)
@@ -53,3 +55,17 @@ key_keys a b is =
     (same_key_decides a b).0
     (λ i. (sym (is_eq-slice_cmp a.fingerprint.0 b.fingerprint.0) ∙ one.0) i
     && ((sym (is_eq-slice_cmp a.os b.os) ∙ two.0) i && (sym (is_eq-slice_cmp a.version b.version) ∙ two.1) i))
+
+-- ---- as tests
+
+eq_then : (a b : Ordering) → is_eq (ordering_then a b) ≡ (is_eq a && is_eq b)
+eq_then Less b = refl
+eq_then Equal b = refl
+eq_then Greater b = refl
+
+-- the order of instances compares as equal just those that are the same
+pub inst_at : (a b : Inst) → is_at (inst_cmp a) b ≡ same_inst a b
+inst_at a b =
+    eq_then (slice_cmp nat_cmp a.dep b.dep) (ordering_then (slice_cmp nat_cmp a.group b.group) (nat_cmp a.index b.index))
+    ∙ ap (λ (t : Bool). is_eq (slice_cmp nat_cmp a.dep b.dep) && t) (eq_then (slice_cmp nat_cmp a.group b.group) (nat_cmp a.index b.index))
+    ∙ (λ i. is_eq-slice_cmp a.dep b.dep i && (is_eq-slice_cmp a.group b.group i && nat_at a.index b.index i))

@@ -1,7 +1,10 @@
 pub mod AlikeLemmas
-pub mod FrameLemmas
+pub mod BegunLemmas
+pub mod FindLemmas
 pub mod KeptLemmas
 pub mod KeyLemmas
+pub mod LinkLemmas
+pub mod ListedLemmas
 pub mod TableLemmas
 pub mod UpdateBegunLemmas
 pub mod UploadLemmas

@@ -40,7 +40,8 @@ use Rattle.laws_stands.specs.Reading.{dep_of, task_of, work_of}
 use Rattle.laws_stands.specs.Stands.{AreSwept, IsWork, StandsIn, key_of_slot, key_place}
 use Rattle.laws_stands.specs.Told.{TellsWell, Told, idle_in, is_going, telling}
 use Rattle.laws_stands.specs.WorkStands.{StandsFor}
-use Rattle.laws_stands_on.proofs.FrameLemmas.{SameForTask, work_goes_on}
+use Rattle.laws_stands_on.proofs.LinkLemmas.{changed_work, links_go_on}
+use Rattle.laws_stands_on.proofs.ListedLemmas.{SameListed, listed_goes_on}
 use Rattle.laws_stands_on.proofs.TableLemmas.{nat_at, nat_keys, thing_changed}
 use Rattle.laws_stands_on.proofs.WorkLemmas.{after_update_begun}
 use Rattle.laws_stands_on.specs.Allows.{AllowsUpdate}
@@ -101,11 +102,15 @@ module _ (u : Update) (told : Told) (it : Recorded) (allows : AllowsUpdate told 
       swept_same n swept are_swept))
   own_work None is gone = λ later. going_same n ∙ gone later
 
-  same_for : (t : ℕ) → SameForTask told new (k.task t) t
-  same_for t = record {
-    idle = λ owner. refl;
-    orphans = λ d. refl;
-    slots = λ u s. refl;
+  same_for : (t : ℕ) (swept : List MachineName) → SameListed told new (k.task t) t swept
+  same_for t swept = record {
+    pings = λ j x is. refl;
+    obsolete = λ j x is. refl;
+    changed = λ j x is. refl;
+    disks = λ j d is. refl;
+    orphans = λ j d is. refl;
+    sweep = λ j name is. refl;
+    slots = λ j name is. refl;
     compiled = λ key. refl;
     worked = λ key. refl;
     machines = refl;
@@ -118,7 +123,7 @@ module _ (u : Update) (told : Told) (it : Recorded) (allows : AllowsUpdate told 
   other_work t other (Some work) (going, (swept, work_stands, are_swept)) =
       (going_same t ∙ going, (swept,
       subst (λ (it : Task). StandsFor new it t swept work) (sym (λ j. if other j then update_at Busy i (k.task n) else k.task t))
-      (work_goes_on told new (k.task t) t swept work (same_for t) work_stands),
+      (listed_goes_on told new (k.task t) t swept work (same_for t swept) work_stands),
       swept_same t swept are_swept))
   other_work t other None gone = λ later. going_same t ∙ gone later
 
@@ -128,47 +133,6 @@ module _ (u : Update) (told : Told) (it : Recorded) (allows : AllowsUpdate told 
       by : (b : Bool) → eqb n t ≡ b → IsWork new t (if b then option_map (λ work. work_specs.update_begun work (part_of it i).change) (work_of it t) else work_of it t)
       by true is = subst (λ t. IsWork new t (option_map (λ work. work_specs.update_begun work (part_of it i).change) (work_of it t))) (eqb-true n t is) (own_work (work_of it n) refl (stands.works n))
       by false is = other_work t is (work_of it t) (stands.works t)
-
-  -- what a work lists it listed before
-  record WasWork (t : ℕ) (w : Work) : Type 0 where
-    pub old : Work
-    pub is : work_of it t ≡ Some old
-    pub pings : w.pings.items ≡ old.pings.items
-    pub obsolete : w.obsolete.items ≡ old.obsolete.items
-    pub changed : w.changed ≡ old.changed
-    pub sweep : w.sweep.items ≡ old.sweep.items
-    pub disks : w.disks.items ≡ old.disks.items
-
-  was_work : (t : ℕ) (w : Work) → work_of (update_begun_in u it) t ≡ Some w → WasWork t w
-  was_work t w is = by (eqb n t) (work_of it t) refl (sym (work_is t) ∙ is)
-    where
-      by : (b : Bool) (o : Option Work) → work_of it t ≡ o → (if b then option_map (λ work. work_specs.update_begun work (part_of it i).change) (work_of it t) else work_of it t) ≡ Some w → WasWork t w
-      by true (Some old) there is =
-          let e : Some (work_specs.update_begun old (part_of it i).change) ≡ Some w = (λ j. option_map (λ work. work_specs.update_begun work (part_of it i).change) (sym there j)) ∙ is in
-          let same : work_specs.update_begun old (part_of it i).change ≡ w = cc in
-          record {
-            old = old;
-            is = there;
-            pings = ap (λ (w : Work). w.pings.items) (sym same);
-            obsolete = ap (λ (w : Work). w.obsolete.items) (sym same);
-            changed = ap (λ (w : Work). w.changed) (sym same);
-            sweep = ap (λ (w : Work). w.sweep.items) (sym same);
-            disks = ap (λ (w : Work). w.disks.items) (sym same);
-          }
-      by true None there is = absurd (let e : None ≡ Some w = (λ j. option_map (λ work. work_specs.update_begun work (part_of it i).change) (sym there j)) ∙ is in cc)
-      by false (Some old) there is =
-          let e : Some old ≡ Some w = sym there ∙ is in
-          let same : old ≡ w = cc in
-          record {
-            old = old;
-            is = there;
-            pings = ap (λ (w : Work). w.pings.items) (sym same);
-            obsolete = ap (λ (w : Work). w.obsolete.items) (sym same);
-            changed = ap (λ (w : Work). w.changed) (sym same);
-            sweep = ap (λ (w : Work). w.sweep.items) (sym same);
-            disks = ap (λ (w : Work). w.disks.items) (sym same);
-          }
-      by false None there is = absurd (let e : None ≡ Some w = sym there ∙ is in cc)
 
   -- no update is told to have failed
   updates_told : (t : ℕ) (x : Inst) → is_finished ((new.known.task t).upd x) ≡ (not (is_waiting ((new.known.task t).upd x)) && not (is_busy ((new.known.task t).upd x)))
@@ -205,14 +169,16 @@ module _ (u : Update) (told : Told) (it : Recorded) (allows : AllowsUpdate told 
         ∙ sym (task_same (λ (it : Task). if nat_le 1 t && nat_le t k.tasks then Some (row_by t it) else None) (λ it. refl) t);
     calls = stands.calls;
     works = works_stand;
-    linked = record {
-      wants = stands.linked.wants;
-      pings = λ t w x is dep. let was : WasWork t w = was_work t w is in stands.linked.pings t was.old x was.is dep ∙ ap (λ items. place_of same_inst x items) (sym was.pings);
-      leaving = λ t w x is dep. let was : WasWork t w = was_work t w is in stands.linked.leaving t was.old x was.is dep ∙ ap (λ items. place_of same_inst x items) (sym was.obsolete);
-      changes = λ t w x is dep. let was : WasWork t w = was_work t w is in stands.linked.changes t was.old x was.is dep ∙ ap (λ changed. change_place changed x) (sym was.changed);
-      sweeps = λ t w name machine is there dep. let was : WasWork t w = was_work t w is in stands.linked.sweeps t was.old name machine was.is there dep ∙ ap (λ items. place_of same_machine name items) (sym was.sweep);
-      deletions = λ t w d loose is there dep. let was : WasWork t w = was_work t w is in stands.linked.deletions t was.old d loose was.is there dep ∙ ap (λ items. place_of eqb d items) (sym was.disks);
-    };
+    linked = links_go_on it (update_begun_in u it) (record {
+      wants = λ x. refl;
+      goals = λ dep. refl;
+      parts = λ x. refl;
+      deps = λ t. refl;
+      works = changed_work it (update_begun_in u it) n (λ work. work_specs.update_begun work (part_of it i).change)
+          (λ w. record { pings = refl; obsolete = refl; changed = refl; sweep = refl; disks = refl }) work_is;
+      machines = λ name. refl;
+      orphans = λ d. refl;
+    }) stands.linked;
     tells_well = record {
       number = stands.tells_well.number;
       past = stands.tells_well.past;

@@ -7,11 +7,12 @@ use Rattle.bosh_base.specs.declared.stemcell.Stemcell.{Stemcell}
 use Rattle.bosh_history.specs.Known.{Known}
 use Rattle.bosh_records.specs.Arrivals.{Arrivals}
 use Rattle.bosh_records.specs.Recorded.{Recorded}
+use Rattle.bosh_work.specs.declared.part.MachineName.{MachineName}
 use Rattle.bosh_work.specs.declared.work.Work.{Work}
 use Rattle.laws_stands.specs.Reading.{work_of}
 use Rattle.laws_stands.specs.Stands.{IsWork, StandsIn, arrivals_of}
 use Rattle.laws_stands.specs.Told.{TellsWell, Told, telling}
-use Rattle.laws_stands_on.proofs.FrameLemmas.{SameForTask, work_goes_on}
+use Rattle.laws_stands_on.proofs.ListedLemmas.{SameListed, listed_goes_on}
 
 -- other uploads than those that are known
 abbrev uploaded : List Release → List Stemcell → Option (List ℕ) → Told → Told
@@ -21,11 +22,15 @@ module _ (releases : List Release) (stemcells : List Stemcell) (config : Option 
   abbrev new : Told
   new = uploaded releases stemcells config told
 
-  same : (t : ℕ) → SameForTask told new (told.known.task t) t
-  same t = record {
-    idle = λ owner. refl;
-    orphans = λ d. refl;
-    slots = λ u s. refl;
+  same : (t : ℕ) (swept : List MachineName) → SameListed told new (told.known.task t) t swept
+  same t swept = record {
+    pings = λ j x is. refl;
+    obsolete = λ j x is. refl;
+    changed = λ j x is. refl;
+    disks = λ j d is. refl;
+    orphans = λ j d is. refl;
+    sweep = λ j name is. refl;
+    slots = λ j name is. refl;
     compiled = λ key. refl;
     worked = λ key. refl;
     machines = refl;
@@ -35,7 +40,7 @@ module _ (releases : List Release) (stemcells : List Stemcell) (config : Option 
 
   work_stands : (t : ℕ) (o : Option Work) → IsWork told t o → IsWork new t o
   work_stands t (Some work) (going, (swept, work_is, are_swept)) =
-      (going, (swept, work_goes_on told new (told.known.task t) t swept work (same t) work_is, are_swept))
+      (going, (swept, listed_goes_on told new (told.known.task t) t swept work (same t swept) work_is, are_swept))
   work_stands t None gone = gone
 
   -- what came is what is known

@@ -78,7 +78,7 @@ idle_begun told b owner is =
     and_true a true = refl
     and_true a false = refl
 
-inst_flip : (i x : Inst) → same_inst x i ≡ same_inst i x
+pub inst_flip : (i x : Inst) → same_inst x i ≡ same_inst i x
 inst_flip i x = by (same_inst x i) (same_inst i x) refl refl
   where
     by : (a b : Bool) → same_inst x i ≡ a → same_inst i x ≡ b → same_inst x i ≡ same_inst i x
@@ -145,7 +145,7 @@ idle_ended told n b owner is one = by (same_owner owner b.owner) refl
 
 -- ---- how many calls of a task are open
 
-count_within : (p q : ℕ → Bool) (n : ℕ) → ((c : ℕ) → c ≤ n → p c ≡ q c) → count_by p (numbers_to n) ≡ count_by q (numbers_to n)
+pub count_within : (p q : ℕ → Bool) (n : ℕ) → ((c : ℕ) → c ≤ n → p c ≡ q c) → count_by p (numbers_to n) ≡ count_by q (numbers_to n)
 count_within p q zero same = refl
 count_within p q (suc n) same =
     sum_by_push (λ c. cond (p c) 1 0) (numbers_to n) (suc n)
