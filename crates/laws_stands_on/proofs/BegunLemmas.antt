@@ -87,10 +87,10 @@ takes_same w places = record {
 }
 
 -- a call that compiles nothing leaves the keys as they are
-compiles_itself : (vm : ℕ) (work : KeyWork) (deps : List Digest) → ((key : Key) → compiles key (CompilePackage vm work deps) ≡ false) → ⊥
+pub compiles_itself : (vm : ℕ) (work : KeyWork) (deps : List Digest) → ((key : Key) → compiles key (CompilePackage vm work deps) ≡ false) → ⊥
 compiles_itself vm work deps none = false≢true (sym (none work.key) ∙ (same_key_decides work.key work.key).1 refl)
 
-none_compiled : (call : Call) (o : Option ℕ) (it : Recorded) → ((key : Key) → compiles key call ≡ false) → with_compiling call o it ≡ it
+pub none_compiled : (call : Call) (o : Option ℕ) (it : Recorded) → ((key : Key) → compiles key call ≡ false) → with_compiling call o it ≡ it
 none_compiled (CompilePackage vm work deps) o it none = absurd (compiles_itself vm work deps none)
 none_compiled call o it none = refl
 

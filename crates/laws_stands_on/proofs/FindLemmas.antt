@@ -15,14 +15,14 @@ use Rattle.bosh_rows.specs.Same.{same_owner}
 use Rattle.laws_stands.specs.Stands.{call_of}
 use Rattle.laws_stands.specs.Told.{Told, is_idle}
 
-find_within : (p q : ℕ → Bool) (n : ℕ) → ((c : ℕ) → c ≤ n → p c ≡ q c) → find p (numbers_to n) ≡ find q (numbers_to n)
+pub find_within : (p q : ℕ → Bool) (n : ℕ) → ((c : ℕ) → c ≤ n → p c ≡ q c) → find p (numbers_to n) ≡ find q (numbers_to n)
 find_within p q zero same = refl
 find_within p q (suc n) same =
     find-append p (numbers_to n) (suc n ∷ [])
     ∙ (λ i. option_or (find_within p q n (λ c low. same c (omega arith)) i) (if same (suc n) (omega arith) i then Some (suc n) else None))
     ∙ sym (find-append q (numbers_to n) (suc n ∷ []))
 
-any_within : (p q : ℕ → Bool) (n : ℕ) → ((c : ℕ) → c ≤ n → p c ≡ q c) → list_any p (numbers_to n) ≡ list_any q (numbers_to n)
+pub any_within : (p q : ℕ → Bool) (n : ℕ) → ((c : ℕ) → c ≤ n → p c ≡ q c) → list_any p (numbers_to n) ≡ list_any q (numbers_to n)
 any_within p q zero same = refl
 any_within p q (suc n) same =
     list_any-append p (numbers_to n) (suc n ∷ [])

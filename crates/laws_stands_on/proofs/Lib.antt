@@ -1,5 +1,6 @@
 pub mod AlikeLemmas
 pub mod BegunLemmas
+pub mod EndedLemmas
 pub mod FindLemmas
 pub mod KeptLemmas
 pub mod KeyLemmas

@@ -8,7 +8,8 @@ use Rattle.std.specs.Ordering.{nat_cmp}
 use Rattle.std.specs.declared.cmp.Ordering.{Ordering}
 use Rattle.std.proofs.lemmas.Bool.{eqb-true, true≢false}
 use Rattle.std.proofs.lemmas.Bool.Decides.{nat_tests}
-use Rattle.bosh_records.specs.Table.{altered, changed, found, thing_in}
+use Rattle.bosh_records.specs.Table.{altered, changed, found, thing_in, without}
+use Rattle.laws_stands_on.specs.Once.{IsOnce}
 
 -- keys that compare as equal are one
 abbrev pub TellsKeys : {K : Type 0} → (K → K → Ordering) → Type 0
@@ -84,3 +85,37 @@ thing_changed cmp tells key change places k =
     by true (Some None) = refl
     by true None = refl
     by false o = refl
+
+-- no place for a key any more, where it stood once
+pub found_without : {K X : Type 0} (cmp : K → K → Ordering) (tells : TellsKeys cmp) (key : K) (es : List (K × X)) → IsOnce cmp es → (k : K)
+    → found cmp (without cmp key es) k ≡ (if is_at (cmp key) k then None else found cmp es k)
+found_without {K} {X} cmp tells key [] once k = by (is_at (cmp key) k) None refl
+  where
+    by : (b : Bool) (o : Option X) → o ≡ None → o ≡ (if b then None else o)
+    by true o is = is
+    by false o is = refl
+found_without {K} {X} cmp tells key (e ∷ es) (none, once) k = by (is_at (cmp key) e.0) (is_at (cmp k) e.0) (is_at (cmp key) k) refl refl refl (found_without cmp tells key es once k)
+  where
+    by : (a b c : Bool) → is_at (cmp key) e.0 ≡ a → is_at (cmp k) e.0 ≡ b → is_at (cmp key) k ≡ c
+        → found cmp (without cmp key es) k ≡ (if is_at (cmp key) k then None else found cmp es k)
+        → found cmp (cond (is_at (cmp key) e.0) es (e ∷ without cmp key es)) k ≡ (if is_at (cmp key) k then None else cond (is_at (cmp k) e.0) (Some e.1) (found cmp es k))
+    by true b true here at same more =
+        (λ i. found cmp (cond (here i) es (e ∷ without cmp key es)) k)
+        ∙ ap (found cmp es) (sym (tells key k same) ∙ tells key e.0 here) ∙ none
+        ∙ (λ i. if sym same i then None else cond (is_at (cmp k) e.0) (Some e.1) (found cmp es k))
+    by true true false here at other more =
+        absurd (true≢false (sym (ap (is_at (cmp key)) (tells k e.0 at) ∙ here) ∙ other))
+    by true false false here away other more =
+        (λ i. found cmp (cond (here i) es (e ∷ without cmp key es)) k)
+        ∙ (λ i. if sym other i then None else cond (sym away i) (Some e.1) (found cmp es k))
+    by false true true there at same more =
+        absurd (true≢false (sym same ∙ ap (is_at (cmp key)) (tells k e.0 at) ∙ there))
+    by false true false there at other more =
+        (λ i. found cmp (cond (there i) es (e ∷ without cmp key es)) k)
+        ∙ (λ i. cond (at i) (Some e.1) (found cmp (without cmp key es) k))
+        ∙ (λ i. if sym other i then None else cond (sym at i) (Some e.1) (found cmp es k))
+    by false false c there away same more =
+        (λ i. found cmp (cond (there i) es (e ∷ without cmp key es)) k)
+        ∙ (λ i. cond (away i) (Some e.1) (found cmp (without cmp key es) k))
+        ∙ more
+        ∙ (λ i. if is_at (cmp key) k then None else cond (sym away i) (Some e.1) (found cmp es k))

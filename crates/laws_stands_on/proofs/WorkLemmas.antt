@@ -323,7 +323,7 @@ compiled_rest : (call : Call) (answer : Answer) (k : Known) → ((key : Key) →
 compiled_rest (CompilePackage vm w deps) answer k none = absurd (compiles_itself vm w deps none)
 compiled_rest call answer k none = record { orphan = refl; slot = refl; machines = refl; digest = refl; last_call = refl }
 
-after_ping : (call : Call) (answer : Answer) (i : Inst) (t : Task)
+pub after_ping : (call : Call) (answer : Answer) (i : Inst) (t : Task)
     → task_after_ping call answer (Instance i) t ≡ record t { pinged = if asks call answer then at same_inst i true t.pinged else t.pinged }
 after_ping (Ping vm) answers.Failed i t = refl
 after_ping (Ping vm) answer i t = refl

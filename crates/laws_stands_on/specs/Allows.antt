@@ -1,18 +1,21 @@
 -- What an entry needs of what was told before it.
 use Rattle.std.specs.Prelude.{◌≡◌, ◌+◌, ◌<◌, ◌≤◌, ℕ, None, Some, eqb, false, is_some, true}
 use Rattle.std.specs.Ordering.{nat_cmp}
+use Rattle.bosh_base.specs.declared.answer.Answer.{Answer}
 use Rattle.bosh_base.specs.declared.call.Call.{Call}
+use Rattle.bosh_base.specs.declared.entry.Begin.{Begin}
 use Rattle.bosh_base.specs.declared.entry.Update.{Update}
 use Rattle.bosh_base.specs.declared.failure.Failure.{Failure}
 use Rattle.bosh_base.specs.declared.inst.Inst.{Inst}
 use Rattle.bosh_base.specs.declared.key.Key.{Key}
+use Rattle.bosh_base.specs.declared.owner.Owner.TheVariants.{Instance}
 use Rattle.bosh_history.specs.Calls.{number_of}
 use Rattle.bosh_history.specs.Steps.{compiles}
 use Rattle.bosh_history.specs.Words.{is_among}
 use Rattle.bosh_records.specs.Recorded.{Recorded}
 use Rattle.bosh_records.specs.Table.{found}
-use Rattle.bosh_rows.specs.After.{bare}
-use Rattle.bosh_rows.specs.Same.{same_inst}
+use Rattle.bosh_rows.specs.After.{after, bare}
+use Rattle.bosh_rows.specs.Same.{same_inst, same_owner}
 use Rattle.bosh_rows.specs.SoundSnapshot.{are_distinct}
 use Rattle.laws_stands.specs.Reading.{instance_of}
 use Rattle.laws_stands.specs.Told.{Told, idle_in, is_going}
@@ -53,3 +56,26 @@ pub record AllowsCall (told : Told) (n number : ℕ) (call : Call) (i : Inst) : 
 pub record HasPlaces (it : Recorded) (number : ℕ) (i : Inst) : Type 0 where
   pub instance : is_some (instance_of it i) ≡ true
   pub call : is_some (found nat_cmp it.calls number) ≡ true
+
+-- an open call of an instance may end: it is the only one of the instance, which is recorded, and no other open task lists
+-- it
+pub record AllowsEnd (told : Told) (begin : Begin) (answer : Answer) (i : Inst) : Type 0 where
+  pub low : 1 ≤ begin.n
+  pub is_open : told.calls begin.n ≡ Some begin
+  pub begun : told.known.begun begin.n ≡ Some begin
+  pub only : (c : ℕ) (d : Begin) → told.calls c ≡ Some d → same_owner d.owner (Instance i) ≡ true → c ≡ begin.n
+  pub dep : (told.known.task begin.task).dep ≡ Some i.dep
+  pub changed_apart : are_distinct same_inst (told.known.task begin.task).changed ≡ true
+  pub pings_apart : are_distinct same_inst (told.known.task begin.task).to_ping ≡ true
+  pub obsolete_apart : are_distinct same_inst (told.known.task begin.task).obsolete ≡ true
+  pub compiles_none : (key : Key) → compiles key begin.call ≡ false
+  pub recorded : is_among same_inst i told.known.instances ≡ true
+  pub own_row : (after begin.n begin.call answer (told.known.row i)).inst ≡ i
+  pub failed_begun : (failure : Failure) → (told.known.task begin.task).failed ≡ Some failure →
+      is_some (told.known.begun (number_of failure)) ≡ true
+  pub not_asked : (t : ℕ) → eqb begin.task t ≡ false → is_going told.known t ≡ true →
+      is_among same_inst i (told.known.task t).to_ping ≡ false
+  pub not_leaving : (t : ℕ) → eqb begin.task t ≡ false → is_going told.known t ≡ true →
+      is_among same_inst i (told.known.task t).obsolete ≡ false
+  pub not_changing : (t : ℕ) → eqb begin.task t ≡ false → is_going told.known t ≡ true →
+      is_among same_inst i (told.known.task t).changed ≡ false

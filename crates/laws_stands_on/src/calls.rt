@@ -1,19 +1,24 @@
 //! Calls of instances.
 ghost use Rattle.std.specs.Prelude.{ℕ};
 ghost use Rattle.std.specs.Option.{unwrap_or};
+ghost use Rattle.std.specs.Ordering.{nat_cmp};
+ghost use Rattle.bosh_base.specs.declared.answer.Answer.{Answer};
 ghost use Rattle.bosh_base.specs.declared.call.Call.{Call};
 ghost use Rattle.bosh_base.specs.declared.entry.Entry.TheVariants as entries;
 ghost use Rattle.bosh_base.specs.declared.inst.Inst.{Inst};
 ghost use Rattle.bosh_base.specs.declared.owner.Owner.TheVariants.{Instance};
 ghost use Rattle.bosh_fold.specs.Learned.{learned};
 ghost use Rattle.bosh_fold.specs.declared.change.Change.TheVariants as changes;
+ghost use Rattle.bosh_plan.specs.Ended.{ended_of};
 ghost use Rattle.bosh_plan.specs.declared.beginning.Subject.TheVariants as subjects;
 ghost use Rattle.bosh_records.specs.Recorded.{Recorded};
+ghost use Rattle.bosh_records.specs.declared.records.Records.{Records};
 ghost use Rattle.bosh_rows.specs.After.{bare, begun_row};
 ghost use Rattle.laws_stands.specs.Reading.{row_of};
-ghost use Rattle.laws_stands.specs.Stands.{StandsIn};
+ghost use Rattle.laws_stands.specs.Stands.{Stands, StandsIn};
 ghost use Rattle.laws_stands.specs.Told.{Told, telling};
-ghost use Rattle.laws_stands_on.specs.Allows.{AllowsCall, HasPlaces};
+ghost use Rattle.laws_stands_on.specs.Allows.{AllowsCall, AllowsEnd, HasPlaces};
+ghost use Rattle.laws_stands_on.specs.Once.{IsOnce};
 
 /// It stands after a call of an instance began that may begin, where there is a place for the call and one for what is said
 /// of the instance.
@@ -26,4 +31,13 @@ pub fn what_is_recorded_stands_after_a_call_begins()
           begin = record { n = number; task = n; worker = worker; owner = Instance i; call = call };
           subject = subjects.Instance (begun_row number call (unwrap_or (row_of it i) (bare i)));
         })) it) }
+{}
+
+/// .. and after it ended, as it was planned, where no call stands twice.
+pub fn what_is_recorded_stands_after_a_call_ends()
+    ensures { (told : Told) (was : Records) (it : Recorded) (n number worker : ℕ) (call : Call) (answer : Answer) (i : Inst)
+        → AllowsEnd told (record { n = number; task = n; worker = worker; owner = Instance i; call = call }) answer i
+        → IsOnce nat_cmp it.calls → Stands told was → StandsIn told it
+        → StandsIn (telling told (entries.End (record { n = number; answer = answer })))
+        (learned (entries.End (record { n = number; answer = answer })) (changes.Ended (ended_of was (record { n = number; answer = answer }))) it) }
 {}
