@@ -14,7 +14,8 @@ ghost use Rattle.laws_stands.specs.Told.{Told};
 /// Where the records stand for what is told, and that agrees with a moment at which the facts on what is known hold, what is
 /// chosen for a task that was opened after the last stop is what is to be claimed, as long as calls have numbers.
 pub fn the_choice_is_the_claim()
-    ensures { (m : Moment) (told : Told) (records : Records) (t worker : ℕ) → Stands told records → Agrees m told → KnownFacts m
+    ensures { (m : Moment) (told : Told) (records : Records) (t worker : ℕ) → Stands told records → Agrees m told
+        → KnownFacts m
         → m.stopped < t → t ≤ m.known.tasks → m.known.last_call < 18446744073709551615
         → claimed_of (choice_of records t worker) ≡ claim_at m t worker }
 {}

@@ -1,11 +1,12 @@
 -- The first answer among those of a list, and what a claim is by it.
-use Rattle.std.proofs.Common.{◌≡◌, ◌∙◌, ℕ, zero, suc, Bool, true, false, ◌&&◌, not, List, [], ◌∷◌, ◌++◌, map, filter, Option, Some, None, ap, refl, sym}
+use Rattle.std.proofs.Common.{◌≡◌, ◌∙◌, ℕ, suc, Bool, true, false, List, [], ◌∷◌, ◌++◌, map}
+use Rattle.std.proofs.Common.{filter, Option, Some, None, ap, refl}
 use Rattle.std.specs.Prelude.{find, is_some, slice_get, if◌then◌else◌}
 use Rattle.std.specs.Option.{option_and_then, option_or}
 use Rattle.std.proofs.lemmas.Bool.{false≢true}
 use Rattle.bosh_base.specs.declared.entry.Entry.{Entry}
 use Rattle.bosh_base.specs.declared.owner.Owner.{Owner}
-use Rattle.bosh_history.specs.Claim.{Claimed, Noted, Over, Waits, by_items, first_item, is_passed, item, or_next}
+use Rattle.bosh_history.specs.Claim.{Claimed, Noted, Waits, by_items, first_item, is_passed, item, or_next}
 use Rattle.bosh_history.specs.Moments.{Moment}
 use Rattle.bosh_history.specs.Steps.{call_now}
 
@@ -21,7 +22,8 @@ or_assoc None b c = refl
 pub answers_append : {A B : Type 0} (f : A → Option B) (xs ys : List A)
     → first_answer f (xs ++ ys) ≡ option_or (first_answer f xs) (first_answer f ys)
 answers_append f [] ys = refl
-answers_append f (x ∷ xs) ys = ap (option_or (f x)) (answers_append f xs ys) ∙ or_assoc (f x) (first_answer f xs) (first_answer f ys)
+answers_append f (x ∷ xs) ys = ap (option_or (f x)) (answers_append f xs ys) ∙ or_assoc (f x) (first_answer f xs)
+    (first_answer f ys)
 
 pub answers_map : {X A B : Type 0} (f : A → Option B) (g : X → A) (xs : List X)
     → first_answer f (map g xs) ≡ first_answer (λ x. f (g x)) xs
@@ -82,7 +84,8 @@ module _ (m : Moment) (n worker : ℕ) where
 
   pub first_item_is : (owners : List Owner) → first_item m n worker owners ≡ told_of (first_answer gives owners)
   first_item_is [] = refl
-  first_item_is (owner ∷ owners) = by (is_passed m n owner) (item m n worker owner (call_now m n owner)) (first_item_is owners)
+  first_item_is (owner ∷ owners) = by (is_passed m n owner) (item m n worker owner (call_now m n owner))
+      (first_item_is owners)
     where
       by : (b : Bool) (o : Option Entry) → first_item m n worker owners ≡ told_of (first_answer gives owners)
           → (if b then first_item m n worker owners else or_next (first_item m n worker owners) o)
@@ -91,6 +94,7 @@ module _ (m : Moment) (n worker : ℕ) where
       by false (Some entry) more = refl
       by false None more = more
 
-  pub by_items_is : (owners : List Owner) → (owners ≡ [] → ⊥) → by_items m n worker owners ≡ told_of (first_answer gives owners)
+  pub by_items_is : (owners : List Owner) → (owners ≡ [] → ⊥) → by_items m n worker owners
+      ≡ told_of (first_answer gives owners)
   by_items_is [] some = absurd (some refl)
   by_items_is (owner ∷ owners) some = first_item_is (owner ∷ owners)

@@ -1,11 +1,11 @@
 -- The groups that stand for a task, and whose turn it is.
-use Rattle.std.proofs.Common.{◌≡◌, ◌∙◌, ℕ, ◌+◌, ◌≤◌, zero, suc, Bool, true, false, ◌&&◌, ◌||◌, not, List, [], ◌∷◌, map, take, filter, Option, Some, None, ap, refl, sym, subst, arith, inl, inr}
-use Rattle.std.specs.Prelude.{◌⊎◌, ◌==◌, find, is_some, nat_lt, slice_get, slice_index_or, if◌then◌else◌}
-use Rattle.std.specs.List.{enumerate_from, list_all, list_any}
+use Rattle.std.proofs.Common.{◌≡◌, ◌∙◌, ℕ, ◌+◌, ◌≤◌, zero, suc, Bool, true, false, ◌&&◌, ◌||◌, not, List, [], ◌∷◌}
+use Rattle.std.proofs.Common.{map, take, Option, Some, None, ap, refl, sym, subst, arith, inl, inr}
+use Rattle.std.specs.Prelude.{◌⊎◌, ◌==◌, find, is_some, nat_lt, slice_get, slice_index_or}
+use Rattle.std.specs.List.{enumerate_from, list_all}
 use Rattle.std.specs.Option.{option_and_then, option_map}
 use Rattle.std.specs.Str.{bytes_eq}
-use Rattle.std.proofs.lemmas.Bool.{and_from, and_parts, eq-eqb, eqb-true, false≢true, not-true, or_cases, or_left, or_parts, or_right}
-use Rattle.std.proofs.lemmas.Bool.Decides.{nat_tests}
+use Rattle.std.proofs.lemmas.Bool.{and_from, and_parts, eq-eqb, eqb-true, false≢true}
 use Rattle.std.proofs.lemmas.Option.{slice_get-map}
 use Rattle.std.proofs.lemmas.Slice.Eq.{bytes_eq-Decides}
 use Rattle.bosh_base.specs.declared.inst.Inst.{Inst}
@@ -13,224 +13,23 @@ use Rattle.bosh_history.specs.Goals.{canaries_of, changed_in, in_flight, is_wait
 use Rattle.bosh_history.specs.Items.{is_finished, stage_of}
 use Rattle.bosh_history.specs.Known.{Task, plan_in}
 use Rattle.bosh_history.specs.Words.{is_among}
-use Rattle.bosh_rows.specs.SoundSnapshot.{are_distinct}
-use Rattle.bosh_progress.specs.Rolling.{are_past, is_allowed, is_none_below}
+use Rattle.bosh_progress.specs.Rolling.{are_past, is_allowed}
 use Rattle.bosh_progress.specs.Tree.{first_marked, marked_in}
 use Rattle.bosh_roll.specs.Upd.{is_busy}
 use Rattle.bosh_roll.specs.declared.upd.Upd.{Upd}
 use Rattle.bosh_roll.specs.declared.upd.Upd.TheVariants.{Busy, Failed, Finished, Todo}
 use Rattle.bosh_rows.specs.Same.{same_inst}
-use Rattle.bosh_rows.proofs.SameLemmas.{itself, same_inst_decides}
+use Rattle.bosh_rows.proofs.SameLemmas.{itself}
 use Rattle.bosh_work.specs.declared.part.GroupPlace.{GroupPlace}
 use Rattle.bosh_work.specs.declared.groups.GroupWork.{GroupWork}
-use Rattle.laws_stands.specs.GroupsStand.{CanUpdate, EachStands, GroupStands, GroupsStand, is_ready, names_of, once, members, numbered}
+use Rattle.laws_stands.specs.GroupsStand.{CanUpdate, EachStands, GroupStands, GroupsStand, is_ready, names_of}
+use Rattle.laws_stands.specs.GroupsStand.{members}
 use Rattle.bosh_claim.specs.Updated.{first_place}
-use Rattle.laws_stands.proofs.FirstLemmas.{Among, CanClaim, HasPlaces, HaveAll, IsFirst, IsFirstPlace, IsHere, among_in, among_out, first_among, first_marked_is, same_first}
+use Rattle.laws_stands.proofs.FirstLemmas.{Among, CanClaim, HasPlaces, HaveAll, IsFirst, IsFirstPlace, IsHere}
+use Rattle.laws_stands.proofs.FirstLemmas.{among_in, among_out, first_among, first_marked_is, same_first}
 use Rattle.laws_stands.proofs.MarkLemmas.{at_place, found, is_there, marked_as}
-
-pub bytes_same : (a : List ℕ) → bytes_eq a a ≡ true
-bytes_same a = (bytes_eq-Decides a a).1 refl
-
-pub bytes_is : (a b : List ℕ) → bytes_eq a b ≡ true → a ≡ b
-bytes_is a b is = (bytes_eq-Decides a b).0 is
-
-pub inst_is : (a b : Inst) → same_inst a b ≡ true → a ≡ b
-inst_is a b is = (same_inst_decides a b).0 is
-
--- ---- members, and their places
-
-pub member_out : {A : Type 0} (p : A → Bool) (k : ℕ) (xs : List A) (j : ℕ) (e : ℕ × A) → slice_get (filter (λ e. p e.1) (numbered k xs)) j ≡ Some e
-    → (n : ℕ) × (e.0 ≡ k + n) × (slice_get xs n ≡ Some e.1) × (p e.1 ≡ true)
-member_out p k [] j e is = absurd cc
-member_out p k (x ∷ xs) j e is = by (p x) refl j is (λ j is. member_out p (suc k) xs j e is)
-  where
-    further : (n : ℕ) × (e.0 ≡ suc k + n) × (slice_get xs n ≡ Some e.1) × (p e.1 ≡ true) → (n : ℕ) × (e.0 ≡ k + n) × (slice_get (x ∷ xs) n ≡ Some e.1) × (p e.1 ≡ true)
-    further r = (suc r.0, r.1 ∙ omega arith, r.2, r.3)
-
-    by : (b : Bool) → p x ≡ b → (j : ℕ) → slice_get (if b then (k, x) ∷ filter (λ e. p e.1) (numbered (suc k) xs) else filter (λ e. p e.1) (numbered (suc k) xs)) j ≡ Some e
-        → ((j : ℕ) → slice_get (filter (λ e. p e.1) (numbered (suc k) xs)) j ≡ Some e → (n : ℕ) × (e.0 ≡ suc k + n) × (slice_get xs n ≡ Some e.1) × (p e.1 ≡ true))
-        → (n : ℕ) × (e.0 ≡ k + n) × (slice_get (x ∷ xs) n ≡ Some e.1) × (p e.1 ≡ true)
-    by true passes zero is more = let here : (k, x) ≡ e = cc in (0, ap (λ e. e.0) (sym here) ∙ omega arith, ap (λ e. Some e.1) here, ap (λ e. p e.1) (sym here) ∙ passes)
-    by true passes (suc j) is more = further (more j is)
-    by false passes j is more = further (more j is)
-
-pub member_in : {A : Type 0} (p : A → Bool) (k : ℕ) (xs : List A) (n m : ℕ) (x : A) → m ≡ k + n → slice_get xs n ≡ Some x → p x ≡ true
-    → (j : ℕ) × (slice_get (filter (λ e. p e.1) (numbered k xs)) j ≡ Some (m, x))
-member_in p k [] n m x at is passes = absurd cc
-member_in p k (y ∷ xs) zero m x at is passes =
-    let here : y ≡ x = cc in
-    let e : (k, y) ≡ (m, x) = (λ i. (omega-is i, here i)) in
-    (0, (λ i. slice_get (if (ap p here ∙ passes) i then (k, y) ∷ filter (λ e. p e.1) (numbered (suc k) xs) else filter (λ e. p e.1) (numbered (suc k) xs)) 0) ∙ ap Some e)
-  where
-    omega-is : k ≡ m
-    omega-is = omega arith
-member_in p k (y ∷ xs) (suc n) m x at is passes = by (p y) (member_in p (suc k) xs n m x (at ∙ omega arith) is passes)
-  where
-    by : (b : Bool) → (j : ℕ) × (slice_get (filter (λ e. p e.1) (numbered (suc k) xs)) j ≡ Some (m, x))
-        → (j : ℕ) × (slice_get (if b then (k, y) ∷ filter (λ e. p e.1) (numbered (suc k) xs) else filter (λ e. p e.1) (numbered (suc k) xs)) j ≡ Some (m, x))
-    by true r = (suc r.0, r.1)
-    by false r = r
-
-pub members_rise : {A : Type 0} (p : A → Bool) (k : ℕ) (xs : List A) (i j : ℕ) (d e : ℕ × A) → i ≤ j
-    → slice_get (filter (λ e. p e.1) (numbered k xs)) i ≡ Some d → slice_get (filter (λ e. p e.1) (numbered k xs)) j ≡ Some e → d.0 ≤ e.0
-members_rise p k [] i j d e low is there = absurd cc
-members_rise p k (x ∷ xs) i j d e low is there = by (p x) refl i j low is there (λ i j low is there. members_rise p (suc k) xs i j d e low is there)
-  where
-    by : (b : Bool) → p x ≡ b → (i j : ℕ) → i ≤ j
-        → slice_get (if b then (k, x) ∷ filter (λ e. p e.1) (numbered (suc k) xs) else filter (λ e. p e.1) (numbered (suc k) xs)) i ≡ Some d
-        → slice_get (if b then (k, x) ∷ filter (λ e. p e.1) (numbered (suc k) xs) else filter (λ e. p e.1) (numbered (suc k) xs)) j ≡ Some e
-        → ((i j : ℕ) → i ≤ j → slice_get (filter (λ e. p e.1) (numbered (suc k) xs)) i ≡ Some d → slice_get (filter (λ e. p e.1) (numbered (suc k) xs)) j ≡ Some e → d.0 ≤ e.0)
-        → d.0 ≤ e.0
-    by true passes zero zero low is there more = let same : d ≡ e = cc in let n : d.0 ≡ e.0 = ap (λ e. e.0) same in omega arith
-    by true passes zero (suc j) low is there more =
-        let here : (k, x) ≡ d = cc in let n : k ≡ d.0 = ap (λ e. e.0) here in
-        let r : (n : ℕ) × (e.0 ≡ suc k + n) × (slice_get xs n ≡ Some e.1) × (p e.1 ≡ true) = member_out p (suc k) xs j e there in
-        let m : e.0 ≡ suc k + r.0 = r.1 in omega arith
-    by true passes (suc i) zero low is there more = absurd (omega arith)
-    by true passes (suc i) (suc j) low is there more = more i j (omega arith) is there
-    by false passes i j low is there more = more i j low is there
-
-pub members_are : {A : Type 0} (p : A → Bool) (k : ℕ) (xs : List A) → map (λ e. e.1) (filter (λ e. p e.1) (numbered k xs)) ≡ filter p xs
-members_are p k [] = refl
-members_are p k (x ∷ xs) = by (p x) (members_are p (suc k) xs)
-  where
-    by : (b : Bool) → map (λ e. e.1) (filter (λ e. p e.1) (numbered (suc k) xs)) ≡ filter p xs
-        → map (λ e. e.1) (if b then (k, x) ∷ filter (λ e. p e.1) (numbered (suc k) xs) else filter (λ e. p e.1) (numbered (suc k) xs)) ≡ (if b then x ∷ filter p xs else filter p xs)
-    by true more = ap (λ rest. x ∷ rest) more
-    by false more = more
-
--- ---- canaries
-
-past_as : {A : Type 0} (f : A → Bool) (c : ℕ) (xs : List A) → are_past c (map f xs) ≡ not (list_any f (take c xs))
-past_as f zero [] = refl
-past_as f (suc c) [] = refl
-past_as f zero (x ∷ xs) = none (first_marked (map f (x ∷ xs)))
-  where
-    none : (k : Option ℕ) → is_none_below 0 k ≡ true
-    none (Some k) = grind (arith, nat_tests)
-    none None = refl
-past_as f (suc c) (x ∷ xs) = by (f x) (past_as f c xs)
-  where
-    later : (k : Option ℕ) → is_none_below (suc c) (option_map suc k) ≡ is_none_below c k
-    later (Some k) = grind (arith, nat_tests)
-    later None = refl
-
-    by : (b : Bool) → are_past c (map f xs) ≡ not (list_any f (take c xs)) → is_none_below (suc c) (first_marked (b ∷ map f xs)) ≡ not (b || list_any f (take c xs))
-    by true more = grind (arith, nat_tests)
-    by false more = later (first_marked (map f xs)) ∙ more
-
-pub quiet_as : {A : Type 0} (f g h : A → Bool) (xs : List A) → ((x : A) → f x ≡ (not (g x) && not (h x))) → list_all f xs ≡ (not (list_any g xs) && not (list_any h xs))
-quiet_as f g h [] is = refl
-quiet_as f g h (x ∷ xs) is = (λ i. is x i && quiet_as f g h xs is i) ∙ four (g x) (h x) (list_any g xs) (list_any h xs)
-  where
-    four : (a b c d : Bool) → ((not a && not b) && (not c && not d)) ≡ (not (a || c) && not (b || d))
-    four true b c d = refl
-    four false true true d = refl
-    four false true false d = refl
-    four false false c d = refl
-
-not_same : (same : Inst → Inst → Bool) (i y : Inst) (ys : List Inst) (j : ℕ) → ((a b : Inst) → same a b ≡ true → a ≡ b) → ((a : Inst) → same a a ≡ true)
-    → is_among same y ys ≡ false → slice_get ys j ≡ Some i → same i y ≡ false
-not_same same i y [] j decides refls none there = absurd cc
-not_same same i y (z ∷ ys) zero decides refls none there =
-    let here : z ≡ i = cc in
-    let other : same y z ≡ false = (or_parts (same y z) (is_among same y ys) none).0 in
-    by (same i y) refl (ap (same y) (sym here) ∙ other)
-  where
-    by : (b : Bool) → same i y ≡ b → same y i ≡ false → same i y ≡ false
-    by true is other = absurd (let e : i ≡ y = decides i y is in false≢true (sym other ∙ (λ k. same y (e k)) ∙ refls y))
-    by false is other = is
-not_same same i y (z ∷ ys) (suc j) decides refls none there = not_same same i y ys j decides refls (or_parts (same y z) (is_among same y ys) none).1 there
-
-among_first : (same : Inst → Inst → Bool) (xs : List Inst) (c j : ℕ) (i : Inst) → ((a b : Inst) → same a b ≡ true → a ≡ b) → ((a : Inst) → same a a ≡ true)
-    → are_distinct same xs ≡ true → slice_get xs j ≡ Some i → is_among same i (take c xs) ≡ nat_lt j c
-among_first same [] c j i decides refls apart there = absurd cc
-among_first same (y ∷ ys) zero j i decides refls apart there = grind (arith, nat_tests)
-among_first same (y ∷ ys) (suc c) zero i decides refls apart there =
-    let here : y ≡ i = cc in ap (λ b. b || is_among same i (take c ys)) (ap (same i) here ∙ refls i) ∙ grind (arith, nat_tests)
-among_first same (y ∷ ys) (suc c) (suc j) i decides refls apart there =
-    let parts : (not (is_among same y ys) ≡ true) × (are_distinct same ys ≡ true) = and_parts (not (is_among same y ys)) (are_distinct same ys) apart in
-    let other : same i y ≡ false = not_same same i y ys j decides refls (not-true (is_among same y ys) parts.0) there in
-    ap (λ b. b || is_among same i (take c ys)) other ∙ among_first same ys c j i decides refls parts.1 there ∙ grind (arith, nat_tests)
-
-none_filtered : {A : Type 0} (q p : A → Bool) (xs : List A) → list_any q xs ≡ false → list_any q (filter p xs) ≡ false
-none_filtered q p [] none = refl
-none_filtered q p (x ∷ xs) none = let parts : (q x ≡ false) × (list_any q xs ≡ false) = or_parts (q x) (list_any q xs) none in by (p x) parts.0 (none_filtered q p xs parts.1)
-  where
-    by : (b : Bool) → q x ≡ false → list_any q (filter p xs) ≡ false → list_any q (if b then x ∷ filter p xs else filter p xs) ≡ false
-    by true here more = λ i. here i || more i
-    by false here more = more
-
-pub apart_filtered : {A : Type 0} (same : A → A → Bool) (p : A → Bool) (xs : List A) → are_distinct same xs ≡ true → are_distinct same (filter p xs) ≡ true
-apart_filtered same p [] apart = refl
-apart_filtered same p (x ∷ xs) apart =
-    let parts : (not (is_among same x xs) ≡ true) × (are_distinct same xs ≡ true) = and_parts (not (is_among same x xs)) (are_distinct same xs) apart in
-    by (p x) (not-true (is_among same x xs) parts.0) (apart_filtered same p xs parts.1)
-  where
-    by : (b : Bool) → is_among same x xs ≡ false → are_distinct same (filter p xs) ≡ true → are_distinct same (if b then x ∷ filter p xs else filter p xs) ≡ true
-    by true none more = λ i. not (none_filtered (same x) p xs none i) && more i
-    by false none more = more
-
--- ---- items of a list
-
-pub among_from : (i : Inst) (xs : List Inst) (q : ℕ) → slice_get xs q ≡ Some i → is_among same_inst i xs ≡ true
-among_from i [] q is = absurd cc
-among_from i (x ∷ xs) zero is = let e : x ≡ i = cc in or_left (same_inst i x) (is_among same_inst i xs) (ap (same_inst i) e ∙ itself i)
-among_from i (x ∷ xs) (suc q) is = or_right (same_inst i x) (is_among same_inst i xs) (among_from i xs q is)
-
-pub all_at : (p : Inst → Bool) (xs : List Inst) (q : ℕ) (i : Inst) → list_all p xs ≡ true → slice_get xs q ≡ Some i → p i ≡ true
-all_at p [] q i all is = absurd cc
-all_at p (x ∷ xs) zero i all is = let e : x ≡ i = cc in ap p (sym e) ∙ (and_parts (p x) (list_all p xs) all).0
-all_at p (x ∷ xs) (suc q) i all is = all_at p xs q i (and_parts (p x) (list_all p xs) all).1 is
-
--- ---- the names of groups
-
-none_same : (name : List ℕ) (names : List (List ℕ)) → is_among bytes_eq name (filter (λ it. not (bytes_eq name it)) names) ≡ false
-none_same name [] = refl
-none_same name (it ∷ names) = by (bytes_eq name it) refl (none_same name names)
-  where
-    by : (b : Bool) → bytes_eq name it ≡ b → is_among bytes_eq name (filter (λ it. not (bytes_eq name it)) names) ≡ false
-        → is_among bytes_eq name (if not b then it ∷ filter (λ it. not (bytes_eq name it)) names else filter (λ it. not (bytes_eq name it)) names) ≡ false
-    by true is more = more
-    by false is more = λ j. is j || more j
-
-pub once_apart : (names : List (List ℕ)) → are_distinct bytes_eq (once names) ≡ true
-once_apart [] = refl
-once_apart (name ∷ names) =
-    and_from (not (is_among bytes_eq name (filter (λ it. not (bytes_eq name it)) (once names)))) (are_distinct bytes_eq (filter (λ it. not (bytes_eq name it)) (once names)))
-    (ap not (none_same name (once names))) (apart_filtered bytes_eq (λ it. not (bytes_eq name it)) (once names) (once_apart names))
-
-still_there : (name other : List ℕ) (names : List (List ℕ)) → bytes_eq name other ≡ false → is_among bytes_eq name names ≡ true
-    → is_among bytes_eq name (filter (λ it. not (bytes_eq other it)) names) ≡ true
-still_there name other [] differs is = absurd (false≢true is)
-still_there name other (it ∷ names) differs is = by (bytes_eq other it) (bytes_eq name it) refl refl is (λ is. still_there name other names differs is)
-  where
-    by : (a b : Bool) → bytes_eq other it ≡ a → bytes_eq name it ≡ b → (b || is_among bytes_eq name names) ≡ true
-        → (is_among bytes_eq name names ≡ true → is_among bytes_eq name (filter (λ it. not (bytes_eq other it)) names) ≡ true)
-        → is_among bytes_eq name (if not a then it ∷ filter (λ it. not (bytes_eq other it)) names else filter (λ it. not (bytes_eq other it)) names) ≡ true
-    by true true e f is more = absurd (false≢true (sym differs ∙ ap (bytes_eq name) (bytes_is other it e) ∙ f))
-    by true false e f is more = more is
-    by false b e f is more = elim (or_cases (bytes_eq name it) (is_among bytes_eq name names) (ap (λ t. t || is_among bytes_eq name names) f ∙ is)) [
-      | inl here ↦ or_left (bytes_eq name it) (is_among bytes_eq name (filter (λ it. not (bytes_eq other it)) names)) here
-      | inr rest ↦ or_right (bytes_eq name it) (is_among bytes_eq name (filter (λ it. not (bytes_eq other it)) names)) (more rest)
-    ]
-
-once_has : (name : List ℕ) (names : List (List ℕ)) → is_among bytes_eq name names ≡ true → is_among bytes_eq name (once names) ≡ true
-once_has name [] is = is
-once_has name (other ∷ names) is = by (bytes_eq name other) refl is (λ is. once_has name names is)
-  where
-    by : (b : Bool) → bytes_eq name other ≡ b → (b || is_among bytes_eq name names) ≡ true → (is_among bytes_eq name names ≡ true → is_among bytes_eq name (once names) ≡ true)
-        → (bytes_eq name other || is_among bytes_eq name (filter (λ it. not (bytes_eq other it)) (once names))) ≡ true
-    by true e is more = or_left (bytes_eq name other) (is_among bytes_eq name (filter (λ it. not (bytes_eq other it)) (once names))) e
-    by false e is more = or_right (bytes_eq name other) (is_among bytes_eq name (filter (λ it. not (bytes_eq other it)) (once names))) (still_there name other (once names) e (more is))
-
-pub named_at : (changed : List Inst) (q : ℕ) (i : Inst) → slice_get changed q ≡ Some i → is_among bytes_eq i.group (names_of changed) ≡ true
-named_at changed q i is = once_has i.group (map (λ i. i.group) changed) (listed changed q is)
-  where
-    listed : (xs : List Inst) (q : ℕ) → slice_get xs q ≡ Some i → is_among bytes_eq i.group (map (λ i. i.group) xs) ≡ true
-    listed [] q is = absurd cc
-    listed (x ∷ xs) zero is = let e : x ≡ i = cc in or_left (bytes_eq i.group x.group) (is_among bytes_eq i.group (map (λ i. i.group) xs)) (ap (λ y. bytes_eq i.group y.group) e ∙ bytes_same i.group)
-    listed (x ∷ xs) (suc q) is = or_right (bytes_eq i.group x.group) (is_among bytes_eq i.group (map (λ i. i.group) xs)) (listed xs q is)
+use Rattle.laws_stands.proofs.MemberLemmas.{among_first, among_from, apart_filtered, bytes_is, inst_is, member_in}
+use Rattle.laws_stands.proofs.MemberLemmas.{member_out, members_are, members_rise, named_at, past_as, quiet_as}
 
 -- ---- one group
 
@@ -242,43 +41,60 @@ module _ (t : Task) (idle : Inst → Bool) (can : CanUpdate t idle) where
     pub among_changed : slice_get t.changed q ≡ Some i
     pub group_is : i.group ≡ group
 
-  by_entry : (group : List ℕ) (j q : ℕ) (e : ℕ × Inst) → q ≡ e.0 → slice_get (members t group) j ≡ Some e → IsMember group j q e.1
+  by_entry : (group : List ℕ) (j q : ℕ) (e : ℕ × Inst) → q ≡ e.0 → slice_get (members t group) j ≡ Some e
+      → IsMember group j q e.1
   by_entry group j q e n is =
-      let r : (n : ℕ) × (e.0 ≡ 0 + n) × (slice_get t.changed n ≡ Some e.1) × (bytes_eq e.1.group group ≡ true) = member_out (λ i. bytes_eq i.group group) 0 t.changed j e is in
+      let r : (n : ℕ) × (e.0 ≡ 0 + n) × (slice_get t.changed n ≡ Some e.1) × (bytes_eq e.1.group group ≡ true) =
+      member_out (λ i. bytes_eq i.group group) 0 t.changed j e is in
       let m : r.0 ≡ q = (let a : e.0 ≡ 0 + r.0 = r.1 in omega arith) in
       record {
         place = slice_get-map (λ e. e.0) (members t group) j ∙ ap (option_map (λ e. e.0)) is ∙ ap Some (sym n);
-        item = ap (λ is. slice_get is j) (sym (members_are (λ i. bytes_eq i.group group) 0 t.changed)) ∙ slice_get-map (λ e. e.1) (members t group) j ∙ ap (option_map (λ e. e.1)) is;
+        item = ap (λ is. slice_get is j) (sym (members_are (λ i. bytes_eq i.group group) 0 t.changed))
+            ∙ slice_get-map (λ e. e.1) (members t group) j ∙ ap (option_map (λ e. e.1)) is;
         among_changed = ap (slice_get t.changed) (sym m) ∙ r.2;
         group_is = bytes_is e.1.group group r.3;
       }
 
-  pub by_place : (group : List ℕ) (j q : ℕ) → slice_get (map (λ e. e.0) (members t group)) j ≡ Some q → (i : Inst) × IsMember group j q i
-  by_place group j q is = by (slice_get (members t group) j) refl (sym (slice_get-map (λ e. e.0) (members t group) j) ∙ is)
+  pub by_place : (group : List ℕ) (j q : ℕ) → slice_get (map (λ e. e.0) (members t group)) j ≡ Some q → (i : Inst)
+      × IsMember group j q i
+  by_place group j q is = by (slice_get (members t group) j) refl
+      (sym (slice_get-map (λ e. e.0) (members t group) j) ∙ is)
     where
-      by : (o : Option (ℕ × Inst)) → slice_get (members t group) j ≡ o → option_map (λ e. e.0) o ≡ Some q → (i : Inst) × IsMember group j q i
+      by : (o : Option (ℕ × Inst)) → slice_get (members t group) j ≡ o → option_map (λ e. e.0) o ≡ Some q
+          → (i : Inst) × IsMember group j q i
       by (Some e) there is = let n : q ≡ e.0 = cc in (e.1, by_entry group j q e n there)
       by None there is = absurd cc
 
-  pub by_item : (group : List ℕ) (j : ℕ) (i : Inst) → slice_get (changed_in t group) j ≡ Some i → (q : ℕ) × IsMember group j q i
+  pub by_item : (group : List ℕ) (j : ℕ) (i : Inst) → slice_get (changed_in t group) j ≡ Some i → (q : ℕ)
+      × IsMember group j q i
   by_item group j i is =
       by (slice_get (members t group) j) refl
-      (sym (slice_get-map (λ e. e.1) (members t group) j) ∙ ap (λ is. slice_get is j) (members_are (λ i. bytes_eq i.group group) 0 t.changed) ∙ is)
+      (sym (slice_get-map (λ e. e.1) (members t group) j)
+      ∙ ap (λ is. slice_get is j) (members_are (λ i. bytes_eq i.group group) 0 t.changed) ∙ is)
     where
-      by : (o : Option (ℕ × Inst)) → slice_get (members t group) j ≡ o → option_map (λ e. e.1) o ≡ Some i → (q : ℕ) × IsMember group j q i
-      by (Some e) there is = let n : e.1 ≡ i = cc in (e.0, subst (IsMember group j e.0) n (by_entry group j e.0 e refl there))
+      by : (o : Option (ℕ × Inst)) → slice_get (members t group) j ≡ o → option_map (λ e. e.1) o ≡ Some i → (q : ℕ)
+          × IsMember group j q i
+      by (Some e) there is = let n : e.1 ≡ i =
+          cc in (e.0, subst (IsMember group j e.0) n (by_entry group j e.0 e refl there))
       by None there is = absurd cc
 
   pub by_changed : (i : Inst) (q : ℕ) → slice_get t.changed q ≡ Some i → (j : ℕ) × IsMember i.group j q i
   by_changed i q is =
-      let r : (j : ℕ) × (slice_get (members t i.group) j ≡ Some (q, i)) = member_in (λ it. bytes_eq it.group i.group) 0 t.changed q q i (omega arith) is ((bytes_eq-Decides i.group i.group).1 refl) in
+      let r : (j : ℕ) × (slice_get (members t i.group) j ≡ Some (q, i)) =
+      member_in (λ it. bytes_eq it.group i.group) 0 t.changed q q i (omega arith) is
+      ((bytes_eq-Decides i.group i.group).1 refl) in
       (r.0, by_entry i.group r.0 q (q, i) refl r.1)
 
-  allowed_as : (it : GroupWork) (j q : ℕ) (i : Inst) → GroupStands t idle i.group it → IsMember i.group j q i → is_allowed it.roll j ≡ may_begin t i
+  allowed_as : (it : GroupWork) (j q : ℕ) (i : Inst) → GroupStands t idle i.group it → IsMember i.group j q i
+      → is_allowed it.roll j ≡ may_begin t i
   allowed_as it j q i stands m =
-      (λ k. nat_lt (busy k) (stands.limit_is k) && (nat_lt j (stands.canaries_are k) || (are_past (stands.canaries_are k) (stands.waiting_are k) && are_past (stands.canaries_are k) (stands.busy_are k))))
+      (λ k. nat_lt (busy k) (stands.limit_is k)
+      && (nat_lt j (stands.canaries_are k) || (are_past (stands.canaries_are k) (stands.waiting_are k)
+      && are_past (stands.canaries_are k) (stands.busy_are k))))
       ∙ (λ k. nat_lt (in_flight t i.group) (limit_of t (plan_in t.goal i)) && (canary k || done k))
-      ∙ ap (λ failed. not (is_some failed) && (nat_lt (in_flight t i.group) (limit_of t (plan_in t.goal i)) && (is_among same_inst i (take c (changed_in t i.group)) || list_all (λ it. is_finished (t.upd it)) (take c (changed_in t i.group)))))
+      ∙ ap (λ failed. not (is_some failed) && (nat_lt (in_flight t i.group) (limit_of t (plan_in t.goal i))
+      && (is_among same_inst i (take c (changed_in t i.group)) || list_all (λ it. is_finished (t.upd it))
+      (take c (changed_in t i.group)))))
       (sym can.none_failed)
     where
       c : ℕ
@@ -288,83 +104,116 @@ module _ (t : Task) (idle : Inst → Bool) (can : CanUpdate t idle) where
       busy = ap marked_in stands.busy_are ∙ marked_as (λ i. is_busy (t.upd i)) (changed_in t i.group)
 
       canary : nat_lt j c ≡ is_among same_inst i (take c (changed_in t i.group))
-      canary = sym (among_first same_inst (changed_in t i.group) c j i inst_is itself (apart_filtered same_inst (λ it. bytes_eq it.group i.group) t.changed can.are_apart) m.item)
+      canary = sym (among_first same_inst (changed_in t i.group) c j i inst_is itself
+          (apart_filtered same_inst (λ it. bytes_eq it.group i.group) t.changed can.are_apart) m.item)
 
-      done : (are_past c (map (λ i. is_waiting (t.upd i)) (changed_in t i.group)) && are_past c (map (λ i. is_busy (t.upd i)) (changed_in t i.group))) ≡ list_all (λ it. is_finished (t.upd it)) (take c (changed_in t i.group))
+      done : (are_past c (map (λ i. is_waiting (t.upd i)) (changed_in t i.group))
+          && are_past c (map (λ i. is_busy (t.upd i)) (changed_in t i.group)))
+          ≡ list_all (λ it. is_finished (t.upd it)) (take c (changed_in t i.group))
       done =
-          (λ k. past_as (λ i. is_waiting (t.upd i)) c (changed_in t i.group) k && past_as (λ i. is_busy (t.upd i)) c (changed_in t i.group) k)
-          ∙ sym (quiet_as (λ i. is_finished (t.upd i)) (λ i. is_waiting (t.upd i)) (λ i. is_busy (t.upd i)) (take c (changed_in t i.group)) can.are_told)
+          (λ k. past_as (λ i. is_waiting (t.upd i)) c (changed_in t i.group) k && past_as (λ i. is_busy (t.upd i)) c
+          (changed_in t i.group) k)
+          ∙ sym (quiet_as (λ i. is_finished (t.upd i)) (λ i. is_waiting (t.upd i)) (λ i. is_busy (t.upd i))
+          (take c (changed_in t i.group)) can.are_told)
 
   -- whose turn it is by the marks, and by what is known
-  on_idle : (u : Upd) (at rests may : Bool) → is_busy u ≡ true → at ≡ true → rests ≡ true → ((not (is_finished u) && at) && (rests && (not (is_waiting u) || may))) ≡ true
+  on_idle : (u : Upd) (at rests may : Bool) → is_busy u ≡ true → at ≡ true → rests ≡ true
+      → ((not (is_finished u) && at) && (rests && (not (is_waiting u) || may))) ≡ true
   on_idle Todo at rests may busy is rest = absurd (false≢true busy)
   on_idle Busy at rests may busy is rest = and_from at (rests && true) is (and_from rests true rest refl)
   on_idle Finished at rests may busy is rest = absurd (false≢true busy)
   on_idle Failed at rests may busy is rest = absurd (false≢true busy)
 
-  on_waiting : (u : Upd) (at rests may : Bool) → is_waiting u ≡ true → at ≡ true → rests ≡ true → may ≡ true → ((not (is_finished u) && at) && (rests && (not (is_waiting u) || may))) ≡ true
-  on_waiting Todo at rests may waits is rest allowed = and_from at (rests && may) is (and_from rests may rest allowed)
+  on_waiting : (u : Upd) (at rests may : Bool) → is_waiting u ≡ true → at ≡ true → rests ≡ true → may ≡ true
+      → ((not (is_finished u) && at) && (rests && (not (is_waiting u) || may))) ≡ true
+  on_waiting Todo at rests may waits is rest allowed =
+      and_from at (rests && may) is (and_from rests may rest allowed)
   on_waiting Busy at rests may waits is rest allowed = absurd (false≢true waits)
   on_waiting Finished at rests may waits is rest allowed = absurd (false≢true waits)
   on_waiting Failed at rests may waits is rest allowed = absurd (false≢true waits)
 
-  on_ready : (u : Upd) (at rests may : Bool) → is_finished u ≡ (not (is_waiting u) && not (is_busy u)) → ((not (is_finished u) && at) && (rests && (not (is_waiting u) || may))) ≡ true
+  on_ready : (u : Upd) (at rests may : Bool) → is_finished u ≡ (not (is_waiting u) && not (is_busy u))
+      → ((not (is_finished u) && at) && (rests && (not (is_waiting u) || may))) ≡ true
       → (at ≡ true) × (((is_busy u && rests) ≡ true) ⊎ ((is_waiting u ≡ true) × (may ≡ true)))
-  on_ready Todo at rests may told is = let a : (at ≡ true) × ((rests && may) ≡ true) = and_parts at (rests && may) is in (a.0, inr (refl, (and_parts rests may a.1).1))
-  on_ready Busy at rests may told is = let a : (at ≡ true) × ((rests && true) ≡ true) = and_parts at (rests && true) is in (a.0, inl (and_parts rests true a.1).0)
+  on_ready Todo at rests may told is = let a : (at ≡ true) × ((rests && may) ≡ true) =
+      and_parts at (rests && may) is in (a.0, inr (refl, (and_parts rests may a.1).1))
+  on_ready Busy at rests may told is = let a : (at ≡ true) × ((rests && true) ≡ true) =
+      and_parts at (rests && true) is in (a.0, inl (and_parts rests true a.1).0)
   on_ready Finished at rests may told is = absurd (false≢true is)
   on_ready Failed at rests may told is = absurd (false≢true told)
 
-  stage_at : (stage : ℕ) (it : GroupWork) (i : Inst) → GroupStands t idle i.group it → it.stage ≡ stage → (stage_of (plan_in t.goal i) == stage) ≡ true
+  stage_at : (stage : ℕ) (it : GroupWork) (i : Inst) → GroupStands t idle i.group it → it.stage ≡ stage
+      → (stage_of (plan_in t.goal i) == stage) ≡ true
   stage_at stage it i stands is = eq-eqb (stage_of (plan_in t.goal i)) stage (sym stands.stage_is ∙ is)
 
-  pub ready_from : (stage : ℕ) (it : GroupWork) (q j : ℕ) (i : Inst) → GroupStands t idle i.group it → IsMember i.group j q i → it.stage ≡ stage
+  pub ready_from : (stage : ℕ) (it : GroupWork) (q j : ℕ) (i : Inst) → GroupStands t idle i.group it
+      → IsMember i.group j q i → it.stage ≡ stage
       → CanClaim it.roll j → is_ready t idle stage i ≡ true
   ready_from stage it q j i stands m is_stage (inl idles) =
       let r : (is_busy (t.upd i) ≡ true) × (idle i ≡ true) =
-      and_parts (is_busy (t.upd i)) (idle i) (sym (at_place (λ i. is_busy (t.upd i) && idle i) (changed_in t i.group) j i m.item) ∙ ap (λ marks. slice_index_or marks j false) (sym stands.idle_are) ∙ idles) in
-      on_idle (t.upd i) (stage_of (plan_in t.goal i) == stage) (idle i) (may_begin t i) r.0 (stage_at stage it i stands is_stage) r.1
+      and_parts (is_busy (t.upd i)) (idle i)
+      (sym (at_place (λ i. is_busy (t.upd i) && idle i) (changed_in t i.group) j i m.item)
+      ∙ ap (λ marks. slice_index_or marks j false) (sym stands.idle_are) ∙ idles) in
+      on_idle (t.upd i) (stage_of (plan_in t.goal i) == stage) (idle i) (may_begin t i) r.0
+      (stage_at stage it i stands is_stage) r.1
   ready_from stage it q j i stands m is_stage (inr (waits, allowed)) =
-      let w : is_waiting (t.upd i) ≡ true = sym (at_place (λ i. is_waiting (t.upd i)) (changed_in t i.group) j i m.item) ∙ ap (λ marks. slice_index_or marks j false) (sym stands.waiting_are) ∙ waits in
-      on_waiting (t.upd i) (stage_of (plan_in t.goal i) == stage) (idle i) (may_begin t i) w (stage_at stage it i stands is_stage)
+      let w : is_waiting (t.upd i) ≡ true =
+      sym (at_place (λ i. is_waiting (t.upd i)) (changed_in t i.group) j i m.item)
+      ∙ ap (λ marks. slice_index_or marks j false) (sym stands.waiting_are) ∙ waits in
+      on_waiting (t.upd i) (stage_of (plan_in t.goal i) == stage) (idle i) (may_begin t i) w
+      (stage_at stage it i stands is_stage)
       (can.rest i (among_from i t.changed q m.among_changed) w) (sym (allowed_as it j q i stands m) ∙ allowed)
 
-  pub claim_from : (stage : ℕ) (it : GroupWork) (q j : ℕ) (i : Inst) → GroupStands t idle i.group it → IsMember i.group j q i → is_ready t idle stage i ≡ true
+  pub claim_from : (stage : ℕ) (it : GroupWork) (q j : ℕ) (i : Inst) → GroupStands t idle i.group it
+      → IsMember i.group j q i → is_ready t idle stage i ≡ true
       → (it.stage ≡ stage) × CanClaim it.roll j
   claim_from stage it q j i stands m ready =
-      let r : ((stage_of (plan_in t.goal i) == stage) ≡ true) × (((is_busy (t.upd i) && idle i) ≡ true) ⊎ ((is_waiting (t.upd i) ≡ true) × (may_begin t i ≡ true))) =
+      let r : ((stage_of (plan_in t.goal i) == stage) ≡ true)
+      × (((is_busy (t.upd i) && idle i) ≡ true) ⊎ ((is_waiting (t.upd i) ≡ true) × (may_begin t i ≡ true))) =
       on_ready (t.upd i) (stage_of (plan_in t.goal i) == stage) (idle i) (may_begin t i) (can.are_told i) ready in
       (stands.stage_is ∙ eqb-true (stage_of (plan_in t.goal i)) stage r.0, by r.1)
     where
-      by : ((is_busy (t.upd i) && idle i) ≡ true) ⊎ ((is_waiting (t.upd i) ≡ true) × (may_begin t i ≡ true)) → CanClaim it.roll j
-      by (inl idles) = inl (ap (λ marks. slice_index_or marks j false) stands.idle_are ∙ at_place (λ i. is_busy (t.upd i) && idle i) (changed_in t i.group) j i m.item ∙ idles)
+      by : ((is_busy (t.upd i) && idle i) ≡ true) ⊎ ((is_waiting (t.upd i) ≡ true) × (may_begin t i ≡ true))
+          → CanClaim it.roll j
+      by (inl idles) = inl (ap (λ marks. slice_index_or marks j false) stands.idle_are
+          ∙ at_place (λ i. is_busy (t.upd i) && idle i) (changed_in t i.group) j i m.item ∙ idles)
       by (inr (waits, may)) =
-          inr (ap (λ marks. slice_index_or marks j false) stands.waiting_are ∙ at_place (λ i. is_waiting (t.upd i)) (changed_in t i.group) j i m.item ∙ waits, allowed_as it j q i stands m ∙ may)
+          inr (
+            ap (λ marks. slice_index_or marks j false) stands.waiting_are ∙ at_place (λ i. is_waiting (t.upd i))
+                (changed_in t i.group) j i m.item ∙ waits,
+            allowed_as it j q i stands m ∙ may,
+          )
 
   -- ---- the groups
 
   pub has_places : (group : List ℕ) (it : GroupWork) → GroupStands t idle group it → HasPlaces it
   has_places group it stands = record {
     rise = λ i j p q low here there.
-        rises i j p q low (ap (λ ns. slice_get ns i) (sym stands.places_are) ∙ here) (ap (λ ns. slice_get ns j) (sym stands.places_are) ∙ there);
+        rises i j p q low (ap (λ ns. slice_get ns i) (sym stands.places_are) ∙ here)
+        (ap (λ ns. slice_get ns j) (sym stands.places_are) ∙ there);
     all = λ j can. has j can;
   }
     where
-      rises : (i j p q : ℕ) → i ≤ j → slice_get (map (λ e. e.0) (members t group)) i ≡ Some p → slice_get (map (λ e. e.0) (members t group)) j ≡ Some q → p ≤ q
+      rises : (i j p q : ℕ) → i ≤ j → slice_get (map (λ e. e.0) (members t group)) i ≡ Some p
+          → slice_get (map (λ e. e.0) (members t group)) j ≡ Some q → p ≤ q
       rises i j p q low here there =
           by (slice_get (members t group) i) (slice_get (members t group) j) refl refl
-          (sym (slice_get-map (λ e. e.0) (members t group) i) ∙ here) (sym (slice_get-map (λ e. e.0) (members t group) j) ∙ there)
+          (sym (slice_get-map (λ e. e.0) (members t group) i) ∙ here)
+          (sym (slice_get-map (λ e. e.0) (members t group) j) ∙ there)
         where
-          by : (d e : Option (ℕ × Inst)) → slice_get (members t group) i ≡ d → slice_get (members t group) j ≡ e → option_map (λ e. e.0) d ≡ Some p → option_map (λ e. e.0) e ≡ Some q → p ≤ q
+          by : (d e : Option (ℕ × Inst)) → slice_get (members t group) i ≡ d → slice_get (members t group) j ≡ e
+              → option_map (λ e. e.0) d ≡ Some p → option_map (λ e. e.0) e ≡ Some q → p ≤ q
           by (Some d) (Some e) is at here there =
               let l : d.0 ≤ e.0 = members_rise (λ i. bytes_eq i.group group) 0 t.changed i j d e low is at in
               let m : d.0 ≡ p = cc in let n : e.0 ≡ q = cc in omega arith
           by None e is at here there = absurd cc
           by (Some d) None is at here there = absurd cc
 
-      found_at : (f : Inst → Bool) (marks : List Bool) (j : ℕ) → marks ≡ map f (changed_in t group) → slice_index_or marks j false ≡ true → (q : ℕ) × (slice_get it.places j ≡ Some q)
+      found_at : (f : Inst → Bool) (marks : List Bool) (j : ℕ) → marks ≡ map f (changed_in t group)
+          → slice_index_or marks j false ≡ true → (q : ℕ) × (slice_get it.places j ≡ Some q)
       found_at f marks j are is =
-          let r : (i : Inst) × (slice_get (changed_in t group) j ≡ Some i) × (f i ≡ true) = is_there f (changed_in t group) j (ap (λ marks. slice_index_or marks j false) (sym are) ∙ is) in
+          let r : (i : Inst) × (slice_get (changed_in t group) j ≡ Some i) × (f i ≡ true) =
+          is_there f (changed_in t group) j (ap (λ marks. slice_index_or marks j false) (sym are) ∙ is) in
           let m : (q : ℕ) × IsMember group j q r.0 = by_item group j r.0 r.1 in
           (m.0, ap (λ ns. slice_get ns j) stands.places_are ∙ m.1.place)
 
@@ -372,31 +221,40 @@ module _ (t : Task) (idle : Inst → Bool) (can : CanUpdate t idle) where
       has j (inl idles) = found_at (λ i. is_busy (t.upd i) && idle i) it.roll.idle j stands.idle_are idles
       has j (inr (waits, allowed)) = found_at (λ i. is_waiting (t.upd i)) it.roll.waiting j stands.waiting_are waits
 
-  all_have : (k : ℕ) (names : List (List ℕ)) (groups : List GroupWork) → EachStands t idle names groups → HaveAll (enumerate_from k groups)
+  all_have : (k : ℕ) (names : List (List ℕ)) (groups : List GroupWork) → EachStands t idle names groups
+      → HaveAll (enumerate_from k groups)
   all_have k [] [] each = tt
-  all_have k (group ∷ names) (it ∷ groups) (here, more) = (has_places group it here, all_have (k + 1) names groups more)
+  all_have k (group ∷ names) (it ∷ groups) (here, more) =
+      (has_places group it here, all_have (k + 1) names groups more)
   all_have k [] (it ∷ groups) each = absurd each
   all_have k (group ∷ names) [] each = absurd each
 
-  pub at_number : (names : List (List ℕ)) (groups : List GroupWork) (n : ℕ) (it : GroupWork) → EachStands t idle names groups → slice_get groups n ≡ Some it
+  pub at_number : (names : List (List ℕ)) (groups : List GroupWork) (n : ℕ) (it : GroupWork)
+      → EachStands t idle names groups → slice_get groups n ≡ Some it
       → (group : List ℕ) × GroupStands t idle group it
   at_number [] [] n it each is = absurd cc
-  at_number (group ∷ names) (one ∷ groups) zero it (here, more) is = let e : one ≡ it = cc in (group, subst (GroupStands t idle group) e here)
+  at_number (group ∷ names) (one ∷ groups) zero it (here, more) is = let e : one ≡ it =
+      cc in (group, subst (GroupStands t idle group) e here)
   at_number (group ∷ names) (one ∷ groups) (suc n) it (here, more) is = at_number names groups n it more is
   at_number [] (one ∷ groups) n it each is = absurd each
   at_number (group ∷ names) [] n it each is = absurd each
 
-  pub at_name : (names : List (List ℕ)) (groups : List GroupWork) (group : List ℕ) → EachStands t idle names groups → is_among bytes_eq group names ≡ true
+  pub at_name : (names : List (List ℕ)) (groups : List GroupWork) (group : List ℕ) → EachStands t idle names groups
+      → is_among bytes_eq group names ≡ true
       → (n : ℕ) × (it : GroupWork) × (slice_get groups n ≡ Some it) × GroupStands t idle group it
   at_name [] groups group each is = absurd (false≢true is)
   at_name (name ∷ names) [] group each is = absurd each
-  at_name (name ∷ names) (it ∷ groups) group (here, more) is = by (bytes_eq group name) refl is (λ is. at_name names groups group more is)
+  at_name (name ∷ names) (it ∷ groups) group (here, more) is =
+      by (bytes_eq group name) refl is (λ is. at_name names groups group more is)
     where
       by : (b : Bool) → bytes_eq group name ≡ b → (b || is_among bytes_eq group names) ≡ true
-          → (is_among bytes_eq group names ≡ true → (n : ℕ) × (one : GroupWork) × (slice_get groups n ≡ Some one) × GroupStands t idle group one)
+          → (is_among bytes_eq group names ≡ true → (n : ℕ) × (one : GroupWork) × (slice_get groups n ≡ Some one)
+          × GroupStands t idle group one)
           → (n : ℕ) × (one : GroupWork) × (slice_get (it ∷ groups) n ≡ Some one) × GroupStands t idle group one
-      by true same is rest = (0, it, refl, subst (λ n. GroupStands t idle n it) (sym (bytes_is group name same)) here)
-      by false other is rest = let r : (n : ℕ) × (one : GroupWork) × (slice_get groups n ≡ Some one) × GroupStands t idle group one = rest is in (suc r.0, r.1, r.2, r.3)
+      by true same is rest =
+          (0, it, refl, subst (λ n. GroupStands t idle n it) (sym (bytes_is group name same)) here)
+      by false other is rest = let r : (n : ℕ) × (one : GroupWork) × (slice_get groups n ≡ Some one)
+          × GroupStands t idle group one = rest is in (suc r.0, r.1, r.2, r.3)
 
   module _ (groups : List GroupWork) (stands : GroupsStand t idle groups) (stage : ℕ) where
     abbrev Ready : ℕ → Type 0
@@ -413,12 +271,16 @@ module _ (t : Task) (idle : Inst → Bool) (can : CanUpdate t idle) where
 
     pub is_at : (q : ℕ) (at : GroupPlace) → Among stage (enumerate_from 0 groups) q at → (i : Inst) × IsAt q at i
     is_at q at among =
-        let r : (n : ℕ) × (it : GroupWork) × (at.group ≡ 0 + n) × (slice_get groups n ≡ Some it) × IsHere stage at.group it q at = among_out stage 0 groups q at among in
+        let r : (n : ℕ) × (it : GroupWork) × (at.group ≡ 0 + n) × (slice_get groups n ≡ Some it)
+        × IsHere stage at.group it q at = among_out stage 0 groups q at among in
         let n_is : r.0 ≡ at.group = (let e : at.group ≡ 0 + r.0 = r.2 in omega arith) in
-        let g : (group : List ℕ) × GroupStands t idle group r.1 = at_number (names_of t.changed) groups r.0 r.1 stands r.3 in
-        let m : (i : Inst) × IsMember g.0 at.place q i = by_place g.0 at.place q (ap (λ ns. slice_get ns at.place) (sym g.1.places_are) ∙ r.4.place_is) in
+        let g : (group : List ℕ) × GroupStands t idle group r.1 =
+        at_number (names_of t.changed) groups r.0 r.1 stands r.3 in
+        let m : (i : Inst) × IsMember g.0 at.place q i =
+        by_place g.0 at.place q (ap (λ ns. slice_get ns at.place) (sym g.1.places_are) ∙ r.4.place_is) in
         let s : GroupStands t idle (m.0).group r.1 = subst (λ n. GroupStands t idle n r.1) (sym m.1.group_is) g.1 in
-        let w : IsMember (m.0).group at.place q m.0 = subst (λ n. IsMember n at.place q m.0) (sym m.1.group_is) m.1 in (
+        let w : IsMember (m.0).group at.place q m.0 = subst (λ n. IsMember n at.place q m.0) (sym m.1.group_is) m.1
+        in (
           m.0,
           record {
             it = r.1;
@@ -431,49 +293,72 @@ module _ (t : Task) (idle : Inst → Bool) (can : CanUpdate t idle) where
         )
 
     ready_at : (q : ℕ) (at : GroupPlace) → Among stage (enumerate_from 0 groups) q at → Ready q
-    ready_at q at among = let r : (i : Inst) × IsAt q at i = is_at q at among in at_place (is_ready t idle stage) t.changed q r.0 r.1.among_changed ∙ r.1.ready
+    ready_at q at among = let r : (i : Inst) × IsAt q at i =
+        is_at q at among in at_place (is_ready t idle stage) t.changed q r.0 r.1.among_changed ∙ r.1.ready
 
     among_at : (q : ℕ) → Ready q → (at : GroupPlace) × Among stage (enumerate_from 0 groups) q at
     among_at q is =
-        let r : (i : Inst) × (slice_get t.changed q ≡ Some i) × (is_ready t idle stage i ≡ true) = is_there (is_ready t idle stage) t.changed q is in
+        let r : (i : Inst) × (slice_get t.changed q ≡ Some i) × (is_ready t idle stage i ≡ true) =
+        is_there (is_ready t idle stage) t.changed q is in
         let named : is_among bytes_eq (r.0).group (names_of t.changed) ≡ true = named_at t.changed q r.0 r.1 in
-        let g : (n : ℕ) × (it : GroupWork) × (slice_get groups n ≡ Some it) × GroupStands t idle (r.0).group it = at_name (names_of t.changed) groups (r.0).group stands named in
+        let g : (n : ℕ) × (it : GroupWork) × (slice_get groups n ≡ Some it) × GroupStands t idle (r.0).group it =
+        at_name (names_of t.changed) groups (r.0).group stands named in
         let m : (j : ℕ) × IsMember (r.0).group j q r.0 = by_changed r.0 q r.1 in
         let c : (g.1.stage ≡ stage) × CanClaim g.1.roll m.0 = claim_from stage g.1 q m.0 r.0 g.3 m.1 r.2 in
         let at : GroupPlace = record { group = g.0; place = m.0 } in (
           at,
           among_in stage 0 groups q at g.0 g.1 (omega arith) g.2
-              (record { group_is = refl; stage_is = c.0; place_is = ap (λ ns. slice_get ns m.0) g.3.places_are ∙ m.1.place; can = c.1 }),
+              (record {
+                group_is = refl;
+                stage_is = c.0;
+                place_is = ap (λ ns. slice_get ns m.0) g.3.places_are
+                    ∙ m.1.place;
+                can = c.1;
+              }),
         )
 
     place : Option (ℕ × GroupPlace)
     place = first_place groups stage
 
     first_is : IsFirstPlace (λ q at. ⊥ ⊎ Among stage (enumerate_from 0 groups) q at) (first_place groups stage)
-    first_is = first_among stage (λ q at. ⊥) (enumerate_from 0 groups) None (all_have 0 (names_of t.changed) groups stands) (λ q at none. none)
+    first_is = first_among stage (λ q at. ⊥) (enumerate_from 0 groups) None
+        (all_have 0 (names_of t.changed) groups stands) (λ q at none. none)
 
     -- the place that is found is that of the first instance of the changed ones whose turn it is
-    pub first_is_ready : option_map (λ e. e.0) (first_place groups stage) ≡ first_marked (map (is_ready t idle stage) t.changed)
+    pub first_is_ready : option_map (λ e. e.0) (first_place groups stage)
+        ≡ first_marked (map (is_ready t idle stage) t.changed)
     first_is_ready =
-        same_first Ready (option_map (λ e. e.0) (first_place groups stage)) (first_marked (map (is_ready t idle stage) t.changed))
+        same_first Ready (option_map (λ e. e.0) (first_place groups stage))
+        (first_marked (map (is_ready t idle stage) t.changed))
         (by (first_place groups stage) first_is) (first_marked_is (map (is_ready t idle stage) t.changed))
       where
-        by : (o : Option (ℕ × GroupPlace)) → IsFirstPlace (λ q at. ⊥ ⊎ Among stage (enumerate_from 0 groups) q at) o → IsFirst Ready (option_map (λ e. e.0) o)
-        by None none = λ q is. let r : (at : GroupPlace) × Among stage (enumerate_from 0 groups) q at = among_at q is in none q r.0 (inr r.1)
-        by (Some e) (inr here, low) = (ready_at e.0 e.1 here, λ q is. let r : (at : GroupPlace) × Among stage (enumerate_from 0 groups) q at = among_at q is in low q r.0 (inr r.1))
+        by : (o : Option (ℕ × GroupPlace)) → IsFirstPlace (λ q at. ⊥ ⊎ Among stage (enumerate_from 0 groups) q at) o
+            → IsFirst Ready (option_map (λ e. e.0) o)
+        by None none = λ q is. let r : (at : GroupPlace) × Among stage (enumerate_from 0 groups) q at =
+            among_at q is in none q r.0 (inr r.1)
+        by (Some e) (inr here, low) = (
+          ready_at e.0 e.1 here,
+          λ q is. let r : (at : GroupPlace)
+              × Among stage (enumerate_from 0 groups) q at = among_at q is in low q r.0 (inr r.1),
+        )
         by (Some e) (inl none, low) = absurd none
 
     pub first_place_is_at : (e : ℕ × GroupPlace) → first_place groups stage ≡ Some e → (i : Inst) × IsAt e.0 e.1 i
-    first_place_is_at e is = by (subst (IsFirstPlace (λ q at. ⊥ ⊎ Among stage (enumerate_from 0 groups) q at)) is first_is)
+    first_place_is_at e is =
+        by (subst (IsFirstPlace (λ q at. ⊥ ⊎ Among stage (enumerate_from 0 groups) q at)) is first_is)
       where
-        by : IsFirstPlace (λ q at. ⊥ ⊎ Among stage (enumerate_from 0 groups) q at) (Some e) → (i : Inst) × IsAt e.0 e.1 i
+        by : IsFirstPlace (λ q at. ⊥ ⊎ Among stage (enumerate_from 0 groups) q at) (Some e) → (i : Inst)
+            × IsAt e.0 e.1 i
         by (inr here, low) = is_at e.0 e.1 here
         by (inl none, low) = absurd none
 
     -- .. and so is that instance
-    pub first_item_is : option_and_then (λ e. slice_get t.changed e.0) (first_place groups stage) ≡ find (is_ready t idle stage) t.changed
-    first_item_is = shift (first_place groups stage) ∙ ap (option_and_then (λ k. slice_get t.changed k)) first_is_ready ∙ found (is_ready t idle stage) t.changed
+    pub first_item_is : option_and_then (λ e. slice_get t.changed e.0) (first_place groups stage)
+        ≡ find (is_ready t idle stage) t.changed
+    first_item_is = shift (first_place groups stage)
+        ∙ ap (option_and_then (λ k. slice_get t.changed k)) first_is_ready ∙ found (is_ready t idle stage) t.changed
       where
-        shift : (o : Option (ℕ × GroupPlace)) → option_and_then (λ e. slice_get t.changed e.0) o ≡ option_and_then (λ k. slice_get t.changed k) (option_map (λ e. e.0) o)
+        shift : (o : Option (ℕ × GroupPlace)) → option_and_then (λ e. slice_get t.changed e.0) o
+            ≡ option_and_then (λ k. slice_get t.changed k) (option_map (λ e. e.0) o)
         shift (Some e) = refl
         shift None = refl

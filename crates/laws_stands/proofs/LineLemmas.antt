@@ -1,5 +1,6 @@
 -- A line stands for its items, and goes on to.
-use Rattle.std.proofs.Common.{◌≡◌, ◌∙◌, ℕ, Bool, true, false, not, ◌&&◌, List, map, Option, Some, None, ap, refl, sym}
+use Rattle.std.proofs.Common.{◌≡◌, ◌∙◌, ℕ, Bool, true, false, not, ◌&&◌, List, map, Option, Some, None, ap, refl}
+use Rattle.std.proofs.Common.{sym}
 use Rattle.std.specs.List.{list_any}
 use Rattle.std.specs.Prelude.{◌==◌, find, slice_get, slice_index_or, slice_set, if◌then◌else◌}
 use Rattle.std.specs.Option.{option_and_then}
@@ -13,14 +14,16 @@ use Rattle.bosh_claim.specs.Noted.{first_of}
 use Rattle.laws_stands.specs.LineStands.{LineStands, place_of}
 use Rattle.laws_stands.proofs.MarkLemmas.{at_place, found, one_more, placed, same_marks, set_at, set_same, zero_as}
 
-pub first_is : {T : Type 0} (items : List T) (left idle : T → Bool) (line : Line T) → LineStands items left idle line
+pub first_is : {T : Type 0} (items : List T) (left idle : T → Bool) (line : Line T)
+    → LineStands items left idle line
     → first_of line ≡ find (λ x. left x && idle x) items
 first_is items left idle line stands =
     (λ i. option_and_then (λ k. slice_get (stands.items_are i) k) (first_marked (stands.free_are i)))
     ∙ found (λ x. left x && idle x) items
 
 -- it is finished where nothing is left
-pub over_is : {T : Type 0} (items : List T) (left idle : T → Bool) (line : Line T) → LineStands items left idle line → is_finished line.queue ≡ not (list_any left items)
+pub over_is : {T : Type 0} (items : List T) (left idle : T → Bool) (line : Line T) → LineStands items left idle line
+    → is_finished line.queue ≡ not (list_any left items)
 over_is items left idle line stands = ap (λ marks. marked_in marks == 0) stands.left_are ∙ zero_as left items
 
 -- nothing that is known of its items changed
@@ -30,10 +33,13 @@ pub stands_on : {T : Type 0} (items : List T) (left idle left' idle' : T → Boo
 stands_on items left idle left' idle' line same_left same_idle stands = record {
   items_are = stands.items_are;
   left_are = stands.left_are ∙ sym (same_marks left' left items same_left);
-  free_are = stands.free_are ∙ sym (same_marks (λ x. left' x && idle' x) (λ x. left x && idle x) items (λ x. λ i. same_left x i && same_idle x i));
+  free_are = stands.free_are
+      ∙ sym (same_marks (λ x. left' x && idle' x) (λ x. left x && idle x) items (λ x. λ i. same_left x i
+      && same_idle x i));
 }
 
-module _ {T : Type 0} (same : T → T → Bool) (decides : (a b : T) → same a b ≡ true → a ≡ b) (items : List T) (apart : are_distinct same items ≡ true) (x : T) where
+module _ {T : Type 0} (same : T → T → Bool) (decides : (a b : T) → same a b ≡ true → a ≡ b) (items : List T)
+    (apart : are_distinct same items ≡ true) (x : T) where
   -- somebody works on an item
   pub stands_taken : (left idle left' idle' : T → Bool) (line : Line T)
       → ((y : T) → left' y ≡ left y) → ((y : T) → idle' y ≡ at same x false idle y)
@@ -48,7 +54,8 @@ module _ {T : Type 0} (same : T → T → Bool) (decides : (a b : T) → same a 
           of true false d = refl
           of false l d = refl
 
-      marks : map (λ y. left' y && idle' y) items ≡ set_at (place_of same x items) false (map (λ y. left y && idle y) items)
+      marks : map (λ y. left' y && idle' y) items ≡ set_at (place_of same x items) false
+          (map (λ y. left y && idle y) items)
       marks = same_marks (λ y. left' y && idle' y) (at same x false (λ z. left z && idle z)) items free
           ∙ one_more same x false (λ y. left y && idle y) items decides apart
 
@@ -56,7 +63,8 @@ module _ {T : Type 0} (same : T → T → Bool) (decides : (a b : T) → same a 
       by (Some k) is = record {
         items_are = stands.items_are;
         left_are = stands.left_are ∙ sym (same_marks left' left items same_left);
-        free_are = ap (λ marks. slice_set marks k false) stands.free_are ∙ sym (marks ∙ ap (λ k. set_at k false (map (λ y. left y && idle y) items)) is);
+        free_are = ap (λ marks. slice_set marks k false) stands.free_are
+            ∙ sym (marks ∙ ap (λ k. set_at k false (map (λ y. left y && idle y) items)) is);
       }
       by None is = record {
         items_are = stands.items_are;
@@ -73,7 +81,8 @@ module _ {T : Type 0} (same : T → T → Bool) (decides : (a b : T) → same a 
       free : (y : T) → (left' y && idle' y) ≡ at same x (left x) (λ z. left z && idle z) y
       free y = (λ i. same_left y i && now y i) ∙ of (same x y) refl
         where
-          of : (b : Bool) → same x y ≡ b → (left y && (if b then true else idle y)) ≡ (if b then left x else left y && idle y)
+          of : (b : Bool) → same x y ≡ b → (left y && (if b then true else idle y))
+              ≡ (if b then left x else left y && idle y)
           of true is = and_true (left y) ∙ ap left (sym (decides x y is))
             where
               and_true : (l : Bool) → (l && true) ≡ l
@@ -81,7 +90,8 @@ module _ {T : Type 0} (same : T → T → Bool) (decides : (a b : T) → same a 
               and_true false = refl
           of false is = refl
 
-      marks : map (λ y. left' y && idle' y) items ≡ set_at (place_of same x items) (left x) (map (λ y. left y && idle y) items)
+      marks : map (λ y. left' y && idle' y) items ≡ set_at (place_of same x items) (left x)
+          (map (λ y. left y && idle y) items)
       marks = same_marks (λ y. left' y && idle' y) (at same x (left x) (λ z. left z && idle z)) items free
           ∙ one_more same x (left x) (λ y. left y && idle y) items decides apart
 
@@ -90,15 +100,20 @@ module _ {T : Type 0} (same : T → T → Bool) (decides : (a b : T) → same a 
       kept k is = let p : (y : T) × (slice_get items k ≡ Some y) × (same x y ≡ true) = placed (same x) items k is in
           at_place left items k p.0 p.1 ∙ ap left (sym (decides x p.0 p.2))
 
-      unless_left : (k : ℕ) (b : Bool) → left x ≡ b → slice_index_or (map (λ y. left y && idle y) items) k false ≡ (b && slice_index_or (map (λ y. left y && idle y) items) k false)
-          → (if b then slice_set (map (λ y. left y && idle y) items) k true else map (λ y. left y && idle y) items) ≡ slice_set (map (λ y. left y && idle y) items) k (left x)
+      unless_left : (k : ℕ) (b : Bool) → left x ≡ b → slice_index_or (map (λ y. left y && idle y) items) k false
+          ≡ (b && slice_index_or (map (λ y. left y && idle y) items) k false)
+          → (if b then slice_set (map (λ y. left y && idle y) items) k true else map (λ y. left y && idle y) items)
+          ≡ slice_set (map (λ y. left y && idle y) items) k (left x)
       unless_left k true is there = ap (slice_set (map (λ y. left y && idle y) items) k) (sym is)
       unless_left k false is there = set_same (left x) (map (λ y. left y && idle y) items) k there is
 
-      within : (k : ℕ) → place_of same x items ≡ Some k → slice_index_or (map (λ y. left y && idle y) items) k false ≡ (left x && slice_index_or (map (λ y. left y && idle y) items) k false)
-      within k is = let p : (y : T) × (slice_get items k ≡ Some y) × (same x y ≡ true) = placed (same x) items k is in
+      within : (k : ℕ) → place_of same x items ≡ Some k → slice_index_or (map (λ y. left y && idle y) items) k false
+          ≡ (left x && slice_index_or (map (λ y. left y && idle y) items) k false)
+      within k is = let p : (y : T) × (slice_get items k ≡ Some y) × (same x y ≡ true) =
+          placed (same x) items k is in
           let e : x ≡ p.0 = decides x p.0 p.2 in
-          at_place (λ y. left y && idle y) items k p.0 p.1 ∙ both (left p.0) (idle p.0) ∙ (λ i. left (sym e i) && sym (at_place (λ y. left y && idle y) items k p.0 p.1) i)
+          at_place (λ y. left y && idle y) items k p.0 p.1 ∙ both (left p.0) (idle p.0)
+          ∙ (λ i. left (sym e i) && sym (at_place (λ y. left y && idle y) items k p.0 p.1) i)
         where
           both : (l d : Bool) → (l && d) ≡ (l && (l && d))
           both true d = refl
@@ -109,15 +124,18 @@ module _ {T : Type 0} (same : T → T → Bool) (decides : (a b : T) → same a 
         items_are = stands.items_are;
         left_are = stands.left_are ∙ sym (same_marks left' left items same_left);
         free_are =
-            (λ i. if slice_index_or (stands.left_are i) k false then slice_set (stands.free_are i) k true else stands.free_are i)
-            ∙ (λ i. if kept k is i then slice_set (map (λ y. left y && idle y) items) k true else map (λ y. left y && idle y) items)
+            (λ i. if slice_index_or (stands.left_are i) k false then slice_set (stands.free_are i) k true
+            else stands.free_are i)
+            ∙ (λ i. if kept k is i then slice_set (map (λ y. left y && idle y) items) k true
+            else map (λ y. left y && idle y) items)
             ∙ unless_left k (left x) refl (within k is)
             ∙ sym (marks ∙ ap (λ k. set_at k (left x) (map (λ y. left y && idle y) items)) is);
       }
       by None is = record {
         items_are = stands.items_are;
         left_are = stands.left_are ∙ sym (same_marks left' left items same_left);
-        free_are = stands.free_are ∙ sym (marks ∙ ap (λ k. set_at k (left x) (map (λ y. left y && idle y) items)) is);
+        free_are = stands.free_are
+            ∙ sym (marks ∙ ap (λ k. set_at k (left x) (map (λ y. left y && idle y) items)) is);
       }
 
   -- an item is finished
@@ -133,18 +151,22 @@ module _ {T : Type 0} (same : T → T → Bool) (decides : (a b : T) → same a 
           of true l d = refl
           of false l d = refl
 
-      marks : map (λ y. left' y && idle' y) items ≡ set_at (place_of same x items) false (map (λ y. left y && idle y) items)
+      marks : map (λ y. left' y && idle' y) items ≡ set_at (place_of same x items) false
+          (map (λ y. left y && idle y) items)
       marks = same_marks (λ y. left' y && idle' y) (at same x false (λ z. left z && idle z)) items free
           ∙ one_more same x false (λ y. left y && idle y) items decides apart
 
       lefts : map left' items ≡ set_at (place_of same x items) false (map left items)
       lefts = same_marks left' (at same x false left) items now ∙ one_more same x false left items decides apart
 
-      by : (place : Option ℕ) → place_of same x items ≡ place → LineStands items left' idle' (finished_line line place)
+      by : (place : Option ℕ) → place_of same x items ≡ place
+          → LineStands items left' idle' (finished_line line place)
       by (Some k) is = record {
         items_are = stands.items_are;
-        left_are = ap (λ marks. slice_set marks k false) stands.left_are ∙ sym (lefts ∙ ap (λ k. set_at k false (map left items)) is);
-        free_are = ap (λ marks. slice_set marks k false) stands.free_are ∙ sym (marks ∙ ap (λ k. set_at k false (map (λ y. left y && idle y) items)) is);
+        left_are = ap (λ marks. slice_set marks k false) stands.left_are
+            ∙ sym (lefts ∙ ap (λ k. set_at k false (map left items)) is);
+        free_are = ap (λ marks. slice_set marks k false) stands.free_are
+            ∙ sym (marks ∙ ap (λ k. set_at k false (map (λ y. left y && idle y) items)) is);
       }
       by None is = record {
         items_are = stands.items_are;

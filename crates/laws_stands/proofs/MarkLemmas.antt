@@ -1,5 +1,6 @@
 -- Marks of the items of a list.
-use Rattle.std.proofs.Common.{◌≡◌, ◌∙◌, ℕ, zero, suc, Bool, true, false, ◌||◌, not, List, [], ◌∷◌, map, Option, Some, None, ap, refl, sym, subst, arith}
+use Rattle.std.proofs.Common.{◌≡◌, ◌∙◌, ℕ, zero, suc, Bool, true, false, ◌||◌, not, List, [], ◌∷◌, map, Option}
+use Rattle.std.proofs.Common.{Some, None, ap, refl, sym, subst, arith}
 use Rattle.std.specs.Prelude.{◌==◌, count_by, find, slice_get, slice_index_or, slice_set, if◌then◌else◌}
 use Rattle.std.specs.List.{list_any}
 use Rattle.std.specs.Option.{option_and_then, option_map}
@@ -14,7 +15,8 @@ use Rattle.laws_stands.specs.LineStands.{place_of}
 -- ---- the first mark
 
 -- the item at the first mark is the first that passes
-pub found : {T : Type 0} (p : T → Bool) (xs : List T) → option_and_then (λ k. slice_get xs k) (first_marked (map p xs)) ≡ find p xs
+pub found : {T : Type 0} (p : T → Bool) (xs : List T) → option_and_then (λ k. slice_get xs k)
+    (first_marked (map p xs)) ≡ find p xs
 found p [] = refl
 found p (x ∷ xs) = by (p x) (found p xs)
   where
@@ -24,7 +26,8 @@ found p (x ∷ xs) = by (p x) (found p xs)
     later None more = more
 
     by : (b : Bool) → option_and_then (λ k. slice_get xs k) (first_marked (map p xs)) ≡ find p xs →
-        option_and_then (λ k. slice_get (x ∷ xs) k) (first_marked (b ∷ map p xs)) ≡ (if b then Some x else find p xs)
+        option_and_then (λ k. slice_get (x ∷ xs) k) (first_marked (b ∷ map p xs))
+        ≡ (if b then Some x else find p xs)
     by true more = refl
     by false more = later (first_marked (map p xs)) more
 
@@ -36,11 +39,13 @@ marked_as p (x ∷ xs) = grind (arith, common_steps, marked_as p xs)
 -- ---- one more mark
 
 -- no later item is the same
-pub others_differ : {T : Type 0} (same : T → T → Bool) (x y : T) (xs : List T) → ((a b : T) → same a b ≡ true → a ≡ b)
+pub others_differ : {T : Type 0} (same : T → T → Bool) (x y : T) (xs : List T)
+    → ((a b : T) → same a b ≡ true → a ≡ b)
     → same x y ≡ true → is_among same y xs ≡ false → is_among same x xs ≡ false
 others_differ same x y xs decides is none = subst (λ z. is_among same z xs ≡ false) (sym (decides x y is)) none
 
-pub unchanged : {T : Type 0} (same : T → T → Bool) (x : T) (b : Bool) (f : T → Bool) (xs : List T) → is_among same x xs ≡ false
+pub unchanged : {T : Type 0} (same : T → T → Bool) (x : T) (b : Bool) (f : T → Bool) (xs : List T)
+    → is_among same x xs ≡ false
     → map (at same x b f) xs ≡ map f xs
 unchanged same x b f [] none = refl
 unchanged same x b f (y ∷ xs) none =
@@ -57,16 +62,20 @@ pub one_more : {T : Type 0} (same : T → T → Bool) (x : T) (b : Bool) (f : T 
     → map (at same x b f) xs ≡ set_at (place_of same x xs) b (map f xs)
 one_more same x b f [] decides apart = refl
 one_more same x b f (y ∷ xs) decides apart =
-    let parts : (not (is_among same y xs) ≡ true) × (are_distinct same xs ≡ true) = and_parts (not (is_among same y xs)) (are_distinct same xs) apart in
+    let parts : (not (is_among same y xs) ≡ true) × (are_distinct same xs ≡ true) =
+    and_parts (not (is_among same y xs)) (are_distinct same xs) apart in
     by (same x y) refl (not-true (is_among same y xs) parts.0) (one_more same x b f xs decides parts.1)
   where
     later : (k : Option ℕ) → f y ∷ set_at k b (map f xs) ≡ set_at (option_map suc k) b (f y ∷ map f xs)
     later (Some k) = refl
     later None = refl
 
-    by : (t : Bool) → same x y ≡ t → is_among same y xs ≡ false → map (at same x b f) xs ≡ set_at (place_of same x xs) b (map f xs)
-        → (if t then b else f y) ∷ map (at same x b f) xs ≡ set_at (first_marked (t ∷ map (same x) xs)) b (f y ∷ map f xs)
-    by true is none more = ap (λ rest. b ∷ rest) (unchanged same x b f xs (others_differ same x y xs decides is none))
+    by : (t : Bool) → same x y ≡ t → is_among same y xs ≡ false → map (at same x b f) xs
+        ≡ set_at (place_of same x xs) b (map f xs)
+        → (if t then b else f y) ∷ map (at same x b f) xs ≡ set_at (first_marked (t ∷ map (same x) xs)) b
+        (f y ∷ map f xs)
+    by true is none more =
+        ap (λ rest. b ∷ rest) (unchanged same x b f xs (others_differ same x y xs decides is none))
     by false is none more = ap (λ rest. f y ∷ rest) more ∙ later (place_of same x xs)
 
 -- items with the same marks
@@ -76,35 +85,42 @@ same_marks f g (x ∷ xs) same = λ i. same x i ∷ same_marks f g xs same i
 
 -- ---- at a place
 
-pub at_place : {T : Type 0} (f : T → Bool) (xs : List T) (k : ℕ) (x : T) → slice_get xs k ≡ Some x → slice_index_or (map f xs) k false ≡ f x
+pub at_place : {T : Type 0} (f : T → Bool) (xs : List T) (k : ℕ) (x : T) → slice_get xs k ≡ Some x
+    → slice_index_or (map f xs) k false ≡ f x
 at_place f [] k x is = absurd cc
 at_place f (y ∷ xs) zero x is = let e : y ≡ x = cc in ap f e
 at_place f (y ∷ xs) (suc k) x is = at_place f xs k x is
 
 -- where a mark is set there is an item
-pub is_there : {T : Type 0} (f : T → Bool) (xs : List T) (k : ℕ) → slice_index_or (map f xs) k false ≡ true → (x : T) × (slice_get xs k ≡ Some x) × (f x ≡ true)
+pub is_there : {T : Type 0} (f : T → Bool) (xs : List T) (k : ℕ) → slice_index_or (map f xs) k false ≡ true
+    → (x : T) × (slice_get xs k ≡ Some x) × (f x ≡ true)
 is_there f [] k is = absurd (true≢false (sym is))
 is_there f (y ∷ xs) zero is = (y, refl, is)
 is_there f (y ∷ xs) (suc k) is = is_there f xs k is
 
 -- the item at the first mark
-pub placed : {T : Type 0} (p : T → Bool) (xs : List T) (k : ℕ) → first_marked (map p xs) ≡ Some k → (x : T) × (slice_get xs k ≡ Some x) × (p x ≡ true)
+pub placed : {T : Type 0} (p : T → Bool) (xs : List T) (k : ℕ) → first_marked (map p xs) ≡ Some k → (x : T)
+    × (slice_get xs k ≡ Some x) × (p x ≡ true)
 placed p [] k is = absurd cc
 placed p (y ∷ xs) k is = by (p y) refl k (λ k is. placed p xs k is) is
   where
-    later : (k : ℕ) (first : Option ℕ) → ((j : ℕ) → first ≡ Some j → (x : _) × (slice_get xs j ≡ Some x) × (p x ≡ true)) → option_map suc first ≡ Some k
+    later : (k : ℕ) (first : Option ℕ) → ((j : ℕ) → first ≡ Some j → (x : _) × (slice_get xs j ≡ Some x)
+        × (p x ≡ true)) → option_map suc first ≡ Some k
         → (x : _) × (slice_get (y ∷ xs) k ≡ Some x) × (p x ≡ true)
-    later k (Some j) more is = let e : suc j ≡ k = cc in let it : (x : _) × (slice_get xs j ≡ Some x) × (p x ≡ true) = more j refl in
+    later k (Some j) more is = let e : suc j ≡ k = cc in let it : (x : _) × (slice_get xs j ≡ Some x)
+        × (p x ≡ true) = more j refl in
         (it.0, subst (λ n. slice_get (y ∷ xs) n ≡ Some it.0) e it.1, it.2)
     later k None more is = absurd cc
 
-    by : (b : Bool) → p y ≡ b → (k : ℕ) → ((j : ℕ) → first_marked (map p xs) ≡ Some j → (x : _) × (slice_get xs j ≡ Some x) × (p x ≡ true)) → first_marked (b ∷ map p xs) ≡ Some k
+    by : (b : Bool) → p y ≡ b → (k : ℕ) → ((j : ℕ) → first_marked (map p xs) ≡ Some j → (x : _)
+        × (slice_get xs j ≡ Some x) × (p x ≡ true)) → first_marked (b ∷ map p xs) ≡ Some k
         → (x : _) × (slice_get (y ∷ xs) k ≡ Some x) × (p x ≡ true)
     by true is k more first = let e : 0 ≡ k = cc in (y, subst (λ n. slice_get (y ∷ xs) n ≡ Some y) e refl, is)
     by false is k more first = later k (first_marked (map p xs)) more first
 
 -- a mark that is off may be set to off
-pub set_same : (b : Bool) (marks : List Bool) (k : ℕ) → slice_index_or marks k false ≡ false → b ≡ false → marks ≡ slice_set marks k b
+pub set_same : (b : Bool) (marks : List Bool) (k : ℕ) → slice_index_or marks k false ≡ false → b ≡ false → marks
+    ≡ slice_set marks k b
 set_same b [] k is off = refl
 set_same b (m ∷ marks) zero is off = λ i. (is ∙ sym off) i ∷ marks
 set_same b (m ∷ marks) (suc k) is off = ap (λ rest. m ∷ rest) (set_same b marks k is off)
@@ -114,6 +130,7 @@ pub zero_as : {A : Type 0} (f : A → Bool) (xs : List A) → (marked_in (map f 
 zero_as f [] = refl
 zero_as f (x ∷ xs) = by (f x) (zero_as f xs)
   where
-    by : (b : Bool) → (marked_in (map f xs) == 0) ≡ not (list_any f xs) → (marked_in (b ∷ map f xs) == 0) ≡ not (b || list_any f xs)
+    by : (b : Bool) → (marked_in (map f xs) == 0) ≡ not (list_any f xs) → (marked_in (b ∷ map f xs) == 0)
+        ≡ not (b || list_any f xs)
     by true more = grind (arith, nat_tests, common_steps)
     by false more = more

@@ -1,21 +1,25 @@
 -- What is left of the phases of a task, and the items of the present one.
-use Rattle.std.proofs.Common.{◌≡◌, ◌∙◌, ℕ, ◌<◌, Bool, true, false, ◌&&◌, ◌||◌, not, List, [], ◌∷◌, ◌++◌, length, map, filter, Option, Some, None, ap, refl, sym, subst, arith}
-use Rattle.std.specs.Prelude.{◌==◌, eqb, nat_lt, slice_get, if◌then◌else◌}
+use Rattle.std.proofs.Common.{◌≡◌, ◌∙◌, ℕ, ◌<◌, Bool, true, false, ◌&&◌, not, List, [], ◌∷◌, ◌++◌, length}
+use Rattle.std.proofs.Common.{map, filter, Option, Some, None, ap, refl, sym, arith}
+use Rattle.std.specs.Prelude.{◌==◌, nat_lt, if◌then◌else◌}
 use Rattle.std.specs.List.{list_all}
 use Rattle.std.specs.Option.{option_or}
-use Rattle.std.proofs.lemmas.Bool.{and_from, and_parts, eqb-true, false≢true, lt-ltb, ltb-false, not-true, true≢false}
+use Rattle.std.proofs.lemmas.Bool.{and_from, and_parts, eqb-true, lt-ltb, not-true}
+use Rattle.std.proofs.lemmas.Bool.{true≢false}
 use Rattle.std.proofs.lemmas.Bool.Decides.{nat_tests}
 use Rattle.std.proofs.lemmas.List.Folds.{list_all-append}
 use Rattle.bosh_base.specs.declared.entry.Entry.{Entry}
 use Rattle.bosh_base.specs.declared.inst.Inst.{Inst}
 use Rattle.bosh_base.specs.declared.owner.Owner.{Owner}
 use Rattle.bosh_base.specs.declared.owner.Owner.TheVariants.{Instance, Compile, Disk}
-use Rattle.bosh_history.specs.Items.{candidates, is_before, is_item, is_leftover, is_to_go, is_to_ping, items, none_left_before, phase_of, slots_of}
+use Rattle.bosh_history.specs.Items.{candidates, is_before, is_item, is_leftover, is_to_go, is_to_ping, items}
+use Rattle.bosh_history.specs.Items.{none_left_before, phase_of, slots_of}
 use Rattle.bosh_history.specs.Known.{Known, Task, SlotName}
 use Rattle.bosh_history.specs.Words.{holds, numbers_below}
 use Rattle.laws_stands.proofs.AnswerLemmas.{answers_append, answers_filter, answers_map, first_answer}
 
-all_mapped : {X : Type 0} (p : Owner → Bool) (f : X → Owner) (xs : List X) → ((x : X) → p (f x) ≡ true) → list_all p (map f xs) ≡ true
+all_mapped : {X : Type 0} (p : Owner → Bool) (f : X → Owner) (xs : List X) → ((x : X) → p (f x) ≡ true)
+    → list_all p (map f xs) ≡ true
 all_mapped p f [] all = refl
 all_mapped p f (x ∷ xs) all = and_from (p (f x)) (list_all p (map f xs)) (all x) (all_mapped p f xs all)
 
@@ -23,7 +27,8 @@ none_filtered : (p : Owner → Bool) (xs : List Owner) → filter p xs ≡ [] �
 none_filtered p [] empty = refl
 none_filtered p (x ∷ xs) empty = by (p x) refl empty (λ empty. none_filtered p xs empty)
   where
-    by : (b : Bool) → p x ≡ b → (if b then x ∷ filter p xs else filter p xs) ≡ [] → (filter p xs ≡ [] → list_all (λ x. not (p x)) xs ≡ true)
+    by : (b : Bool) → p x ≡ b → (if b then x ∷ filter p xs else filter p xs) ≡ []
+        → (filter p xs ≡ [] → list_all (λ x. not (p x)) xs ≡ true)
         → (not (p x) && list_all (λ x. not (p x)) xs) ≡ true
     by true is empty more = absurd cc
     by false is empty more = λ i. not (is i) && more empty i
@@ -62,10 +67,12 @@ module _ (k : Known) (n : ℕ) where
   abbrev pub IsCandidate : Owner → Type 0
   IsCandidate owner = (p : Owner → Bool) → list_all p (candidates k n) ≡ true → p owner ≡ true
 
-  two : (p : Owner → Bool) (xs ys : List Owner) → list_all p (xs ++ ys) ≡ true → (list_all p xs ≡ true) × (list_all p ys ≡ true)
+  two : (p : Owner → Bool) (xs ys : List Owner) → list_all p (xs ++ ys) ≡ true → (list_all p xs ≡ true)
+      × (list_all p ys ≡ true)
   two p xs ys all = and_parts (list_all p xs) (list_all p ys) (sym (list_all-append p xs ys) ∙ all)
 
-  join : (p : Owner → Bool) (xs ys : List Owner) → list_all p xs ≡ true → list_all p ys ≡ true → list_all p (xs ++ ys) ≡ true
+  join : (p : Owner → Bool) (xs ys : List Owner) → list_all p xs ≡ true → list_all p ys ≡ true
+      → list_all p (xs ++ ys) ≡ true
   join p xs ys all more = list_all-append p xs ys ∙ and_from (list_all p xs) (list_all p ys) all more
 
   -- what passes of all candidates, part by part
@@ -79,10 +86,14 @@ module _ (k : Known) (n : ℕ) where
 
   pub parts_of : (p : Owner → Bool) → list_all p (candidates k n) ≡ true → AllParts p
   parts_of p all =
-      let a : (list_all p (asked ++ swept ++ slotted ++ leaving ++ changing) ≡ true) × (list_all p deleting ≡ true) = two p (asked ++ swept ++ slotted ++ leaving ++ changing) deleting all in
-      let b : (list_all p (asked ++ swept ++ slotted ++ leaving) ≡ true) × (list_all p changing ≡ true) = two p (asked ++ swept ++ slotted ++ leaving) changing a.0 in
-      let c : (list_all p (asked ++ swept ++ slotted) ≡ true) × (list_all p leaving ≡ true) = two p (asked ++ swept ++ slotted) leaving b.0 in
-      let d : (list_all p (asked ++ swept) ≡ true) × (list_all p slotted ≡ true) = two p (asked ++ swept) slotted c.0 in
+      let a : (list_all p (asked ++ swept ++ slotted ++ leaving ++ changing) ≡ true)
+      × (list_all p deleting ≡ true) = two p (asked ++ swept ++ slotted ++ leaving ++ changing) deleting all in
+      let b : (list_all p (asked ++ swept ++ slotted ++ leaving) ≡ true) × (list_all p changing ≡ true) =
+      two p (asked ++ swept ++ slotted ++ leaving) changing a.0 in
+      let c : (list_all p (asked ++ swept ++ slotted) ≡ true) × (list_all p leaving ≡ true) =
+      two p (asked ++ swept ++ slotted) leaving b.0 in
+      let d : (list_all p (asked ++ swept) ≡ true) × (list_all p slotted ≡ true) =
+      two p (asked ++ swept) slotted c.0 in
       let e : (list_all p asked ≡ true) × (list_all p swept ≡ true) = two p asked swept d.0 in
       record { pings = e.0; sweep = e.1; slots = d.1; obsolete = c.1; changed = b.1; disks = a.1 }
 
@@ -121,14 +132,17 @@ module _ (k : Known) (n : ℕ) where
     pub listed : IsCandidate owner
     pub left : phase_of k n owner ≡ Some phase
 
-  pub item_as : (phase : ℕ) → IsPresent phase → (owner : Owner) → not_before phase owner ≡ true → is_item k n owner ≡ is_phase phase (phase_of k n owner)
+  pub item_as : (phase : ℕ) → IsPresent phase → (owner : Owner) → not_before phase owner ≡ true → is_item k n owner
+      ≡ is_phase phase (phase_of k n owner)
   item_as phase present owner late = by (phase_of k n owner) late
     where
       later : (q : ℕ) → phase < q → none_left_before k n q ≡ false
       later q above = of (none_left_before k n q) refl
         where
           of : (b : Bool) → none_left_before k n q ≡ b → none_left_before k n q ≡ false
-          of true is = absurd (true≢false (sym (present.listed (not_before q) is) ∙ ap (λ o. not (is_before q o)) present.left ∙ ap not (lt-ltb phase q above)))
+          of true is =
+              absurd (true≢false (sym (present.listed (not_before q) is)
+              ∙ ap (λ o. not (is_before q o)) present.left ∙ ap not (lt-ltb phase q above)))
           of false is = is
 
       by : (o : Option ℕ) → not (is_before phase o) ≡ true → holds (none_left_before k n) o ≡ is_phase phase o
@@ -145,7 +159,9 @@ module _ (k : Known) (n : ℕ) where
   -- there is one
   pub some_items : (phase : ℕ) → IsPresent phase → items k n ≡ [] → ⊥
   some_items phase present empty =
-      true≢false (sym (present.listed (λ owner. not (is_item k n owner)) (none_filtered (is_item k n) (candidates k n) empty))
+      true≢false
+      (sym (present.listed (λ owner. not (is_item k n owner))
+      (none_filtered (is_item k n) (candidates k n) empty))
       ∙ ap (λ o. not (holds (none_left_before k n) o)) present.left ∙ ap not present.none)
 
   -- what is answered of the items, part by part
@@ -173,12 +189,26 @@ module _ (k : Known) (n : ℕ) where
     of_disks = first_answer (λ d. answer (Disk d)) t.disks
 
     pub answers_are : first_answer gives (items k n)
-        ≡ option_or (option_or (option_or (option_or (option_or of_asked of_swept) of_slots) of_leaving) of_changing) of_disks
+        ≡ option_or (option_or (option_or (option_or (option_or of_asked of_swept) of_slots) of_leaving)
+        of_changing) of_disks
     answers_are =
         answers_filter (is_item k n) gives (candidates k n)
         ∙ answers_append answer (asked ++ swept ++ slotted ++ leaving ++ changing) deleting
-        ∙ (λ j. option_or (answers_append answer (asked ++ swept ++ slotted ++ leaving) changing j) (answers_map answer Disk t.disks j))
-        ∙ (λ j. option_or (option_or (answers_append answer (asked ++ swept ++ slotted) leaving j) (answers_map answer Instance t.changed j)) of_disks)
-        ∙ (λ j. option_or (option_or (option_or (answers_append answer (asked ++ swept) slotted j) (answers_map answer Instance (filter (is_to_go t) t.obsolete) j)) of_changing) of_disks)
-        ∙ (λ j. option_or (option_or (option_or (option_or (answers_append answer asked swept j) (answers_map answer (Compile n) (numbers_below (length (slots_of t.goal))) j)) of_leaving) of_changing) of_disks)
-        ∙ (λ j. option_or (option_or (option_or (option_or (option_or (answers_map answer Instance (filter (is_to_ping t) t.to_ping) j) (answers_map answer machine_owner (filter (is_leftover k n) k.machines) j)) of_slots) of_leaving) of_changing) of_disks)
+        ∙ (λ j. option_or (answers_append answer (asked ++ swept ++ slotted ++ leaving) changing j)
+        (answers_map answer Disk t.disks j))
+        ∙ (λ j. option_or (option_or (answers_append answer (asked ++ swept ++ slotted) leaving j)
+        (answers_map answer Instance t.changed j)) of_disks)
+        ∙ (λ j. option_or
+        (option_or (option_or (answers_append answer (asked ++ swept) slotted j)
+        (answers_map answer Instance (filter (is_to_go t) t.obsolete) j)) of_changing) of_disks)
+        ∙ (λ j. option_or
+        (option_or
+        (option_or (option_or (answers_append answer asked swept j)
+        (answers_map answer (Compile n) (numbers_below (length (slots_of t.goal))) j)) of_leaving) of_changing)
+        of_disks)
+        ∙ (λ j. option_or
+        (option_or
+        (option_or
+        (option_or (option_or (answers_map answer Instance (filter (is_to_ping t) t.to_ping) j)
+        (answers_map answer machine_owner (filter (is_leftover k n) k.machines) j)) of_slots) of_leaving)
+        of_changing) of_disks)

@@ -11,10 +11,12 @@ use Rattle.bosh_rows.specs.Same.{same_inst}
 use Rattle.laws_stands.specs.Linked.{IsLinked, want_place}
 use Rattle.laws_stands.proofs.MarkLemmas.{found}
 
-in_goal : (goal : Option Goal) (i : Inst) → want_at goal (option_and_then (λ goal. want_place goal.rows i) goal) ≡ want_in goal i
+in_goal : (goal : Option Goal) (i : Inst) → want_at goal (option_and_then (λ goal. want_place goal.rows i) goal)
+    ≡ want_in goal i
 in_goal (Some goal) i = found (λ want. same_inst i want.inst) goal.rows
 in_goal None i = refl
 
 -- the want of an instance is the one that the current goal of its deployment has
-pub want_is : (records : Records) (i : Inst) → IsLinked (recorded records) → want_of records i ≡ want_in (goal_of records i.dep) i
+pub want_is : (records : Records) (i : Inst) → IsLinked (recorded records) → want_of records i
+    ≡ want_in (goal_of records i.dep) i
 want_is records i linked = ap (want_at (goal_of records i.dep)) (linked.wants i) ∙ in_goal (goal_of records i.dep) i

@@ -1,6 +1,6 @@
 -- What is told, beside a moment of a history: the same is known, and the same calls are open, but for those that a stop
 -- forgot, whose tasks are still to be interrupted.
-use Rattle.std.specs.Prelude.{◌≡◌, ℕ, ◌≤◌, ◌&&◌, nat_le, Option, Some, None, true}
+use Rattle.std.specs.Prelude.{◌≡◌, ℕ, ◌≤◌, Some, None}
 use Rattle.bosh_base.specs.declared.entry.Begin.{Begin}
 use Rattle.bosh_claim.specs.declared.choice.Choice as choice
 use Rattle.bosh_claim.specs.declared.choice.Choice.TheVariants as choices

@@ -1,5 +1,6 @@
 -- What the choice of a worker needs of the records and of a moment.
-use Rattle.std.specs.Prelude.{◌≡◌, ℕ, ◌+◌, ◌<◌, ◌⊎◌, ◌==◌, ◌&&◌, Bool, true, false, not, List, [], Option, Some, None, count_by, is_none, is_some, length, min, nat_lt, slice_get}
+use Rattle.std.specs.Prelude.{◌≡◌, ℕ, ◌+◌, ◌<◌, ◌⊎◌, ◌==◌, ◌&&◌, Bool, true, false, not, List, [], Some}
+use Rattle.std.specs.Prelude.{None, count_by, is_none, is_some, length, min, nat_lt, slice_get}
 use Rattle.std.specs.Option.{option_and_then, option_map, unwrap_or}
 use Rattle.bosh_base.specs.declared.inst.Inst.{Inst}
 use Rattle.bosh_base.specs.declared.key.Key.{Key}
@@ -32,12 +33,14 @@ abbrev pub idle_at : Moment → Inst → Bool
 idle_at m i = is_idle m (Instance i)
 
 -- the work of a task stands for what is known at a moment, and so do the tables
-pub record CanChoose (m : Moment) (n : ℕ) (records : Records) (swept : List MachineName) (work : Work) : Type 0 where
+pub record CanChoose (m : Moment) (n : ℕ) (records : Records) (swept : List MachineName)
+    (work : Work) : Type 0 where
   -- what is left of the task
   pub task_is : work.task ≡ n
   pub pings : LineStands (m.known.task n).to_ping (λ i. not ((m.known.task n).pinged i)) (idle_at m) work.pings
   pub obsolete : LineStands (m.known.task n).obsolete (λ i. not ((m.known.task n).gone i)) (idle_at m) work.obsolete
-  pub disks : LineStands (m.known.task n).disks (λ d. is_some (m.known.orphan d)) (λ d. is_idle m (Disk d)) work.disks
+  pub disks : LineStands (m.known.task n).disks (λ d. is_some (m.known.orphan d))
+      (λ d. is_idle m (Disk d)) work.disks
   pub sweep :
       LineStands swept (λ name. is_some (m.known.slot name.task name.slot))
       (λ name. is_idle m (Compile name.task name.slot)) work.sweep
@@ -79,7 +82,8 @@ pub record CanChoose (m : Moment) (n : ℕ) (records : Records) (swept : List Ma
   pub asked : (i : Inst) → is_to_ping (m.known.task n) i ≡ true → is_some (m.known.row i).vm ≡ true
   pub have_machines : (i : Inst) → has_its_machine (m.known.row i) ≡ true
   pub sweep_calls : (t s : ℕ) → is_some (m.known.slot t s) ≡ true → is_some (sweep_call (m.known.slot t s)) ≡ true
-  pub orphan_numbers : (d : ℕ) → option_map (λ it. it.disk) (m.known.orphan d) ≡ option_map (λ it. d) (m.known.orphan d)
+  pub orphan_numbers : (d : ℕ) → option_map (λ it. it.disk) (m.known.orphan d)
+      ≡ option_map (λ it. d) (m.known.orphan d)
   -- .. and of its compile machines
   pub listed : (name : SlotName) (k : ℕ) → slice_get m.known.machines k ≡ Some name →
       is_some (m.known.slot name.task name.slot) ≡ true

@@ -1,6 +1,7 @@
 -- What the groups of a task stand for: its changed instances by their groups, in order, with how far the update of each
 -- has come, and which of those that began have no open call.
-use Rattle.std.specs.Prelude.{◌≡◌, ℕ, Bool, true, not, ◌==◌, ◌&&◌, ◌||◌, suc, Option, Some, None, List, [], ◌∷◌, filter, find, map}
+use Rattle.std.specs.Prelude.{◌≡◌, ℕ, Bool, true, not, ◌==◌, ◌&&◌, ◌||◌, suc, Option, Some, None, List, [], ◌∷◌}
+use Rattle.std.specs.Prelude.{filter, find, map}
 use Rattle.std.specs.Option.{option_and_then}
 use Rattle.std.specs.Str.{bytes_eq}
 use Rattle.bosh_base.specs.declared.failure.Failure.{Failure}
@@ -80,9 +81,11 @@ both_places group place = None
 
 abbrev pub change_place : List Inst → Inst → Option GroupPlace
 change_place changed i =
-    both_places (place_of bytes_eq i.group (names_of changed)) (place_of same_inst i (filter (λ it. bytes_eq it.group i.group) changed))
+    both_places (place_of bytes_eq i.group (names_of changed))
+    (place_of same_inst i (filter (λ it. bytes_eq it.group i.group) changed))
 
 -- a task that has come further
-abbrev pub gone_on : Task → (Inst → Bool) → (Inst → Upd) → (Inst → Bool) → Option Failure → Option ℕ → Option TaskEnd → Task
+abbrev pub gone_on : Task → (Inst → Bool) → (Inst → Upd) → (Inst → Bool) → Option Failure → Option ℕ
+    → Option TaskEnd → Task
 gone_on t pinged upd gone failed calls end =
     record t { pinged = pinged; upd = upd; gone = gone; failed = failed; calls = calls; end = end }

@@ -1,12 +1,11 @@
 -- What is read from all that records say, each at one subject.
-use Rattle.std.specs.Prelude.{ℕ, Bool, false, List, Option, is_some, slice_get}
+use Rattle.std.specs.Prelude.{ℕ, Bool, false, List, Option, is_some}
 use Rattle.std.specs.Option.{option_and_then, option_map, option_map_or}
 use Rattle.std.specs.Ordering.{nat_cmp}
 use Rattle.bosh_base.specs.Inst.{inst_cmp}
 use Rattle.bosh_base.specs.declared.digest.Digest.{Digest}
 use Rattle.bosh_base.specs.declared.entry.Begin.{Begin}
 use Rattle.bosh_base.specs.declared.goal.Goal.{Goal}
-use Rattle.bosh_base.specs.declared.goal.GoalRow.{GoalRow}
 use Rattle.bosh_base.specs.declared.inst.Inst.{Inst}
 use Rattle.bosh_base.specs.declared.key.Key.{Key}
 use Rattle.bosh_base.specs.declared.row.Row.{Row}

@@ -1,6 +1,7 @@
 -- What is recorded stands for what was told: table by table, each at one subject. The lists in order, of which a snapshot
 -- is made, follow: both sides are in strict order, and have the same members.
-use Rattle.std.specs.Prelude.{◌≡◌, ℕ, Bool, true, false, ◌&&◌, ◌<◌, nat_le, List, Option, Some, None, filter, find, is_some, map}
+use Rattle.std.specs.Prelude.{◌≡◌, ℕ, true, false, ◌&&◌, ◌<◌, nat_le, List, Option, Some, None, filter, find}
+use Rattle.std.specs.Prelude.{is_some, map}
 use Rattle.std.specs.Prelude.{if◌then◌else◌}
 use Rattle.std.specs.List.{filter_map, list_any}
 use Rattle.std.specs.Option.{option_and_then, option_map}
@@ -32,7 +33,8 @@ use Rattle.laws_stands.specs.WorkStands.{StandsFor}
 
 -- the number of an owner's open call
 abbrev pub call_of : Told → Owner → Option ℕ
-call_of told owner = find (λ n. holds (λ b. same_owner owner b.owner) (told.calls n)) (numbers_to told.known.last_call)
+call_of told owner = find (λ n. holds (λ b. same_owner owner b.owner) (told.calls n))
+    (numbers_to told.known.last_call)
 
 -- the place of a key among those of a task's goal
 abbrev pub key_place : Known → ℕ → Option Key → Option ℕ

@@ -1,5 +1,6 @@
 -- What the work of an open task stands for.
-use Rattle.std.specs.Prelude.{Option, Bool, ◌≡◌, ℕ, not, ◌==◌, ◌&&◌, List, None, is_some, true, false, count_by, length, map}
+use Rattle.std.specs.Prelude.{Option, Bool, ◌≡◌, ℕ, not, ◌==◌, ◌&&◌, List, None, is_some, true, false, count_by}
+use Rattle.std.specs.Prelude.{length, map}
 use Rattle.std.specs.List.{list_any}
 use Rattle.std.specs.Option.{option_map}
 use Rattle.bosh_base.specs.Cloud.{numbers_to}

@@ -12,6 +12,7 @@ ghost use Rattle.laws_stands.specs.LineStands.{LineStands};
 pub fn a_line_has_its_first_item()
     ensures first { (items : List Inst) (left idle : Inst → Bool) (line : Line Inst) → LineStands items left idle line
         → first_of line ≡ find (λ x. left x && idle x) items }
-    ensures finished { (items : List Inst) (left idle : Inst → Bool) (line : Line Inst) → LineStands items left idle line
+    ensures finished { (items : List Inst) (left idle : Inst → Bool) (line : Line Inst)
+        → LineStands items left idle line
         → is_finished line.queue ≡ not (list_any left items) }
 {}

@@ -9,5 +9,6 @@ ghost use Rattle.laws_stands.specs.Linked.{IsLinked};
 
 /// The want of an instance is the one that the current goal of its deployment has.
 pub fn wants_are_found()
-    ensures { (records : Records) (i : Inst) → IsLinked (recorded records) → want_of records i ≡ want_in (goal_of records i.dep) i }
+    ensures { (records : Records) (i : Inst) → IsLinked (recorded records) → want_of records i
+        ≡ want_in (goal_of records i.dep) i }
 {}

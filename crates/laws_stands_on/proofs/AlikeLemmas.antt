@@ -1,8 +1,8 @@
 -- What is recorded stands also with room for more: what says nothing is read as nothing.
-use Rattle.std.proofs.Common.{◌≡◌, ◌∙◌, ℕ, ◌<◌, Bool, true, false, ◌&&◌, not, List, [], ◌∷◌, filter, Option, Some, None, ap, refl, sym, subst}
-use Rattle.std.specs.Prelude.{cond, eqb, find, is_none, is_some, option_map, if◌then◌else◌}
+use Rattle.std.proofs.Common.{◌≡◌, ◌∙◌, ℕ, Bool, true, false, not, List, [], ◌∷◌, filter, Option, Some}
+use Rattle.std.proofs.Common.{None, ap, refl, sym, subst}
+use Rattle.std.specs.Prelude.{cond, find, is_none, is_some, option_map, if◌then◌else◌}
 use Rattle.std.specs.BTreeMap.{is_at}
-use Rattle.std.specs.List.{filter_map}
 use Rattle.std.specs.Option.{option_and_then, option_map_or}
 use Rattle.std.specs.Ordering.{nat_cmp}
 use Rattle.std.specs.Str.{bytes_eq}
@@ -15,8 +15,9 @@ use Rattle.bosh_base.specs.declared.snapshot.DepRow.{DepRow}
 use Rattle.bosh_base.specs.declared.task.TaskRow.{TaskRow}
 use Rattle.bosh_records.specs.Keys.{key_cmp}
 use Rattle.bosh_records.specs.Places.{part_of}
-use Rattle.bosh_records.specs.Readers.{deployment_in, machine_cmp}
-use Rattle.bosh_records.specs.Recorded.{Recorded, is_only_asked, is_unknown, kept, known_instances, known_keys, taken_places}
+use Rattle.bosh_records.specs.Readers.{machine_cmp}
+use Rattle.bosh_records.specs.Recorded.{Recorded, is_only_asked, is_unknown, kept}
+use Rattle.bosh_records.specs.Recorded.{taken_places}
 use Rattle.bosh_records.specs.Table.{found, thing_in, things}
 use Rattle.bosh_records.specs.declared.instances.Instance.{Instance}
 use Rattle.bosh_records.specs.declared.keys.KeyState.{KeyState}
@@ -36,28 +37,39 @@ not_true true is = refl
 not_true false is = absurd (true≢false is)
 
 -- what an entry that is left out says is nothing, so leaving it out changes nothing that is read
-reads_kept : {K X Y : Type 0} (cmp : K → K → Ordering) (tells : TellsKeys cmp) (keep : K × X → Bool) (read : X → Option Y)
+reads_kept : {K X Y : Type 0} (cmp : K → K → Ordering) (tells : TellsKeys cmp) (keep : K × X → Bool) (read : X
+    → Option Y)
     → ((e : K × X) → keep e ≡ false → read e.1 ≡ None) → (es : List (K × X)) → IsOnce cmp es → (k : K)
     → option_and_then read (found cmp (filter keep es) k) ≡ option_and_then read (found cmp es k)
 reads_kept cmp tells keep read silent [] once k = refl
-reads_kept cmp tells keep read silent (e ∷ es) (none, once) k = by (keep e) (is_at (cmp k) e.0) refl refl (reads_kept cmp tells keep read silent es once k)
+reads_kept cmp tells keep read silent (e ∷ es) (none, once) k = by (keep e) (is_at (cmp k) e.0) refl refl
+    (reads_kept cmp tells keep read silent es once k)
   where
     by : (b c : Bool) → keep e ≡ b → is_at (cmp k) e.0 ≡ c
         → option_and_then read (found cmp (filter keep es) k) ≡ option_and_then read (found cmp es k)
-        → option_and_then read (found cmp (if b then e ∷ filter keep es else filter keep es) k) ≡ option_and_then read (cond (is_at (cmp k) e.0) (Some e.1) (found cmp es k))
-    by true true stays here more = (λ i. option_and_then read (cond (here i) (Some e.1) (found cmp (filter keep es) k))) ∙ (λ i. option_and_then read (cond (sym here i) (Some e.1) (found cmp es k)))
-    by true false stays here more = (λ i. option_and_then read (cond (here i) (Some e.1) (found cmp (filter keep es) k))) ∙ more ∙ (λ i. option_and_then read (cond (sym here i) (Some e.1) (found cmp es k)))
-    by false true goes here more =
-        more ∙ ap (λ q. option_and_then read (found cmp es q)) (tells k e.0 here) ∙ ap (option_and_then read) none ∙ sym (silent e goes)
+        → option_and_then read (found cmp (if b then e ∷ filter keep es else filter keep es) k)
+        ≡ option_and_then read (cond (is_at (cmp k) e.0) (Some e.1) (found cmp es k))
+    by true true stays here more =
+        (λ i. option_and_then read (cond (here i) (Some e.1) (found cmp (filter keep es) k)))
         ∙ (λ i. option_and_then read (cond (sym here i) (Some e.1) (found cmp es k)))
-    by false false goes here more = more ∙ (λ i. option_and_then read (cond (sym here i) (Some e.1) (found cmp es k)))
+    by true false stays here more =
+        (λ i. option_and_then read (cond (here i) (Some e.1) (found cmp (filter keep es) k))) ∙ more
+        ∙ (λ i. option_and_then read (cond (sym here i) (Some e.1) (found cmp es k)))
+    by false true goes here more =
+        more ∙ ap (λ q. option_and_then read (found cmp es q)) (tells k e.0 here) ∙ ap (option_and_then read) none
+        ∙ sym (silent e goes)
+        ∙ (λ i. option_and_then read (cond (sym here i) (Some e.1) (found cmp es k)))
+    by false false goes here more = more
+        ∙ (λ i. option_and_then read (cond (sym here i) (Some e.1) (found cmp es k)))
 
 -- the things of a table stand in places that are taken
 things_kept : {K V : Type 0} (places : List (K × Option V)) → things (taken_places places) ≡ things places
 things_kept [] = refl
 things_kept ((k, o) ∷ places) = by o (things_kept places)
   where
-    by : (o : Option _) → things (taken_places places) ≡ things places → things (if is_some o then (k, o) ∷ taken_places places else taken_places places) ≡ things ((k, o) ∷ places)
+    by : (o : Option _) → things (taken_places places) ≡ things places
+        → things (if is_some o then (k, o) ∷ taken_places places else taken_places places)
+        ≡ things ((k, o) ∷ places)
     by (Some v) more = ap (λ vs. v ∷ vs) more
     by None more = more
 
@@ -94,10 +106,13 @@ unknown_says it is =
       change = none_is it.part.change change;
     }
 
-module _ (told : Told) (was now : Recorded) (once : AreOnce was) (once_now : AreOnce now) (alike : kept now ≡ kept was) where
+module _ (told : Told) (was now : Recorded) (once : AreOnce was) (once_now : AreOnce now) (alike : kept now
+    ≡ kept was) where
   -- a table of places
-  places_same : {K V : Type 0} (cmp : K → K → Ordering) (tells : TellsKeys cmp) (table : Recorded → List (K × Option V))
-      → IsOnce cmp (table was) → IsOnce cmp (table now) → taken_places (table now) ≡ taken_places (table was) → (k : K)
+  places_same : {K V : Type 0} (cmp : K → K → Ordering) (tells : TellsKeys cmp) (table : Recorded
+      → List (K × Option V))
+      → IsOnce cmp (table was) → IsOnce cmp (table now) → taken_places (table now) ≡ taken_places (table was)
+      → (k : K)
       → thing_in cmp (table now) k ≡ thing_in cmp (table was) k
   places_same cmp tells table its its_now same k =
       sym (reads_kept cmp tells (λ place. is_some place.1) (λ o. o) free_says (table now) its_now k)
@@ -105,59 +120,77 @@ module _ (told : Told) (was now : Recorded) (once : AreOnce was) (once_now : Are
       ∙ reads_kept cmp tells (λ place. is_some place.1) (λ o. o) free_says (table was) its k
 
   machine_same : (name : MachineName) → reading.machine_of now name ≡ reading.machine_of was name
-  machine_same = places_same machine_cmp machine_keys (λ it. it.machines) once.machines once_now.machines (ap (λ (it : Recorded). it.machines) alike)
+  machine_same = places_same machine_cmp machine_keys (λ it. it.machines) once.machines once_now.machines
+      (ap (λ (it : Recorded). it.machines) alike)
 
   orphan_same : (d : ℕ) → reading.orphan_of now d ≡ reading.orphan_of was d
-  orphan_same = places_same nat_cmp nat_keys (λ it. it.orphans) once.orphans once_now.orphans (ap (λ (it : Recorded). it.orphans) alike)
+  orphan_same = places_same nat_cmp nat_keys (λ it. it.orphans) once.orphans once_now.orphans
+      (ap (λ (it : Recorded). it.orphans) alike)
 
   task_same : (t : ℕ) → reading.task_of now t ≡ reading.task_of was t
-  task_same = places_same nat_cmp nat_keys (λ it. it.tasks) once.tasks once_now.tasks (ap (λ (it : Recorded). it.tasks) alike)
+  task_same = places_same nat_cmp nat_keys (λ it. it.tasks) once.tasks once_now.tasks
+      (ap (λ (it : Recorded). it.tasks) alike)
 
   work_same : (t : ℕ) → reading.work_of now t ≡ reading.work_of was t
-  work_same = places_same nat_cmp nat_keys (λ it. it.works) once.works once_now.works (ap (λ (it : Recorded). it.works) alike)
+  work_same = places_same nat_cmp nat_keys (λ it. it.works) once.works once_now.works
+      (ap (λ (it : Recorded). it.works) alike)
 
   call_same : (n : ℕ) → reading.call_of now n ≡ reading.call_of was n
-  call_same = places_same nat_cmp nat_keys (λ it. it.calls) once.calls once_now.calls (ap (λ (it : Recorded). it.calls) alike)
+  call_same = places_same nat_cmp nat_keys (λ it. it.calls) once.calls once_now.calls
+      (ap (λ (it : Recorded). it.calls) alike)
 
   dep_same : (t : ℕ) → reading.dep_of now t ≡ reading.dep_of was t
   dep_same t = ap (option_and_then (λ (row : TaskRow). row.dep)) (task_same t)
 
   -- what is read of an instance
-  instance_same : {Y : Type 0} (read : Instance → Option Y) → ((it : Instance) → SaysNothing it → read it ≡ None) → (i : Inst)
+  instance_same : {Y : Type 0} (read : Instance → Option Y) → ((it : Instance) → SaysNothing it → read it ≡ None)
+      → (i : Inst)
       → option_and_then read (reading.instance_of now i) ≡ option_and_then read (reading.instance_of was i)
   instance_same read silent i =
-      sym (reads_kept inst_cmp inst_keys (λ entry. not (is_unknown entry.1)) read (λ e is. silent e.1 (unknown_says e.1 is)) now.instances once_now.instances i)
+      sym (reads_kept inst_cmp inst_keys (λ entry. not (is_unknown entry.1)) read
+      (λ e is. silent e.1 (unknown_says e.1 is)) now.instances once_now.instances i)
       ∙ ap (λ (it : Recorded). option_and_then read (found inst_cmp it.instances i)) alike
-      ∙ reads_kept inst_cmp inst_keys (λ entry. not (is_unknown entry.1)) read (λ e is. silent e.1 (unknown_says e.1 is)) was.instances once.instances i
+      ∙ reads_kept inst_cmp inst_keys (λ entry. not (is_unknown entry.1)) read
+      (λ e is. silent e.1 (unknown_says e.1 is)) was.instances once.instances i
 
-  part_same : {Y : Type 0} (read : Part → Option Y) → read no_part ≡ None → ((it : Instance) → SaysNothing it → read it.part ≡ None) → (i : Inst)
+  part_same : {Y : Type 0} (read : Part → Option Y) → read no_part ≡ None
+      → ((it : Instance) → SaysNothing it → read it.part ≡ None) → (i : Inst)
       → read (part_of now i) ≡ read (part_of was i)
-  part_same read none silent i = of (reading.instance_of now i) ∙ instance_same (λ it. read it.part) silent i ∙ sym (of (reading.instance_of was i))
+  part_same read none silent i = of (reading.instance_of now i) ∙ instance_same (λ it. read it.part) silent i
+      ∙ sym (of (reading.instance_of was i))
     where
-      of : (o : Option Instance) → read (option_map_or (λ known. known.part) o no_part) ≡ option_and_then (λ it. read it.part) o
+      of : (o : Option Instance) → read (option_map_or (λ known. known.part) o no_part)
+          ≡ option_and_then (λ it. read it.part) o
       of (Some it) = refl
       of None = none
 
   -- what is read of a key
-  state_same : {Y : Type 0} (read : KeyState → Option Y) → ((it : KeyState) → is_only_asked it ≡ true → read it ≡ None) → (key : Key)
+  state_same : {Y : Type 0} (read : KeyState → Option Y) → ((it : KeyState) → is_only_asked it ≡ true → read it
+      ≡ None) → (key : Key)
       → option_and_then read (reading.state_of now key) ≡ option_and_then read (reading.state_of was key)
   state_same read silent key =
-      sym (reads_kept key_cmp key_keys (λ entry. not (is_only_asked entry.1)) read (λ e is. silent e.1 (not_true (is_only_asked e.1) is)) now.keys once_now.keys key)
+      sym (reads_kept key_cmp key_keys (λ entry. not (is_only_asked entry.1)) read
+      (λ e is. silent e.1 (not_true (is_only_asked e.1) is)) now.keys once_now.keys key)
       ∙ ap (λ (it : Recorded). option_and_then read (found key_cmp it.keys key)) alike
-      ∙ reads_kept key_cmp key_keys (λ entry. not (is_only_asked entry.1)) read (λ e is. silent e.1 (not_true (is_only_asked e.1) is)) was.keys once.keys key
+      ∙ reads_kept key_cmp key_keys (λ entry. not (is_only_asked entry.1)) read
+      (λ e is. silent e.1 (not_true (is_only_asked e.1) is)) was.keys once.keys key
 
   compiling_same : (key : Key) → reading.is_compiling now key ≡ reading.is_compiling was key
   compiling_same key =
       of (reading.state_of now key)
-      ∙ ap is_some (state_same (λ it. it.call) (λ it is. none_is it.call (and_parts (is_none it.digest) (is_none it.call) is).1) key)
+      ∙ ap is_some
+      (state_same (λ it. it.call)
+      (λ it is. none_is it.call (and_parts (is_none it.digest) (is_none it.call) is).1) key)
       ∙ sym (of (reading.state_of was key))
     where
-      of : (o : Option KeyState) → option_map_or (λ state. is_some state.call) o false ≡ is_some (option_and_then (λ it. it.call) o)
+      of : (o : Option KeyState) → option_map_or (λ state. is_some state.call) o false
+          ≡ is_some (option_and_then (λ it. it.call) o)
       of (Some it) = refl
       of None = refl
 
   things_same : things now.deployments ≡ things was.deployments
-  things_same = sym (things_kept now.deployments) ∙ ap (λ (it : Recorded). things it.deployments) alike ∙ things_kept was.deployments
+  things_same = sym (things_kept now.deployments) ∙ ap (λ (it : Recorded). things it.deployments) alike
+      ∙ things_kept was.deployments
 
   pub alike_stands : StandsIn told was → StandsIn told now
   alike_stands stands = record {
@@ -166,11 +199,15 @@ module _ (told : Told) (was now : Recorded) (once : AreOnce was) (once_now : Are
     rows = λ i. instance_same (λ it. it.row) (λ it says. says.row) i ∙ stands.rows i;
     row_calls = λ i. instance_same (λ it. it.call) (λ it says. says.call) i ∙ stands.row_calls i;
     machines = λ name. ap (option_map (λ machine. machine.row)) (machine_same name) ∙ stands.machines name;
-    machine_keys = λ name. ap (option_and_then (λ machine. machine.key)) (machine_same name) ∙ stands.machine_keys name;
-    machine_calls = λ name. ap (option_and_then (λ machine. machine.call)) (machine_same name) ∙ stands.machine_calls name;
+    machine_keys = λ name. ap (option_and_then (λ machine. machine.key)) (machine_same name)
+        ∙ stands.machine_keys name;
+    machine_calls = λ name. ap (option_and_then (λ machine. machine.call)) (machine_same name)
+        ∙ stands.machine_calls name;
     orphans = λ d. ap (option_map (λ loose. loose.orphan)) (orphan_same d) ∙ stands.orphans d;
     orphan_calls = λ d. ap (option_and_then (λ loose. loose.call)) (orphan_same d) ∙ stands.orphan_calls d;
-    digests = λ key. state_same (λ it. it.digest) (λ it is. none_is it.digest (and_parts (is_none it.digest) (is_none it.call) is).0) key ∙ stands.digests key;
+    digests = λ key. state_same (λ it. it.digest)
+        (λ it is. none_is it.digest (and_parts (is_none it.digest) (is_none it.call) is).0) key
+        ∙ stands.digests key;
     compiling = λ key. compiling_same key ∙ stands.compiling key;
     tasks = λ t. task_same t ∙ stands.tasks t;
     calls = λ n. call_same n ∙ stands.calls n;
@@ -185,12 +222,16 @@ module _ (told : Told) (was now : Recorded) (once : AreOnce was) (once_now : Are
       changes = λ t w i is dep. part_same (λ part. part.change) refl (λ it says. says.change) i
           ∙ stands.linked.changes t w i (sym (work_same t) ∙ is) (sym (dep_same t) ∙ dep);
       sweeps = λ t w name machine is there dep.
-          stands.linked.sweeps t w name machine (sym (work_same t) ∙ is) (sym (machine_same name) ∙ there) (sym (dep_same t) ∙ dep);
+          stands.linked.sweeps t w name machine (sym (work_same t) ∙ is) (sym (machine_same name) ∙ there)
+          (sym (dep_same t) ∙ dep);
       deletions = λ t w d loose is there dep.
-          stands.linked.deletions t w d loose (sym (work_same t) ∙ is) (sym (orphan_same d) ∙ there) (sym (dep_same t) ∙ dep);
+          stands.linked.deletions t w d loose (sym (work_same t) ∙ is) (sym (orphan_same d) ∙ there)
+          (sym (dep_same t) ∙ dep);
     };
     tells_well = stands.tells_well;
   }
     where
       goal_in : (i : Inst) → reading.goal_of was i.dep ≡ reading.goal_of now i.dep
-      goal_in i = ap (λ rows. option_map (λ (row : DepRow). row.goal) (find (λ (row : DepRow). bytes_eq row.dep i.dep) rows)) (sym things_same)
+      goal_in i =
+          ap (λ rows. option_map (λ (row : DepRow). row.goal)
+          (find (λ (row : DepRow). bytes_eq row.dep i.dep) rows)) (sym things_same)

@@ -1,9 +1,10 @@
 -- A call of an instance begins.
-use Rattle.std.proofs.Common.{◌≡◌, ◌∙◌, ℕ, ◌+◌, ◌<◌, ◌≤◌, suc, Bool, true, false, ◌&&◌, ◌||◌, not, List, [], ◌∷◌, ◌==◌, filter, map, Option, Some, None, add-one, ap, refl, sym, subst, arith}
+use Rattle.std.proofs.Common.{◌≡◌, ◌∙◌, ℕ, ◌+◌, ◌<◌, ◌≤◌, suc, Bool, true, false, ◌&&◌, ◌||◌, not, List}
+use Rattle.std.proofs.Common.{◌==◌, filter, map, Option, Some, None, add-one, ap, refl, sym, subst, arith}
 use Rattle.std.specs.Prelude.{cond, count_by, eqb, is_some, min, nat_le, slice_get, if◌then◌else◌}
 use Rattle.std.specs.Option.{option_and_then, option_map, option_map_or, option_or, unwrap_or}
 use Rattle.std.specs.Ordering.{nat_cmp}
-use Rattle.std.proofs.lemmas.Bool.{eq-eqb, eqb-true, false≢true, ne_eqb, or_parts}
+use Rattle.std.proofs.lemmas.Bool.{eq-eqb, eqb-true, false≢true, ne_eqb}
 use Rattle.std.proofs.lemmas.List.Sums.{sum_by_push}
 use Rattle.bosh_base.specs.Cloud.{numbers_to}
 use Rattle.bosh_base.specs.Inst.{inst_cmp}
@@ -19,11 +20,11 @@ use Rattle.bosh_base.specs.declared.key.KeyWork.{KeyWork}
 use Rattle.bosh_base.specs.declared.owner.Owner.{Owner}
 use Rattle.bosh_base.specs.declared.owner.Owner.TheVariants.{Compile, Disk, Instance}
 use Rattle.bosh_base.specs.declared.row.Row.{Row}
-use Rattle.bosh_base.specs.declared.task.TaskEnd.{TaskEnd}
 use Rattle.bosh_base.specs.declared.task.TaskRow.{TaskRow}
 use Rattle.bosh_compile.proofs.KeyLemmas.{same_key_decides}
 use Rattle.bosh_compile.specs.Readiness.{same_key}
-use Rattle.bosh_fold.specs.Calls.{counted, noted_call, opened_call, taken_by, with_call, with_compiling, with_row, with_subject}
+use Rattle.bosh_fold.specs.Calls.{counted, noted_call, opened_call, taken_by, with_call, with_compiling, with_row}
+use Rattle.bosh_fold.specs.Calls.{with_subject}
 use Rattle.bosh_history.specs.Calls.{number_of, task_with_call}
 use Rattle.bosh_history.specs.Held.{is_open}
 use Rattle.bosh_history.specs.Goals.{is_waiting}
@@ -37,13 +38,11 @@ use Rattle.bosh_history.specs.Tasks.{end_by}
 use Rattle.bosh_history.specs.Words.{at, holds, inserted, is_among}
 use Rattle.bosh_plan.specs.declared.beginning.Subject.TheVariants as subjects
 use Rattle.bosh_progress.specs.Tree.{first_marked}
-use Rattle.bosh_records.specs.Arrivals.{Arrivals}
 use Rattle.bosh_records.specs.Changes.{with_one_call}
 use Rattle.bosh_records.specs.Places.{part_of, places_in}
 use Rattle.bosh_records.specs.Recorded.{Recorded}
 use Rattle.bosh_records.specs.Table.{altered, found}
 use Rattle.bosh_records.specs.declared.instances.Instance as instances
-use Rattle.bosh_rows.proofs.SameLemmas.{itself}
 use Rattle.bosh_rows.specs.After.{bare, begun_row}
 use Rattle.bosh_rows.specs.Same.{same_inst, same_owner}
 use Rattle.bosh_work.specs.Line.{taken_line}
@@ -51,12 +50,11 @@ use Rattle.bosh_work.specs.Part.{no_part}
 use Rattle.bosh_work.specs.declared.line.Line.{Line}
 use Rattle.bosh_work.specs.Work.{taken}
 use Rattle.bosh_work.specs.declared.part.MachineName.{MachineName}
-use Rattle.bosh_work.specs.declared.part.Part.{Part}
 use Rattle.bosh_work.specs.declared.part.Places.{Places}
 use Rattle.bosh_work.specs.declared.work.Work.{Work}
 use Rattle.laws_facts.proofs.InstanceLemmas.{inst_equal}
 use Rattle.laws_facts.proofs.OrderLemmas.{any_inserted}
-use Rattle.laws_stands.proofs.GroupLemmas.{inst_is}
+use Rattle.laws_stands.proofs.MemberLemmas.{inst_is}
 use Rattle.laws_stands.proofs.PremiseLemmas.{none_at}
 use Rattle.laws_stands.specs.GroupsStand.{change_place}
 use Rattle.laws_stands.specs.LineStands.{place_of}
@@ -87,10 +85,12 @@ takes_same w places = record {
 }
 
 -- a call that compiles nothing leaves the keys as they are
-pub compiles_itself : (vm : ℕ) (work : KeyWork) (deps : List Digest) → ((key : Key) → compiles key (CompilePackage vm work deps) ≡ false) → ⊥
+pub compiles_itself : (vm : ℕ) (work : KeyWork) (deps : List Digest)
+    → ((key : Key) → compiles key (CompilePackage vm work deps) ≡ false) → ⊥
 compiles_itself vm work deps none = false≢true (sym (none work.key) ∙ (same_key_decides work.key work.key).1 refl)
 
-pub none_compiled : (call : Call) (o : Option ℕ) (it : Recorded) → ((key : Key) → compiles key call ≡ false) → with_compiling call o it ≡ it
+pub none_compiled : (call : Call) (o : Option ℕ) (it : Recorded) → ((key : Key) → compiles key call ≡ false)
+    → with_compiling call o it ≡ it
 none_compiled (CompilePackage vm work deps) o it none = absurd (compiles_itself vm work deps none)
 none_compiled call o it none = refl
 
@@ -123,30 +123,39 @@ module _ (told : Told) (it : Recorded) (n number worker : ℕ) (call : Call) (i 
   -- ---- the instance
 
   row_is : row ≡ begun_row number call (k.row i)
-  row_is = ap (begun_row number call) (ap (λ o. unwrap_or o (bare i)) (stands.rows i) ∙ by (is_among same_inst i k.instances) refl)
+  row_is = ap (begun_row number call) (ap (λ o. unwrap_or o (bare i)) (stands.rows i)
+      ∙ by (is_among same_inst i k.instances) refl)
     where
-      by : (b : Bool) → is_among same_inst i k.instances ≡ b → unwrap_or (if b then Some (k.row i) else None) (bare i) ≡ k.row i
+      by : (b : Bool) → is_among same_inst i k.instances ≡ b → unwrap_or (if b then Some (k.row i) else None)
+          (bare i) ≡ k.row i
       by true is = refl
       by false out = sym (allows.bare_row out)
 
   own_row : row.inst ≡ i
   own_row = ap (λ (row : Row). row.inst) row_is ∙ allows.own_row
 
-  instance_is : (x : Inst) → instance_of begun x ≡ (if same_inst i x then option_map said (instance_of it x) else instance_of it x)
+  instance_is : (x : Inst) → instance_of begun x
+      ≡ (if same_inst i x then option_map said (instance_of it x) else instance_of it x)
   instance_is x =
-      found_altered inst_cmp inst_keys i (λ known. record known { call = Some number }) (altered inst_cmp row.inst (λ known. record known { row = Some row }) it.instances) x
-      ∙ (λ j. if inst_at i x j then option_map (λ (known : instances.Instance). record known { call = Some number }) (inner j) else inner j)
+      found_altered inst_cmp inst_keys i (λ known. record known { call = Some number })
+      (altered inst_cmp row.inst (λ known. record known { row = Some row }) it.instances) x
+      ∙ (λ j. if inst_at i x j then option_map (λ (known : instances.Instance). record known { call = Some number })
+      (inner j) else inner j)
       ∙ by (same_inst i x) (instance_of it x)
     where
       inner : found inst_cmp (altered inst_cmp row.inst (λ known. record known { row = Some row }) it.instances) x
-          ≡ (if same_inst i x then option_map (λ (known : instances.Instance). record known { row = Some row }) (instance_of it x) else instance_of it x)
+          ≡ (if same_inst i x then option_map (λ (known : instances.Instance). record known { row = Some row })
+          (instance_of it x) else instance_of it x)
       inner =
-          (λ j. found inst_cmp (altered inst_cmp (own_row j) (λ known. record known { row = Some row }) it.instances) x)
+          (λ j. found inst_cmp
+          (altered inst_cmp (own_row j) (λ known. record known { row = Some row }) it.instances) x)
           ∙ found_altered inst_cmp inst_keys i (λ known. record known { row = Some row }) it.instances x
-          ∙ (λ j. if inst_at i x j then option_map (λ (known : instances.Instance). record known { row = Some row }) (instance_of it x) else instance_of it x)
+          ∙ (λ j. if inst_at i x j then option_map (λ (known : instances.Instance). record known { row = Some row })
+          (instance_of it x) else instance_of it x)
 
       by : (b : Bool) (o : Option instances.Instance)
-          → (if b then option_map (λ (known : instances.Instance). record known { call = Some number }) (if b then option_map (λ (known : instances.Instance). record known { row = Some row }) o else o)
+          → (if b then option_map (λ (known : instances.Instance). record known { call = Some number })
+          (if b then option_map (λ (known : instances.Instance). record known { row = Some row }) o else o)
           else (if b then option_map (λ (known : instances.Instance). record known { row = Some row }) o else o))
           ≡ (if b then option_map said o else o)
       by true (Some known) = refl
@@ -154,20 +163,24 @@ module _ (told : Told) (it : Recorded) (n number worker : ℕ) (call : Call) (i 
       by false o = refl
 
   -- what stays of an instance
-  kept_of : {X : Type 0} (read : instances.Instance → Option X) → ((known : instances.Instance) → read (said known) ≡ read known) → (x : Inst)
+  kept_of : {X : Type 0} (read : instances.Instance → Option X) → ((known : instances.Instance) → read (said known)
+      ≡ read known) → (x : Inst)
       → option_and_then read (instance_of begun x) ≡ option_and_then read (instance_of it x)
   kept_of read same x = ap (option_and_then read) (instance_is x) ∙ by (same_inst i x) (instance_of it x)
     where
-      by : (b : Bool) (o : Option instances.Instance) → option_and_then read (if b then option_map said o else o) ≡ option_and_then read o
+      by : (b : Bool) (o : Option instances.Instance) → option_and_then read (if b then option_map said o else o)
+          ≡ option_and_then read o
       by true (Some known) = same known
       by true None = refl
       by false o = refl
 
   part_is : (x : Inst) → part_of begun x ≡ part_of it x
-  part_is x = ap (λ o. option_map_or (λ (known : instances.Instance). known.part) o no_part) (instance_is x) ∙ by (same_inst i x) (instance_of it x)
+  part_is x = ap (λ o. option_map_or (λ (known : instances.Instance). known.part) o no_part) (instance_is x)
+      ∙ by (same_inst i x) (instance_of it x)
     where
       by : (b : Bool) (o : Option instances.Instance)
-          → option_map_or (λ (known : instances.Instance). known.part) (if b then option_map said o else o) no_part ≡ option_map_or (λ (known : instances.Instance). known.part) o no_part
+          → option_map_or (λ (known : instances.Instance). known.part) (if b then option_map said o else o) no_part
+          ≡ option_map_or (λ (known : instances.Instance). known.part) o no_part
       by true (Some known) = refl
       by true None = refl
       by false o = refl
@@ -175,32 +188,43 @@ module _ (told : Told) (it : Recorded) (n number worker : ℕ) (call : Call) (i 
   there : (x : Inst) → i ≡ x → is_some (instance_of it x) ≡ true
   there x same = ap (λ x. is_some (instance_of it x)) (sym same) ∙ room.instance
 
-  among_is : (x : Inst) → is_among same_inst x (inserted inst_cmp i k.instances) ≡ (same_inst x i || is_among same_inst x k.instances)
-  among_is x = any_inserted inst_cmp (same_inst x) (λ a b same. ap (same_inst x) (inst_equal a b same)) i k.instances
+  among_is : (x : Inst) → is_among same_inst x (inserted inst_cmp i k.instances)
+      ≡ (same_inst x i || is_among same_inst x k.instances)
+  among_is x = any_inserted inst_cmp (same_inst x) (λ a b same. ap (same_inst x) (inst_equal a b same)) i
+      k.instances
 
   rows : (x : Inst) → row_of begun x
-      ≡ (if is_among same_inst x (inserted inst_cmp i k.instances) then Some (at same_inst i (begun_row number call (k.row i)) k.row x) else None)
+      ≡ (if is_among same_inst x (inserted inst_cmp i k.instances)
+      then Some (at same_inst i (begun_row number call (k.row i)) k.row x) else None)
   rows x = ap (option_and_then (λ known. known.row)) (instance_is x) ∙ by (same_inst i x) refl
     where
-      own : (o : Option instances.Instance) → is_some o ≡ true → option_and_then (λ (known : instances.Instance). known.row) (option_map said o) ≡ Some row
+      own : (o : Option instances.Instance) → is_some o ≡ true
+          → option_and_then (λ (known : instances.Instance). known.row) (option_map said o) ≡ Some row
       own (Some known) is = refl
       own None is = absurd (false≢true is)
 
       by : (t : Bool) → same_inst i x ≡ t
-          → option_and_then (λ (known : instances.Instance). known.row) (if same_inst i x then option_map said (instance_of it x) else instance_of it x)
-          ≡ (if is_among same_inst x (inserted inst_cmp i k.instances) then Some (at same_inst i (begun_row number call (k.row i)) k.row x) else None)
+          → option_and_then (λ (known : instances.Instance). known.row)
+          (if same_inst i x then option_map said (instance_of it x) else instance_of it x)
+          ≡ (if is_among same_inst x (inserted inst_cmp i k.instances)
+          then Some (at same_inst i (begun_row number call (k.row i)) k.row x) else None)
       by true is =
-          (λ j. option_and_then (λ (known : instances.Instance). known.row) (if is j then option_map said (instance_of it x) else instance_of it x))
+          (λ j. option_and_then (λ (known : instances.Instance). known.row)
+          (if is j then option_map said (instance_of it x) else instance_of it x))
           ∙ own (instance_of it x) (there x (inst_is i x is)) ∙ ap Some row_is
-          ∙ (λ j. if sym (among_is x ∙ ap (λ t. t || is_among same_inst x k.instances) (inst_flip i x ∙ is)) j then Some (if sym is j then begun_row number call (k.row i) else k.row x) else None)
+          ∙ (λ j. if sym (among_is x ∙ ap (λ t. t || is_among same_inst x k.instances) (inst_flip i x ∙ is)) j
+          then Some (if sym is j then begun_row number call (k.row i) else k.row x) else None)
       by false other =
-          (λ j. option_and_then (λ (known : instances.Instance). known.row) (if other j then option_map said (instance_of it x) else instance_of it x))
+          (λ j. option_and_then (λ (known : instances.Instance). known.row)
+          (if other j then option_map said (instance_of it x) else instance_of it x))
           ∙ stands.rows x
-          ∙ (λ j. if sym (among_is x ∙ ap (λ t. t || is_among same_inst x k.instances) (inst_flip i x ∙ other)) j then Some (if sym other j then begun_row number call (k.row i) else k.row x) else None)
+          ∙ (λ j. if sym (among_is x ∙ ap (λ t. t || is_among same_inst x k.instances) (inst_flip i x ∙ other)) j
+          then Some (if sym other j then begun_row number call (k.row i) else k.row x) else None)
 
   -- ---- open calls
 
-  call_is : (owner : Owner) → call_of new owner ≡ option_or (call_of told owner) (if same_owner owner (Instance i) then Some number else None)
+  call_is : (owner : Owner) → call_of new owner ≡ option_or (call_of told owner) (if same_owner owner (Instance i)
+      then Some number else None)
   call_is owner = found_begun told b allows.next owner
 
   or_none : {X : Type 0} (o : Option X) → option_or o None ≡ o
@@ -208,49 +232,64 @@ module _ (told : Told) (it : Recorded) (n number worker : ℕ) (call : Call) (i 
   or_none None = refl
 
   row_calls : (x : Inst) → option_and_then (λ known. known.call) (instance_of begun x) ≡ call_of new (Instance x)
-  row_calls x = ap (option_and_then (λ known. known.call)) (instance_is x) ∙ by (same_inst i x) refl ∙ sym (call_is (Instance x))
+  row_calls x = ap (option_and_then (λ known. known.call)) (instance_is x) ∙ by (same_inst i x) refl
+      ∙ sym (call_is (Instance x))
     where
-      own : (o : Option instances.Instance) → is_some o ≡ true → option_and_then (λ (known : instances.Instance). known.call) (option_map said o) ≡ Some number
+      own : (o : Option instances.Instance) → is_some o ≡ true
+          → option_and_then (λ (known : instances.Instance). known.call) (option_map said o) ≡ Some number
       own (Some known) is = refl
       own None is = absurd (false≢true is)
 
       none_before : call_of told (Instance i) ≡ None
-      none_before = none_is_found (λ c. holds (λ (d : Begin). same_owner (Instance i) d.owner) (told.calls c)) (numbers_to k.last_call) allows.idle
+      none_before = none_is_found (λ c. holds (λ (d : Begin). same_owner (Instance i) d.owner) (told.calls c))
+          (numbers_to k.last_call) allows.idle
 
       by : (t : Bool) → same_inst i x ≡ t
-          → option_and_then (λ (known : instances.Instance). known.call) (if same_inst i x then option_map said (instance_of it x) else instance_of it x)
+          → option_and_then (λ (known : instances.Instance). known.call)
+          (if same_inst i x then option_map said (instance_of it x) else instance_of it x)
           ≡ option_or (call_of told (Instance x)) (if same_inst x i then Some number else None)
       by true is =
-          (λ j. option_and_then (λ (known : instances.Instance). known.call) (if is j then option_map said (instance_of it x) else instance_of it x))
+          (λ j. option_and_then (λ (known : instances.Instance). known.call)
+          (if is j then option_map said (instance_of it x) else instance_of it x))
           ∙ own (instance_of it x) (there x (inst_is i x is))
-          ∙ (λ j. option_or (sym (ap (λ x. call_of told (Instance x)) (sym (inst_is i x is)) ∙ none_before) j) (if sym (inst_flip i x ∙ is) j then Some number else None))
+          ∙ (λ j. option_or (sym (ap (λ x. call_of told (Instance x)) (sym (inst_is i x is)) ∙ none_before) j)
+          (if sym (inst_flip i x ∙ is) j then Some number else None))
       by false other =
-          (λ j. option_and_then (λ (known : instances.Instance). known.call) (if other j then option_map said (instance_of it x) else instance_of it x))
+          (λ j. option_and_then (λ (known : instances.Instance). known.call)
+          (if other j then option_map said (instance_of it x) else instance_of it x))
           ∙ stands.row_calls x ∙ sym (or_none (call_of told (Instance x)))
-          ∙ (λ j. option_or (call_of told (Instance x)) (if sym (inst_flip i x ∙ other) j then Some number else None))
+          ∙ (λ j. option_or (call_of told (Instance x)) (if sym (inst_flip i x ∙ other) j then Some number
+          else None))
 
   other_calls : (owner : Owner) → same_owner owner (Instance i) ≡ false → call_of new owner ≡ call_of told owner
-  other_calls owner other = call_is owner ∙ (λ j. option_or (call_of told owner) (if other j then Some number else None)) ∙ or_none (call_of told owner)
+  other_calls owner other = call_is owner
+      ∙ (λ j. option_or (call_of told owner) (if other j then Some number else None)) ∙ or_none (call_of told owner)
 
   calls : (c : ℕ) → recorded_call begun c ≡ at eqb number (Some b) told.calls c
   calls c =
       ap (option_and_then (λ place. place)) (found_altered nat_cmp nat_keys number (λ _. Some b) it.calls c)
-      ∙ (λ j. option_and_then (λ place. place) (if nat_at number c j then option_map (λ _. Some b) (found nat_cmp it.calls c) else found nat_cmp it.calls c))
+      ∙ (λ j. option_and_then (λ place. place) (if nat_at number c j then option_map (λ _. Some b)
+      (found nat_cmp it.calls c) else found nat_cmp it.calls c))
       ∙ by (eqb number c) refl
     where
-      own : (o : Option (Option Begin)) → is_some o ≡ true → option_and_then (λ place. place) (option_map (λ _. Some b) o) ≡ Some b
+      own : (o : Option (Option Begin)) → is_some o ≡ true
+          → option_and_then (λ place. place) (option_map (λ _. Some b) o) ≡ Some b
       own (Some place) is = refl
       own None is = absurd (false≢true is)
 
       by : (t : Bool) → eqb number c ≡ t
-          → option_and_then (λ place. place) (if t then option_map (λ _. Some b) (found nat_cmp it.calls c) else found nat_cmp it.calls c) ≡ (if t then Some b else told.calls c)
-      by true is = own (found nat_cmp it.calls c) (ap (λ c. is_some (found nat_cmp it.calls c)) (sym (eqb-true number c is)) ∙ room.call)
+          → option_and_then (λ place. place) (if t then option_map (λ _. Some b) (found nat_cmp it.calls c)
+          else found nat_cmp it.calls c) ≡ (if t then Some b else told.calls c)
+      by true is =
+          own (found nat_cmp it.calls c) (ap (λ c. is_some (found nat_cmp it.calls c)) (sym (eqb-true number c is))
+          ∙ room.call)
       by false other = stands.calls c
 
   -- ---- tasks
 
   -- what the count of its calls does not change in a task
-  task_same : {X : Type 0} (f : Task → X) → ((t : Task) → f (task_with_call t) ≡ f t) → (t : ℕ) → f (new.known.task t) ≡ f (k.task t)
+  task_same : {X : Type 0} (f : Task → X) → ((t : Task) → f (task_with_call t) ≡ f t) → (t : ℕ)
+      → f (new.known.task t) ≡ f (k.task t)
   task_same f same t = by (eqb n t) refl
     where
       by : (b : Bool) → eqb n t ≡ b → f (if b then task_with_call (k.task n) else k.task t) ≡ f (k.task t)
@@ -261,7 +300,9 @@ module _ (told : Told) (it : Recorded) (n number worker : ℕ) (call : Call) (i 
   going_same t = task_same (λ it. nat_le 1 t && (nat_le t k.tasks && not (is_some it.end))) (λ it. refl) t
 
   swept_same : (t : ℕ) (swept : List MachineName) → AreSwept k t swept → AreSwept new.known t swept
-  swept_same t swept are = are ∙ sym (task_same (λ it. filter (λ (name : SlotName). not (name.task == t) && is_in_deployment k it.dep name) k.machines) (λ it. refl) t)
+  swept_same t swept are = are
+      ∙ sym (task_same (λ it. filter (λ (name : SlotName). not (name.task == t) && is_in_deployment k it.dep name)
+      k.machines) (λ it. refl) t)
 
   task_is : (t : ℕ) → task_of begun t ≡ (if eqb n t then option_map with_one_call (task_of it t) else task_of it t)
   task_is t =
@@ -279,10 +320,12 @@ module _ (told : Told) (it : Recorded) (n number worker : ℕ) (call : Call) (i 
           within : (c : ℕ) → c < 18446744073709551615 → min (c + 1) 18446744073709551615 ≡ c + 1
           within c few = omega arith
 
-      own_row_is : with_one_call (task_row k n) ≡ record (task_row k n) { calls = option_map (λ c. c + 1) (k.task n).calls }
+      own_row_is : with_one_call (task_row k n)
+          ≡ record (task_row k n) { calls = option_map (λ c. c + 1) (k.task n).calls }
       own_row_is = λ j. record (task_row k n) { calls = one_more (k.task n).calls allows.counted j }
 
-      mapped : (t : Bool) (row other : TaskRow) → with_one_call row ≡ other → option_map with_one_call (if t then Some row else None) ≡ (if t then Some other else None)
+      mapped : (t : Bool) (row other : TaskRow) → with_one_call row ≡ other
+          → option_map with_one_call (if t then Some row else None) ≡ (if t then Some other else None)
       mapped true row other same = ap Some same
       mapped false row other same = refl
 
@@ -298,8 +341,17 @@ module _ (told : Told) (it : Recorded) (n number worker : ℕ) (call : Call) (i 
       by false other = stands.tasks t
       by true is =
           ap (option_map with_one_call) (stands.tasks t)
-          ∙ mapped (nat_le 1 t && nat_le t k.tasks) (task_row k t) (record (task_row k n) { task = t; calls = option_map (λ c. c + 1) (k.task n).calls })
-          ((λ j. with_one_call (record { task = t; kind = (k.task (sym same j)).kind; dep = (k.task (sym same j)).dep; end = (k.task (sym same j)).end; source = (k.task (sym same j)).source; calls = (k.task (sym same j)).calls }))
+          ∙ mapped (nat_le 1 t && nat_le t k.tasks) (task_row k t)
+          (record (task_row k n) { task = t; calls = option_map (λ c. c + 1) (k.task n).calls })
+          ((λ j. with_one_call (record {
+            task = t;
+            kind = (k.task (sym same j)).kind;
+            dep =
+                (k.task (sym same j)).dep;
+            end = (k.task (sym same j)).end;
+            source = (k.task (sym same j)).source;
+            calls = (k.task (sym same j)).calls;
+          }))
           ∙ (λ j. record (own_row_is j) { task = t }))
         where
           same : n ≡ t
@@ -308,14 +360,17 @@ module _ (told : Told) (it : Recorded) (n number worker : ℕ) (call : Call) (i 
   dep_same : (t : ℕ) → dep_of begun t ≡ dep_of it t
   dep_same t = ap (option_and_then (λ (row : TaskRow). row.dep)) (task_is t) ∙ by (eqb n t) (task_of it t)
     where
-      by : (b : Bool) (o : Option TaskRow) → option_and_then (λ (row : TaskRow). row.dep) (if b then option_map with_one_call o else o) ≡ option_and_then (λ (row : TaskRow). row.dep) o
+      by : (b : Bool) (o : Option TaskRow) → option_and_then (λ (row : TaskRow). row.dep)
+          (if b then option_map with_one_call o else o) ≡ option_and_then (λ (row : TaskRow). row.dep) o
       by true (Some row) = refl
       by true None = refl
       by false o = refl
 
   dep_is : dep_of it n ≡ Some i.dep
   dep_is =
-      ap (option_and_then (λ (row : TaskRow). row.dep)) (stands.tasks n ∙ (λ j. if opened (nat_le 1 n) (nat_le n k.tasks) (is_open k n) allows.going j then Some (task_row k n) else None))
+      ap (option_and_then (λ (row : TaskRow). row.dep)) (stands.tasks n
+      ∙ (λ j. if opened (nat_le 1 n) (nat_le n k.tasks) (is_open k n) allows.going j then Some (task_row k n)
+      else None))
       ∙ allows.dep
     where
       opened : (a b c : Bool) → (a && (b && c)) ≡ true → (a && b) ≡ true
@@ -325,13 +380,17 @@ module _ (told : Told) (it : Recorded) (n number worker : ℕ) (call : Call) (i 
 
   -- ---- works
 
-  work_is : (t : ℕ) → work_of begun t ≡ (if eqb n t then option_map (λ work. taken work (places_in noted (Instance i))) (work_of it t) else work_of it t)
+  work_is : (t : ℕ) → work_of begun t
+      ≡ (if eqb n t then option_map (λ work. taken work (places_in noted (Instance i))) (work_of it t)
+      else work_of it t)
   work_is t =
       thing_changed nat_cmp nat_keys n (λ work. taken work (places_in noted (Instance i))) it.works t
-      ∙ ap (λ b. if b then option_map (λ work. taken work (places_in noted (Instance i))) (work_of it t) else work_of it t) (nat_at n t)
+      ∙ ap (λ b. if b then option_map (λ work. taken work (places_in noted (Instance i))) (work_of it t)
+      else work_of it t) (nat_at n t)
 
   -- the places at which the work of the task lists it
-  places_are : (work : Work) (swept : List MachineName) → work_of it n ≡ Some work → StandsFor told (k.task n) n swept work
+  places_are : (work : Work) (swept : List MachineName) → work_of it n ≡ Some work
+      → StandsFor told (k.task n) n swept work
       → places_in noted (Instance i) ≡ places_of (k.task n) i
   places_are work swept is work_stands = λ j. record { part = (part_is i ∙ part) j; sweep = None; deleting = None }
     where
@@ -342,31 +401,43 @@ module _ (told : Told) (it : Recorded) (n number worker : ℕ) (call : Call) (i 
       }
       part = λ j. record {
         ping = (stands.linked.pings n work i is dep_is ∙ ap (place_of same_inst i) (work_stands.pings).items_are) j;
-        leaving = (stands.linked.leaving n work i is dep_is ∙ ap (place_of same_inst i) (work_stands.obsolete).items_are) j;
-        change = (stands.linked.changes n work i is dep_is ∙ ap (λ changed. change_place changed i) work_stands.changed_are) j;
+        leaving =
+            (stands.linked.leaving n work i is dep_is ∙ ap (place_of same_inst i) (work_stands.obsolete).items_are)
+            j;
+        change = (stands.linked.changes n work i is dep_is
+            ∙ ap (λ changed. change_place changed i) work_stands.changed_are) j;
       }
 
-  own_work : (o : Option Work) → work_of it n ≡ o → IsWork told n o → IsWork new n (option_map (λ work. taken work (places_in noted (Instance i))) o)
-  own_work (Some work) is (going, (swept, work_stands, are_swept)) =
-      (going_same n ∙ going, (swept,
-      after_call_begun told n number worker call swept work (taken work (places_in noted (Instance i))) i work_stands allows.changed_apart allows.pings_apart allows.obsolete_apart
-      allows.next allows.small allows.none_failed (ap (taken work) (places_are work swept is work_stands)),
-      swept_same n swept are_swept))
+  own_work : (o : Option Work) → work_of it n ≡ o → IsWork told n o
+      → IsWork new n (option_map (λ work. taken work (places_in noted (Instance i))) o)
+  own_work (Some work) is (going, (swept, work_stands, are_swept)) = (
+    going_same n ∙ going,
+    (
+      swept,
+      after_call_begun told n number worker call swept work (taken work (places_in noted (Instance i))) i
+          work_stands allows.changed_apart allows.pings_apart allows.obsolete_apart
+          allows.next allows.small allows.none_failed (ap (taken work) (places_are work swept is work_stands)),
+      swept_same n swept are_swept,
+    ),
+  )
   own_work None is gone = λ later. going_same n ∙ gone later
 
   -- another owner is idle as before
   idle_as : (owner : Owner) → same_owner owner (Instance i) ≡ false → is_idle new owner ≡ is_idle told owner
-  idle_as owner other = idle_begun told b owner allows.next ∙ ap (λ t. is_idle told owner && not t) other ∙ by (is_idle told owner)
+  idle_as owner other = idle_begun told b owner allows.next ∙ ap (λ t. is_idle told owner && not t) other
+      ∙ by (is_idle told owner)
     where
       by : (d : Bool) → (d && true) ≡ d
       by true = refl
       by false = refl
 
-  not_it : (xs : List Inst) → is_among same_inst i xs ≡ false → (j : ℕ) (x : Inst) → slice_get xs j ≡ Some x → idle_in new x ≡ idle_in told x
+  not_it : (xs : List Inst) → is_among same_inst i xs ≡ false → (j : ℕ) (x : Inst) → slice_get xs j ≡ Some x
+      → idle_in new x ≡ idle_in told x
   not_it xs none j x is = idle_as (Instance x) (inst_flip i x ∙ none_at (same_inst i) xs j x none is)
 
   -- no call of another task is one more
-  same_calls : (t : ℕ) → eqb n t ≡ false → count_by (is_task_call new t) (numbers_to number) ≡ count_by (is_task_call told t) (numbers_to k.last_call)
+  same_calls : (t : ℕ) → eqb n t ≡ false → count_by (is_task_call new t) (numbers_to number)
+      ≡ count_by (is_task_call told t) (numbers_to k.last_call)
   same_calls t other =
       ap (λ m. count_by (is_task_call new t) (numbers_to m)) (allows.next ∙ add-one k.last_call)
       ∙ sum_by_push (λ c. cond (is_task_call new t c) 1 0) (numbers_to k.last_call) (suc k.last_call)
@@ -374,15 +445,19 @@ module _ (told : Told) (it : Recorded) (n number worker : ℕ) (call : Call) (i 
       ∙ plus_none (count_by (is_task_call told t) (numbers_to k.last_call))
     where
       others : (c : ℕ) → c ≤ k.last_call → is_task_call new t c ≡ is_task_call told t c
-      others c low = ap (λ u. holds (λ (d : Begin). d.task == t) (if u then Some b else told.calls c)) (ne_eqb number c (λ e. absurd (let next : number ≡ k.last_call + 1 = allows.next in omega arith)))
+      others c low = ap (λ u. holds (λ (d : Begin). d.task == t) (if u then Some b else told.calls c))
+          (ne_eqb number c (λ e. absurd (let next : number ≡ k.last_call + 1 = allows.next in omega arith)))
 
       here : is_task_call new t (suc k.last_call) ≡ false
-      here = ap (λ u. holds (λ (d : Begin). d.task == t) (if u then Some b else told.calls (suc k.last_call))) (eq-eqb number (suc k.last_call) (let next : number ≡ k.last_call + 1 = allows.next in omega arith)) ∙ other
+      here = ap (λ u. holds (λ (d : Begin). d.task == t) (if u then Some b else told.calls (suc k.last_call)))
+          (eq-eqb number (suc k.last_call) (let next : number ≡ k.last_call + 1 = allows.next in omega arith))
+          ∙ other
 
       plus_none : (c : ℕ) → c + 0 ≡ c
       plus_none c = omega arith
 
-  same_for : (t : ℕ) (swept : List MachineName) → eqb n t ≡ false → is_going k t ≡ true → SameListed told new (k.task t) t swept
+  same_for : (t : ℕ) (swept : List MachineName) → eqb n t ≡ false → is_going k t ≡ true
+      → SameListed told new (k.task t) t swept
   same_for t swept other going = record {
     pings = not_it (k.task t).to_ping (allows.not_asked t other going);
     obsolete = not_it (k.task t).obsolete (allows.not_leaving t other going);
@@ -398,38 +473,57 @@ module _ (told : Told) (it : Recorded) (n number worker : ℕ) (call : Call) (i 
     calls = same_calls t other;
   }
     where
-      failed : (o : Option Failure) → (k.task t).failed ≡ o → option_map (end_of new.known) o ≡ option_map (end_of k) o
+      failed : (o : Option Failure) → (k.task t).failed ≡ o → option_map (end_of new.known) o
+          ≡ option_map (end_of k) o
       failed None is = refl
       failed (Some failure) is =
           let low : number_of failure ≤ k.last_call = allows.failed_before t failure is in
-          ap (λ u. Some (end_by failure (if u then Some b else k.begun (number_of failure)))) (ne_eqb number (number_of failure) (λ e. absurd (let next : number ≡ k.last_call + 1 = allows.next in omega arith)))
+          ap (λ u. Some (end_by failure (if u then Some b else k.begun (number_of failure))))
+          (ne_eqb number (number_of failure)
+          (λ e. absurd (let next : number ≡ k.last_call + 1 = allows.next in omega arith)))
 
   other_work : (t : ℕ) → eqb n t ≡ false → (o : Option Work) → IsWork told t o → IsWork new t o
-  other_work t other (Some work) (going, (swept, work_stands, are_swept)) =
-      (going_same t ∙ going, (swept,
-      subst (λ (it : Task). StandsFor new it t swept work) (sym (λ j. if other j then task_with_call (k.task n) else k.task t))
-      (listed_goes_on told new (k.task t) t swept work (same_for t swept other going) work_stands),
-      swept_same t swept are_swept))
+  other_work t other (Some work) (going, (swept, work_stands, are_swept)) = (
+    going_same t ∙ going,
+    (
+      swept,
+      subst (λ (it : Task). StandsFor new it t swept work)
+          (sym (λ j. if other j then task_with_call (k.task n) else k.task t))
+          (listed_goes_on told new (k.task t) t swept work (same_for t swept other going) work_stands),
+      swept_same t swept are_swept,
+    ),
+  )
   other_work t other None gone = λ later. going_same t ∙ gone later
 
   works : (t : ℕ) → IsWork new t (work_of begun t)
   works t = subst (IsWork new t) (sym (work_is t)) (by (eqb n t) refl)
     where
-      by : (b : Bool) → eqb n t ≡ b → IsWork new t (if b then option_map (λ work. taken work (places_in noted (Instance i))) (work_of it t) else work_of it t)
-      by true is = subst (λ t. IsWork new t (option_map (λ work. taken work (places_in noted (Instance i))) (work_of it t))) (eqb-true n t is) (own_work (work_of it n) refl (stands.works n))
+      by : (b : Bool) → eqb n t ≡ b
+          → IsWork new t (if b then option_map (λ work. taken work (places_in noted (Instance i))) (work_of it t)
+          else work_of it t)
+      by true is =
+          subst (λ t. IsWork new t (option_map (λ work. taken work (places_in noted (Instance i))) (work_of it t)))
+          (eqb-true n t is) (own_work (work_of it n) refl (stands.works n))
       by false is = other_work t is (work_of it t) (stands.works t)
 
   -- ---- all
 
-  call_of_new : (c : ℕ) (d : Begin) → at eqb number (Some b) told.calls c ≡ Some d → (d.n ≡ c) × (c ≤ number) × (is_going k d.task ≡ true)
+  call_of_new : (c : ℕ) (d : Begin) → at eqb number (Some b) told.calls c ≡ Some d → (d.n ≡ c) × (c ≤ number)
+      × (is_going k d.task ≡ true)
   call_of_new c d is = by (eqb number c) refl is
     where
-      by : (t : Bool) → eqb number c ≡ t → (if t then Some b else told.calls c) ≡ Some d → (d.n ≡ c) × (c ≤ number) × (is_going k d.task ≡ true)
+      by : (t : Bool) → eqb number c ≡ t → (if t then Some b else told.calls c) ≡ Some d → (d.n ≡ c) × (c ≤ number)
+          × (is_going k d.task ≡ true)
       by true same is =
-          let e : b ≡ d = cc in let eq : number ≡ c = eqb-true number c same in
-          (ap (λ (d : Begin). d.n) (sym e) ∙ eq, omega arith, ap (λ (d : Begin). is_going k d.task) (sym e) ∙ allows.going)
+          let e : b ≡ d = cc in let eq : number ≡ c = eqb-true number c same in (
+            ap (λ (d : Begin). d.n) (sym e) ∙ eq,
+            omega arith,
+            ap (λ (d : Begin). is_going k d.task) (sym e)
+                ∙ allows.going,
+          )
       by false other is =
-          let low : c ≤ k.last_call = stands.tells_well.past c d is in let next : number ≡ k.last_call + 1 = allows.next in
+          let low : c ≤ k.last_call = stands.tells_well.past c d is in let next : number ≡ k.last_call + 1 =
+          allows.next in
           (stands.tells_well.number c d is, omega arith, stands.tells_well.going c d is)
 
   came : begun.came ≡ arrivals_of new.known
@@ -443,12 +537,16 @@ module _ (told : Told) (it : Recorded) (n number worker : ℕ) (call : Call) (i 
     row_calls = row_calls;
     machines = stands.machines;
     machine_keys = λ name. stands.machine_keys name
-        ∙ sym (task_same (λ (it : Task). option_and_then (λ key. first_marked (map (λ work. same_key work.key key) (keys_of it.goal))) (key_of_slot (k.slot name.task name.slot))) (λ it. refl) name.task);
+        ∙ sym (task_same
+        (λ (it : Task). option_and_then
+        (λ key. first_marked (map (λ work. same_key work.key key) (keys_of it.goal)))
+        (key_of_slot (k.slot name.task name.slot))) (λ it. refl) name.task);
     machine_calls = λ name. stands.machine_calls name ∙ sym (other_calls (Compile name.task name.slot) refl);
     orphans = stands.orphans;
     orphan_calls = λ d. stands.orphan_calls d ∙ sym (other_calls (Disk d) refl);
     digests = stands.digests;
-    compiling = λ key. stands.compiling key ∙ sym (compiling_begun told b allows.next key (allows.compiles_none key));
+    compiling = λ key. stands.compiling key
+        ∙ sym (compiling_begun told b allows.next key (allows.compiles_none key));
     tasks = tasks;
     calls = calls;
     works = works;
@@ -472,5 +570,7 @@ module _ (told : Told) (it : Recorded) (n number worker : ℕ) (call : Call) (i 
   }
 
   -- .. as it is learned
-  pub after_begin : StandsIn new (noted_call b (counted n (opened_call b (with_subject (Instance i) (subjects.Instance row) it))))
-  after_begin = subst (λ (x : Recorded). StandsIn new (noted_call b (counted n (taken_by n (Instance i) x)))) (sym (none_compiled call (Some number) noted allows.compiles_none)) begun_stands
+  pub after_begin : StandsIn new
+      (noted_call b (counted n (opened_call b (with_subject (Instance i) (subjects.Instance row) it))))
+  after_begin = subst (λ (x : Recorded). StandsIn new (noted_call b (counted n (taken_by n (Instance i) x))))
+      (sym (none_compiled call (Some number) noted allows.compiles_none)) begun_stands

@@ -1,11 +1,10 @@
 -- A call of an instance ends.
-use Rattle.std.proofs.Common.{◌≡◌, ◌∙◌, ℕ, ◌+◌, ◌≤◌, Bool, true, false, ◌&&◌, ◌||◌, not, List, [], ◌∷◌, ◌==◌, filter, map, Option, Some, None, ap, refl, sym, subst, arith}
-use Rattle.std.specs.Prelude.{cond, count_by, eqb, is_some, nat_le, nat_lt, slice_get, if◌then◌else◌}
-use Rattle.std.specs.List.{list_all, list_any}
+use Rattle.std.proofs.Common.{◌≡◌, ◌∙◌, ℕ, Bool, true, false, ◌&&◌, not, List, ◌==◌}
+use Rattle.std.proofs.Common.{filter, map, Option, Some, None, ap, refl, sym, subst}
+use Rattle.std.specs.Prelude.{eqb, is_some, nat_le, nat_lt, slice_get, if◌then◌else◌}
 use Rattle.std.specs.Option.{option_and_then, option_map, option_map_or}
 use Rattle.std.specs.Ordering.{nat_cmp}
-use Rattle.std.proofs.lemmas.Bool.{eq-eqb, eqb-true, false≢true, true≢false}
-use Rattle.bosh_base.specs.Call.{method_of}
+use Rattle.std.proofs.lemmas.Bool.{eq-eqb, eqb-true, false≢true}
 use Rattle.bosh_base.specs.Cloud.{numbers_to}
 use Rattle.bosh_base.specs.Inst.{inst_cmp}
 use Rattle.bosh_base.specs.declared.answer.Answer.{Answer}
@@ -26,7 +25,8 @@ use Rattle.bosh_base.specs.declared.row.Row.{Row}
 use Rattle.bosh_base.specs.declared.task.TaskEnd.{TaskEnd}
 use Rattle.bosh_base.specs.declared.task.TaskRow.{TaskRow}
 use Rattle.bosh_compile.specs.Readiness.{same_key}
-use Rattle.bosh_fold.specs.Calls.{answered_in, built_in, closed_call, ended_by, ended_in, failed_in, given_by, pinged_by, with_call, with_compiling, with_row}
+use Rattle.bosh_fold.specs.Calls.{built_in, closed_call, ended_by, ended_in, failed_in, given_by}
+use Rattle.bosh_fold.specs.Calls.{pinged_by, with_call, with_row}
 use Rattle.bosh_history.specs.Calls as known_calls
 use Rattle.bosh_history.specs.Calls.{call_ended, least_failure, number_of, task_told}
 use Rattle.bosh_history.specs.Goals.{is_waiting}
@@ -45,7 +45,7 @@ use Rattle.bosh_plan.specs.declared.ending.Ended.{Ended}
 use Rattle.bosh_progress.specs.Tree.{first_marked}
 use Rattle.bosh_records.specs.Changes.{with_pinged}
 use Rattle.bosh_records.specs.Places.{part_of, places_in}
-use Rattle.bosh_records.specs.Readers.{call_at, row_at}
+use Rattle.bosh_records.specs.Readers.{row_at}
 use Rattle.bosh_records.specs.Recorded.{Recorded}
 use Rattle.bosh_records.specs.Table.{altered, changed, found, without}
 use Rattle.bosh_records.specs.declared.instances.Instance as instances
@@ -61,11 +61,11 @@ use Rattle.bosh_work.specs.declared.line.Line.{Line}
 use Rattle.bosh_work.specs.declared.part.MachineName.{MachineName}
 use Rattle.bosh_work.specs.declared.part.Places.{Places}
 use Rattle.bosh_work.specs.declared.work.Work.{Work}
-use Rattle.laws_stands.proofs.GroupLemmas.{inst_is}
+use Rattle.laws_stands.proofs.MemberLemmas.{inst_is}
 use Rattle.laws_stands.proofs.PremiseLemmas.{none_at}
 use Rattle.laws_stands.specs.GroupsStand.{change_place}
 use Rattle.laws_stands.specs.LineStands.{place_of}
-use Rattle.laws_stands.specs.Reading.{call_of as recorded_call, dep_of, instance_of, row_of, task_of, work_of}
+use Rattle.laws_stands.specs.Reading.{call_of as recorded_call, dep_of, instance_of, row_of, work_of}
 use Rattle.laws_stands.specs.Stands.{AreSwept, IsWork, Stands, StandsIn, call_of, key_of_slot}
 use Rattle.laws_stands.specs.Told.{Told, idle_in, is_going, is_idle, telling}
 use Rattle.laws_stands.specs.WorkStands.{StandsFor, asked_line, asks, end_of, is_task_call, places_of}
@@ -82,7 +82,8 @@ use Rattle.laws_stands_on.specs.Once.{IsOnce}
 -- ---- failures
 
 -- a failure ends a task by the number of its call
-number_is : (k : Known) (failure : Failure) → is_some (k.begun (number_of failure)) ≡ true → work_specs.number_of (end_of k failure) ≡ number_of failure
+number_is : (k : Known) (failure : Failure) → is_some (k.begun (number_of failure)) ≡ true
+    → work_specs.number_of (end_of k failure) ≡ number_of failure
 number_is k failures.Interrupted is = refl
 number_is k (failures.Call n) is = by (k.begun n) is
   where
@@ -96,15 +97,19 @@ number_is k (failures.Gone n) is = by (k.begun n) is
     by None is = absurd (false≢true is)
 
 -- the least of two failed calls ends a task
-least_is : (k : Known) (old new : Option Failure) → ((failure : Failure) → old ≡ Some failure → is_some (k.begun (number_of failure)) ≡ true)
+least_is : (k : Known) (old new : Option Failure)
+    → ((failure : Failure) → old ≡ Some failure → is_some (k.begun (number_of failure)) ≡ true)
     → ((failure : Failure) → new ≡ Some failure → is_some (k.begun (number_of failure)) ≡ true)
-    → (if work_specs.is_less (option_map (end_of k) new) (option_map (end_of k) old) then option_map (end_of k) new else option_map (end_of k) old)
+    → (if work_specs.is_less (option_map (end_of k) new) (option_map (end_of k) old) then option_map (end_of k) new
+    else option_map (end_of k) old)
     ≡ option_map (end_of k) (least_failure old new)
 least_is k (Some old) (Some new) old_begun new_begun =
-    (λ i. if nat_lt (number_is k new (new_begun new refl) i) (number_is k old (old_begun old refl) i) then Some (end_of k new) else Some (end_of k old))
+    (λ i. if nat_lt (number_is k new (new_begun new refl) i) (number_is k old (old_begun old refl) i)
+    then Some (end_of k new) else Some (end_of k old))
     ∙ by (nat_lt (number_of new) (number_of old))
   where
-    by : (b : Bool) → (if b then Some (end_of k new) else Some (end_of k old)) ≡ option_map (end_of k) (if b then Some new else Some old)
+    by : (b : Bool) → (if b then Some (end_of k new) else Some (end_of k old))
+        ≡ option_map (end_of k) (if b then Some new else Some old)
     by true = refl
     by false = refl
 least_is k None (Some new) old_begun new_begun = refl
@@ -125,27 +130,36 @@ takes_as call answer = refl
 
 pinged_as : (told : Bool) (begin : Begin) (call : Call) (it : Recorded)
     → pinged_by told (record begin { call = call }) it
-    ≡ record it { works = if takes_ping call told then changed nat_cmp begin.task (with_pinged (places_in it begin.owner).part.ping) it.works else it.works }
+    ≡ record it {
+      works = if takes_ping call told then changed nat_cmp begin.task
+          (with_pinged (places_in it begin.owner).part.ping) it.works else it.works;
+    }
 pinged_as true begin (Ping vm) it = refl
 pinged_as true begin call it = refl
 pinged_as false begin (Ping vm) it = refl
 pinged_as false begin call it = refl
 
-none_built : (call : Call) (built : Option Digest) (it : Recorded) → ((key : Key) → compiles key call ≡ false) → built_in call built it ≡ it
+none_built : (call : Call) (built : Option Digest) (it : Recorded) → ((key : Key) → compiles key call ≡ false)
+    → built_in call built it ≡ it
 none_built (CompilePackage vm work deps) built it none = absurd (compiles_itself vm work deps none)
 none_built call built it none = refl
 
-none_known : (call : Call) (answer : Answer) (k : Known) → ((key : Key) → compiles key call ≡ false) → known_calls.compiles call answer k ≡ k
+none_known : (call : Call) (answer : Answer) (k : Known) → ((key : Key) → compiles key call ≡ false)
+    → known_calls.compiles call answer k ≡ k
 none_known (CompilePackage vm work deps) answer k none = absurd (compiles_itself vm work deps none)
 none_known call answer k none = refl
 
 -- a work once its call ended
 abbrev ended_work : Bool → Places → Option TaskEnd → Work → Work
-ended_work asked places fail w = failed_by (if asked then with_pinged places.part.ping (given w places) else given w places) fail
+ended_work asked places fail w = failed_by (if asked then with_pinged places.part.ping (given w places)
+    else given w places) fail
 
 ended_as : (asked : Bool) (places : Places) (fail : Option TaskEnd) (w : Work)
     → ended_work asked places fail w
-    ≡ record (given w places) { pings = asked_line asked (given_line w.pings places.part.ping) places.part.ping; failed = (ended_work asked places fail w).failed }
+    ≡ record (given w places) {
+      pings = asked_line asked (given_line w.pings places.part.ping) places.part.ping;
+      failed = (ended_work asked places fail w).failed;
+    }
 ended_as true places fail w = refl
 ended_as false places fail w = refl
 
@@ -162,9 +176,11 @@ lines_finished : {T : Type 0} (line : Line T) (o : Option ℕ) → (finished_lin
 lines_finished line None = refl
 lines_finished line (Some place) = refl
 
-ends_same : (asked : Bool) (places : Places) (fail : Option TaskEnd) (w : Work) → ListsSame (ended_work asked places fail w) w
+ends_same : (asked : Bool) (places : Places) (fail : Option TaskEnd) (w : Work)
+    → ListsSame (ended_work asked places fail w) w
 ends_same true places fail w = record {
-  pings = lines_finished (given_line w.pings places.part.ping) places.part.ping ∙ lines_given w.pings places.part.ping;
+  pings = lines_finished (given_line w.pings places.part.ping) places.part.ping
+      ∙ lines_given w.pings places.part.ping;
   obsolete = lines_given w.obsolete places.part.leaving;
   changed = refl;
   sweep = lines_given w.sweep places.sweep;
@@ -178,8 +194,10 @@ ends_same false places fail w = record {
   disks = lines_given w.disks places.deleting;
 }
 
-module _ (told : Told) (was : Records) (it : Recorded) (n number worker : ℕ) (call : Call) (answer : Answer) (i : Inst)
-    (allows : AllowsEnd told (record { n = number; task = n; worker = worker; owner = Instance i; call = call }) answer i)
+module _ (told : Told) (was : Records) (it : Recorded) (n number worker : ℕ) (call : Call) (answer : Answer)
+    (i : Inst)
+    (allows : AllowsEnd told (record { n = number; task = n; worker = worker; owner = Instance i; call = call })
+    answer i)
     (once : IsOnce nat_cmp it.calls) (stood : Stands told was) (stands : StandsIn told it) where
   abbrev b : Begin
   b = record { n = number; task = n; worker = worker; owner = Instance i; call = call }
@@ -199,7 +217,11 @@ module _ (told : Told) (was : Records) (it : Recorded) (n number worker : ℕ) (
 
   -- its task
   abbrev task_now : Task
-  task_now = record (k.task n) { pinged = pinged; failed = least_failure (k.task n).failed (known_calls.failure_of k b answer) }
+  task_now = record (k.task n) {
+    pinged = pinged;
+    failed =
+        least_failure (k.task n).failed (known_calls.failure_of k b answer);
+  }
 
   -- what is told once the call ended
   abbrev new : Told
@@ -215,10 +237,14 @@ module _ (told : Told) (was : Records) (it : Recorded) (n number worker : ℕ) (
       known_is : call_ended answer (k.begun number) k ≡ new.known
       known_is =
           ap (λ o. call_ended answer o k) allows.begun
-          ∙ (λ j. record (none_known call answer (record k { row = at same_inst i row k.row }) allows.compiles_none j) { task = at eqb n (task_told k b answer (k.task n)) k.task })
+          ∙ (λ j. record (none_known call answer (record k { row = at same_inst i row k.row }) allows.compiles_none
+          j) { task = at eqb n (task_told k b answer (k.task n)) k.task })
           ∙ (λ j. record k {
             row = at same_inst i row k.row;
-            task = at eqb n (record (after_ping call answer i (k.task n) j) { failed = least_failure (k.task n).failed (known_calls.failure_of k b answer) }) k.task;
+            task = at eqb n (record (after_ping call answer i (k.task n) j) {
+              failed =
+                  least_failure (k.task n).failed (known_calls.failure_of k b answer);
+            }) k.task;
           })
 
   -- ---- what is planned
@@ -243,13 +269,16 @@ module _ (told : Told) (was : Records) (it : Recorded) (n number worker : ℕ) (
       fails (DeleteVm vm) = ap not same_lost
       fails call = refl
 
-      gone : (g : Bool) → (if g then Some (planned.gone_of b) else None) ≡ option_map (end_of k) (if g then Some (failures.Gone number) else None)
+      gone : (g : Bool) → (if g then Some (planned.gone_of b) else None)
+          ≡ option_map (end_of k) (if g then Some (failures.Gone number) else None)
       gone true = ends (λ o. Some (end_by (failures.Gone number) o))
       gone false = refl
 
-      by : (answer : Answer) → planned.failure_of was answer b ≡ option_map (end_of k) (known_calls.failure_of k b answer)
+      by : (answer : Answer) → planned.failure_of was answer b
+          ≡ option_map (end_of k) (known_calls.failure_of k b answer)
       by answers.Failed = ends (λ o. Some (end_by (failures.Call number) o))
-      by answers.Gone = (λ j. if fails call j then Some (planned.gone_of b) else None) ∙ gone (known_calls.fails_gone k b call)
+      by answers.Gone = (λ j. if fails call j then Some (planned.gone_of b) else None)
+          ∙ gone (known_calls.fails_gone k b call)
       by answer = refl
 
   abbrev plan : Ended
@@ -285,58 +314,82 @@ module _ (told : Told) (was : Records) (it : Recorded) (n number worker : ℕ) (
   abbrev ended : Recorded
   ended = with_row row (record closed {
     works = changed nat_cmp n (λ work. failed_by work fail)
-        (if asked then changed nat_cmp n (with_pinged places.part.ping) (changed nat_cmp n (λ work. given work places) it.works)
+        (if asked then changed nat_cmp n (with_pinged places.part.ping)
+        (changed nat_cmp n (λ work. given work places) it.works)
         else changed nat_cmp n (λ work. given work places) it.works);
   })
 
   ended_is : ended_in plan it ≡ ended
   ended_is =
-      ap (λ o. ended_by o plan (record it { calls = without nat_cmp number it.calls })) (stands.calls number ∙ allows.is_open)
-      ∙ none_built call (planned.built_by answer) (with_row row (failed_in n fail (pinged_by (is_told answer) b (given_by n (Instance i) (closed_call b (record it { calls = without nat_cmp number it.calls })))))) allows.compiles_none
-      ∙ (λ j. with_row row (failed_in n fail (pinged_by (is_told answer) b (given_by n (Instance i) (none_compiled call None closed allows.compiles_none j)))))
-      ∙ (λ j. with_row row (failed_in n fail (pinged_as (is_told answer) b call (given_by n (Instance i) closed) j)))
+      ap (λ o. ended_by o plan (record it { calls = without nat_cmp number it.calls })) (stands.calls number
+      ∙ allows.is_open)
+      ∙ none_built call (planned.built_by answer)
+      (with_row row
+      (failed_in n fail
+      (pinged_by (is_told answer) b
+      (given_by n (Instance i) (closed_call b (record it { calls = without nat_cmp number it.calls }))))))
+      allows.compiles_none
+      ∙ (λ j. with_row row
+      (failed_in n fail
+      (pinged_by (is_told answer) b
+      (given_by n (Instance i) (none_compiled call None closed allows.compiles_none j)))))
+      ∙ (λ j. with_row row
+      (failed_in n fail (pinged_as (is_told answer) b call (given_by n (Instance i) closed) j)))
 
   -- ---- the instance
 
   abbrev said : instances.Instance → instances.Instance
   said known = record known { row = Some row; call = None }
 
-  instance_is : (x : Inst) → instance_of ended x ≡ (if same_inst i x then option_map said (instance_of it x) else instance_of it x)
+  instance_is : (x : Inst) → instance_of ended x
+      ≡ (if same_inst i x then option_map said (instance_of it x) else instance_of it x)
   instance_is x =
-      (λ j. found inst_cmp (altered inst_cmp (allows.own_row j) (λ known. record known { row = Some row }) (altered inst_cmp i (λ known. record known { call = None }) it.instances)) x)
-      ∙ found_altered inst_cmp inst_keys i (λ known. record known { row = Some row }) (altered inst_cmp i (λ known. record known { call = None }) it.instances) x
-      ∙ (λ j. if inst_at i x j then option_map (λ (known : instances.Instance). record known { row = Some row }) (inner j) else inner j)
+      (λ j. found inst_cmp (altered inst_cmp (allows.own_row j) (λ known. record known { row = Some row })
+      (altered inst_cmp i (λ known. record known { call = None }) it.instances)) x)
+      ∙ found_altered inst_cmp inst_keys i (λ known. record known { row = Some row })
+      (altered inst_cmp i (λ known. record known { call = None }) it.instances) x
+      ∙ (λ j. if inst_at i x j then option_map (λ (known : instances.Instance). record known { row = Some row })
+      (inner j) else inner j)
       ∙ by (same_inst i x) (instance_of it x)
     where
       inner : found inst_cmp (altered inst_cmp i (λ known. record known { call = None }) it.instances) x
-          ≡ (if same_inst i x then option_map (λ (known : instances.Instance). record known { call = None }) (instance_of it x) else instance_of it x)
+          ≡ (if same_inst i x then option_map (λ (known : instances.Instance). record known { call = None })
+          (instance_of it x) else instance_of it x)
       inner =
           found_altered inst_cmp inst_keys i (λ known. record known { call = None }) it.instances x
-          ∙ (λ j. if inst_at i x j then option_map (λ (known : instances.Instance). record known { call = None }) (instance_of it x) else instance_of it x)
+          ∙ (λ j. if inst_at i x j then option_map (λ (known : instances.Instance). record known { call = None })
+          (instance_of it x) else instance_of it x)
 
       by : (b : Bool) (o : Option instances.Instance)
-          → (if b then option_map (λ (known : instances.Instance). record known { row = Some row }) (if b then option_map (λ (known : instances.Instance). record known { call = None }) o else o)
+          → (if b then option_map (λ (known : instances.Instance). record known { row = Some row })
+          (if b then option_map (λ (known : instances.Instance). record known { call = None }) o else o)
           else (if b then option_map (λ (known : instances.Instance). record known { call = None }) o else o))
           ≡ (if b then option_map said o else o)
       by true (Some known) = refl
       by true None = refl
       by false o = refl
 
-  kept_of : {X : Type 0} (read : instances.Instance → Option X) → ((known : instances.Instance) → read (said known) ≡ read known) → (x : Inst)
+  kept_of : {X : Type 0} (read : instances.Instance → Option X) → ((known : instances.Instance) → read (said known)
+      ≡ read known) → (x : Inst)
       → option_and_then read (instance_of ended x) ≡ option_and_then read (instance_of it x)
   kept_of read same x = ap (option_and_then read) (instance_is x) ∙ by (same_inst i x) (instance_of it x)
     where
-      by : (b : Bool) (o : Option instances.Instance) → option_and_then read (if b then option_map said o else o) ≡ option_and_then read o
+      by : (b : Bool) (o : Option instances.Instance) → option_and_then read (if b then option_map said o else o)
+          ≡ option_and_then read o
       by true (Some known) = same known
       by true None = refl
       by false o = refl
 
-  part_with : (it' : Recorded) (change : instances.Instance → instances.Instance) → ((known : instances.Instance) → (change known).part ≡ known.part) → (x : Inst)
-      → instance_of it' x ≡ (if same_inst i x then option_map change (instance_of it x) else instance_of it x) → part_of it' x ≡ part_of it x
-  part_with it' change same x is = ap (λ o. option_map_or (λ (known : instances.Instance). known.part) o no_part) is ∙ by (same_inst i x) (instance_of it x)
+  part_with : (it' : Recorded) (change : instances.Instance → instances.Instance)
+      → ((known : instances.Instance) → (change known).part ≡ known.part) → (x : Inst)
+      → instance_of it' x ≡ (if same_inst i x then option_map change (instance_of it x) else instance_of it x)
+      → part_of it' x ≡ part_of it x
+  part_with it' change same x is = ap (λ o. option_map_or (λ (known : instances.Instance). known.part) o no_part) is
+      ∙ by (same_inst i x) (instance_of it x)
     where
       by : (b : Bool) (o : Option instances.Instance)
-          → option_map_or (λ (known : instances.Instance). known.part) (if b then option_map change o else o) no_part ≡ option_map_or (λ (known : instances.Instance). known.part) o no_part
+          → option_map_or (λ (known : instances.Instance). known.part) (if b then option_map change o
+          else o) no_part ≡ option_map_or (λ (known : instances.Instance). known.part) o no_part
       by true (Some known) = same known
       by true None = refl
       by false o = refl
@@ -347,34 +400,44 @@ module _ (told : Told) (was : Records) (it : Recorded) (n number worker : ℕ) (
   closed_part : part_of closed i ≡ part_of it i
   closed_part = part_with closed (λ known. record known { call = None }) (λ known. refl) i
       (found_altered inst_cmp inst_keys i (λ known. record known { call = None }) it.instances i
-      ∙ (λ j. if inst_at i i j then option_map (λ (known : instances.Instance). record known { call = None }) (instance_of it i) else instance_of it i))
+      ∙ (λ j. if inst_at i i j then option_map (λ (known : instances.Instance). record known { call = None })
+      (instance_of it i) else instance_of it i))
 
-  rows : (x : Inst) → row_of ended x ≡ (if is_among same_inst x k.instances then Some (at same_inst i row k.row x) else None)
+  rows : (x : Inst) → row_of ended x ≡ (if is_among same_inst x k.instances then Some (at same_inst i row k.row x)
+      else None)
   rows x = ap (option_and_then (λ known. known.row)) (instance_is x) ∙ by (same_inst i x) refl
     where
-      recorded_some : (o : Option instances.Instance) → option_and_then (λ (known : instances.Instance). known.row) o ≡ Some (k.row i)
+      recorded_some : (o : Option instances.Instance)
+          → option_and_then (λ (known : instances.Instance). known.row) o ≡ Some (k.row i)
           → option_and_then (λ (known : instances.Instance). known.row) (option_map said o) ≡ Some row
       recorded_some (Some known) is = refl
       recorded_some None is = absurd cc
 
       by : (t : Bool) → same_inst i x ≡ t
-          → option_and_then (λ (known : instances.Instance). known.row) (if same_inst i x then option_map said (instance_of it x) else instance_of it x)
+          → option_and_then (λ (known : instances.Instance). known.row)
+          (if same_inst i x then option_map said (instance_of it x) else instance_of it x)
           ≡ (if is_among same_inst x k.instances then Some (at same_inst i row k.row x) else None)
       by true is =
           let same : i ≡ x = inst_is i x is in
-          (λ j. option_and_then (λ (known : instances.Instance). known.row) (if is j then option_map said (instance_of it x) else instance_of it x))
-          ∙ ap (λ x. option_and_then (λ (known : instances.Instance). known.row) (option_map said (instance_of it x))) (sym same)
-          ∙ recorded_some (instance_of it i) (stands.rows i ∙ (λ j. if allows.recorded j then Some (k.row i) else None))
-          ∙ (λ j. if sym (ap (λ x. is_among same_inst x k.instances) (sym same) ∙ allows.recorded) j then Some (if sym is j then row else k.row x) else None)
+          (λ j. option_and_then (λ (known : instances.Instance). known.row)
+          (if is j then option_map said (instance_of it x) else instance_of it x))
+          ∙ ap (λ x. option_and_then (λ (known : instances.Instance). known.row)
+          (option_map said (instance_of it x))) (sym same)
+          ∙ recorded_some (instance_of it i) (stands.rows i
+          ∙ (λ j. if allows.recorded j then Some (k.row i) else None))
+          ∙ (λ j. if sym (ap (λ x. is_among same_inst x k.instances) (sym same) ∙ allows.recorded) j
+          then Some (if sym is j then row else k.row x) else None)
       by false other =
-          (λ j. option_and_then (λ (known : instances.Instance). known.row) (if other j then option_map said (instance_of it x) else instance_of it x))
+          (λ j. option_and_then (λ (known : instances.Instance). known.row)
+          (if other j then option_map said (instance_of it x) else instance_of it x))
           ∙ stands.rows x
           ∙ (λ j. if is_among same_inst x k.instances then Some (if sym other j then row else k.row x) else None)
 
   -- ---- open calls
 
   -- the other calls are open as before
-  still : {X : Type 0} (f : Option Begin → X) → f None ≡ f (Some b) → (c : ℕ) → f (at eqb number None told.calls c) ≡ f (told.calls c)
+  still : {X : Type 0} (f : Option Begin → X) → f None ≡ f (Some b) → (c : ℕ) → f (at eqb number None told.calls c)
+      ≡ f (told.calls c)
   still f same c = by (eqb number c) refl
     where
       by : (t : Bool) → eqb number c ≡ t → f (if t then None else told.calls c) ≡ f (told.calls c)
@@ -383,28 +446,36 @@ module _ (told : Told) (was : Records) (it : Recorded) (n number worker : ℕ) (
 
   other_calls : (owner : Owner) → same_owner owner (Instance i) ≡ false → call_of new owner ≡ call_of told owner
   other_calls owner other =
-      find_within (λ c. holds (λ (d : Begin). same_owner owner d.owner) (at eqb number None told.calls c)) (λ c. holds (λ (d : Begin). same_owner owner d.owner) (told.calls c)) k.last_call
+      find_within (λ c. holds (λ (d : Begin). same_owner owner d.owner) (at eqb number None told.calls c))
+      (λ c. holds (λ (d : Begin). same_owner owner d.owner) (told.calls c)) k.last_call
       (λ c low. still (λ o. holds (λ (d : Begin). same_owner owner d.owner) o) (sym other) c)
 
-  idle_as : (owner : Owner) → is_idle new owner ≡ (if same_owner owner (Instance i) then true else is_idle told owner)
+  idle_as : (owner : Owner) → is_idle new owner
+      ≡ (if same_owner owner (Instance i) then true else is_idle told owner)
   idle_as owner = idle_ended told number b owner allows.is_open allows.only
 
   row_calls : (x : Inst) → option_and_then (λ known. known.call) (instance_of ended x) ≡ call_of new (Instance x)
   row_calls x = ap (option_and_then (λ known. known.call)) (instance_is x) ∙ by (same_inst i x) refl
     where
-      none : (o : Option instances.Instance) → option_and_then (λ (known : instances.Instance). known.call) (option_map said o) ≡ None
+      none : (o : Option instances.Instance) → option_and_then (λ (known : instances.Instance). known.call)
+          (option_map said o) ≡ None
       none (Some known) = refl
       none None = refl
 
       by : (t : Bool) → same_inst i x ≡ t
-          → option_and_then (λ (known : instances.Instance). known.call) (if same_inst i x then option_map said (instance_of it x) else instance_of it x) ≡ call_of new (Instance x)
+          → option_and_then (λ (known : instances.Instance). known.call)
+          (if same_inst i x then option_map said (instance_of it x) else instance_of it x)
+          ≡ call_of new (Instance x)
       by true is =
-          (λ j. option_and_then (λ (known : instances.Instance). known.call) (if is j then option_map said (instance_of it x) else instance_of it x))
+          (λ j. option_and_then (λ (known : instances.Instance). known.call)
+          (if is j then option_map said (instance_of it x) else instance_of it x))
           ∙ none (instance_of it x)
-          ∙ sym (none_is_found (λ c. holds (λ (d : Begin). same_owner (Instance x) d.owner) (at eqb number None told.calls c)) (numbers_to k.last_call)
+          ∙ sym (none_is_found (λ c. holds (λ (d : Begin). same_owner (Instance x) d.owner)
+          (at eqb number None told.calls c)) (numbers_to k.last_call)
           (idle_as (Instance x) ∙ (λ j. if (inst_flip i x ∙ is) j then true else is_idle told (Instance x))))
       by false other =
-          (λ j. option_and_then (λ (known : instances.Instance). known.call) (if other j then option_map said (instance_of it x) else instance_of it x))
+          (λ j. option_and_then (λ (known : instances.Instance). known.call)
+          (if other j then option_map said (instance_of it x) else instance_of it x))
           ∙ stands.row_calls x ∙ sym (other_calls (Instance x) (inst_flip i x ∙ other))
 
   calls : (c : ℕ) → recorded_call ended c ≡ at eqb number None told.calls c
@@ -413,13 +484,15 @@ module _ (told : Told) (was : Records) (it : Recorded) (n number worker : ℕ) (
       ∙ (λ j. option_and_then (λ place. place) (if nat_at number c j then None else found nat_cmp it.calls c))
       ∙ by (eqb number c)
     where
-      by : (t : Bool) → option_and_then (λ place. place) (if t then None else found nat_cmp it.calls c) ≡ (if t then None else told.calls c)
+      by : (t : Bool) → option_and_then (λ place. place) (if t then None else found nat_cmp it.calls c)
+          ≡ (if t then None else told.calls c)
       by true = refl
       by false = stands.calls c
 
   -- ---- tasks and works
 
-  task_same : {X : Type 0} (f : Task → X) → f task_now ≡ f (k.task n) → (t : ℕ) → f (new.known.task t) ≡ f (k.task t)
+  task_same : {X : Type 0} (f : Task → X) → f task_now ≡ f (k.task n) → (t : ℕ) → f (new.known.task t)
+      ≡ f (k.task t)
   task_same f same t = by (eqb n t) refl
     where
       by : (b : Bool) → eqb n t ≡ b → f (if b then task_now else k.task t) ≡ f (k.task t)
@@ -430,49 +503,72 @@ module _ (told : Told) (was : Records) (it : Recorded) (n number worker : ℕ) (
   going_same t = task_same (λ it. nat_le 1 t && (nat_le t k.tasks && not (is_some it.end))) refl t
 
   swept_same : (t : ℕ) (swept : List MachineName) → AreSwept k t swept → AreSwept new.known t swept
-  swept_same t swept are = are ∙ sym (task_same (λ it. filter (λ (name : SlotName). not (name.task == t) && is_in_deployment k it.dep name) k.machines) refl t)
+  swept_same t swept are = are
+      ∙ sym (task_same (λ it. filter (λ (name : SlotName). not (name.task == t) && is_in_deployment k it.dep name)
+      k.machines) refl t)
 
   -- what is recorded of a task
   abbrev row_by : ℕ → Task → TaskRow
-  row_by t it = record { task = t; kind = it.kind; dep = it.dep; end = it.end; source = it.source; calls = it.calls }
+  row_by t it = record {
+    task = t;
+    kind = it.kind;
+    dep = it.dep;
+    end = it.end;
+    source = it.source;
+    calls =
+        it.calls;
+  }
 
-  work_is : (t : ℕ) → work_of ended t ≡ (if eqb n t then option_map (ended_work asked places fail) (work_of it t) else work_of it t)
+  work_is : (t : ℕ) → work_of ended t ≡ (if eqb n t then option_map (ended_work asked places fail) (work_of it t)
+      else work_of it t)
   work_is t = by asked
     where
-      first : work_of (record it { works = changed nat_cmp n (λ work. given work places) it.works }) t ≡ (if eqb n t then option_map (λ work. given work places) (work_of it t) else work_of it t)
+      first : work_of (record it { works = changed nat_cmp n (λ work. given work places) it.works }) t
+          ≡ (if eqb n t then option_map (λ work. given work places) (work_of it t) else work_of it t)
       first =
           thing_changed nat_cmp nat_keys n (λ work. given work places) it.works t
           ∙ ap (λ b. if b then option_map (λ work. given work places) (work_of it t) else work_of it t) (nat_at n t)
 
       twice : (f g : Work → Work) (b : Bool) (o : Option Work)
-          → (if b then option_map g (if b then option_map f o else o) else (if b then option_map f o else o)) ≡ (if b then option_map (λ w. g (f w)) o else o)
+          → (if b then option_map g (if b then option_map f o else o) else (if b then option_map f o else o))
+          ≡ (if b then option_map (λ w. g (f w)) o else o)
       twice f g true (Some w) = refl
       twice f g true None = refl
       twice f g false o = refl
 
-      then_one : (f g : Work → Work) (works : List (ℕ × Option Work)) → work_of (record it { works = works }) t ≡ (if eqb n t then option_map f (work_of it t) else work_of it t)
-          → work_of (record it { works = changed nat_cmp n g works }) t ≡ (if eqb n t then option_map (λ w. g (f w)) (work_of it t) else work_of it t)
+      then_one : (f g : Work → Work) (works : List (ℕ × Option Work)) → work_of (record it { works = works }) t
+          ≡ (if eqb n t then option_map f (work_of it t) else work_of it t)
+          → work_of (record it { works = changed nat_cmp n g works }) t
+          ≡ (if eqb n t then option_map (λ w. g (f w)) (work_of it t) else work_of it t)
       then_one f g works is =
           thing_changed nat_cmp nat_keys n g works t
           ∙ (λ j. if nat_at n t j then option_map g (is j) else is j)
           ∙ twice f g (eqb n t) (work_of it t)
 
       by : (p : Bool) → work_of (record it {
-            works = changed nat_cmp n (λ work. failed_by work fail)
-                (if p then changed nat_cmp n (with_pinged places.part.ping) (changed nat_cmp n (λ work. given work places) it.works) else changed nat_cmp n (λ work. given work places) it.works);
-          }) t
+        works = changed nat_cmp n (λ work. failed_by work fail)
+            (if p then changed nat_cmp n (with_pinged places.part.ping)
+            (changed nat_cmp n (λ work. given work places) it.works) else changed nat_cmp n
+            (λ work. given work places) it.works);
+      }) t
           ≡ (if eqb n t then option_map (ended_work p places fail) (work_of it t) else work_of it t)
       by true =
-          then_one (λ w. with_pinged places.part.ping (given w places)) (λ work. failed_by work fail) (changed nat_cmp n (with_pinged places.part.ping) (changed nat_cmp n (λ work. given work places) it.works))
-          (then_one (λ work. given work places) (with_pinged places.part.ping) (changed nat_cmp n (λ work. given work places) it.works) first)
-      by false = then_one (λ work. given work places) (λ work. failed_by work fail) (changed nat_cmp n (λ work. given work places) it.works) first
+          then_one (λ w. with_pinged places.part.ping (given w places)) (λ work. failed_by work fail)
+          (changed nat_cmp n (with_pinged places.part.ping)
+          (changed nat_cmp n (λ work. given work places) it.works))
+          (then_one (λ work. given work places) (with_pinged places.part.ping)
+          (changed nat_cmp n (λ work. given work places) it.works) first)
+      by false = then_one (λ work. given work places) (λ work. failed_by work fail)
+          (changed nat_cmp n (λ work. given work places) it.works) first
 
   going : is_going k n ≡ true
   going = stands.tells_well.going number b allows.is_open
 
   dep_is : dep_of it n ≡ Some i.dep
   dep_is =
-      ap (option_and_then (λ (row : TaskRow). row.dep)) (stands.tasks n ∙ (λ j. if opened (nat_le 1 n) (nat_le n k.tasks) (is_open k n) going j then Some (task_row k n) else None))
+      ap (option_and_then (λ (row : TaskRow). row.dep)) (stands.tasks n
+      ∙ (λ j. if opened (nat_le 1 n) (nat_le n k.tasks) (is_open k n) going j then Some (task_row k n)
+      else None))
       ∙ allows.dep
     where
       opened : (a b c : Bool) → (a && (b && c)) ≡ true → (a && b) ≡ true
@@ -480,8 +576,14 @@ module _ (told : Told) (was : Records) (it : Recorded) (n number worker : ℕ) (
       opened true false c is = is
       opened false b c is = is
 
-  places_are : (work : Work) (swept : List MachineName) → work_of it n ≡ Some work → StandsFor told (k.task n) n swept work → places ≡ places_of (k.task n) i
-  places_are work swept is work_stands = λ j. record { part = (closed_part ∙ part) j; sweep = None; deleting = None }
+  places_are : (work : Work) (swept : List MachineName) → work_of it n ≡ Some work
+      → StandsFor told (k.task n) n swept work → places ≡ places_of (k.task n) i
+  places_are work swept is work_stands = λ j. record {
+    part = (closed_part ∙ part) j;
+    sweep = None;
+    deleting =
+        None;
+  }
     where
       part : part_of it i ≡ record {
         ping = place_of same_inst i (k.task n).to_ping;
@@ -490,8 +592,11 @@ module _ (told : Told) (was : Records) (it : Recorded) (n number worker : ℕ) (
       }
       part = λ j. record {
         ping = (stands.linked.pings n work i is dep_is ∙ ap (place_of same_inst i) (work_stands.pings).items_are) j;
-        leaving = (stands.linked.leaving n work i is dep_is ∙ ap (place_of same_inst i) (work_stands.obsolete).items_are) j;
-        change = (stands.linked.changes n work i is dep_is ∙ ap (λ changed. change_place changed i) work_stands.changed_are) j;
+        leaving =
+            (stands.linked.leaving n work i is dep_is ∙ ap (place_of same_inst i) (work_stands.obsolete).items_are)
+            j;
+        change = (stands.linked.changes n work i is dep_is
+            ∙ ap (λ changed. change_place changed i) work_stands.changed_are) j;
       }
 
   failed_is : (work : Work) → work.failed ≡ option_map (end_of k) (k.task n).failed
@@ -500,39 +605,57 @@ module _ (told : Told) (was : Records) (it : Recorded) (n number worker : ℕ) (
       failed_as asked places fail work
       ∙ (λ j. if work_specs.is_less (fail_is j) (is j) then fail_is j else is j)
       ∙ least_is k (k.task n).failed (known_calls.failure_of k b answer) allows.failed_begun (new_begun answer)
-      ∙ ap (λ (t : Task). option_map (end_of k) t.failed) (sym (λ j. if eq-eqb n n refl j then task_now else k.task n))
+      ∙ ap (λ (t : Task). option_map (end_of k) t.failed)
+      (sym (λ j. if eq-eqb n n refl j then task_now else k.task n))
     where
       own : is_some (k.begun number) ≡ true
       own = ap is_some allows.begun
 
-      gone : (g : Bool) (failure : Failure) → (if g then Some (failures.Gone number) else None) ≡ Some failure → is_some (k.begun (number_of failure)) ≡ true
-      gone true failure is = let e : failures.Gone number ≡ failure = cc in ap (λ f. is_some (k.begun (number_of f))) (sym e) ∙ own
+      gone : (g : Bool) (failure : Failure) → (if g then Some (failures.Gone number) else None) ≡ Some failure
+          → is_some (k.begun (number_of failure)) ≡ true
+      gone true failure is = let e : failures.Gone number ≡ failure =
+          cc in ap (λ f. is_some (k.begun (number_of f))) (sym e) ∙ own
       gone false failure is = absurd cc
 
-      new_begun : (answer : Answer) (failure : Failure) → known_calls.failure_of k b answer ≡ Some failure → is_some (k.begun (number_of failure)) ≡ true
-      new_begun answers.Failed failure is = let e : failures.Call number ≡ failure = cc in ap (λ f. is_some (k.begun (number_of f))) (sym e) ∙ own
+      new_begun : (answer : Answer) (failure : Failure) → known_calls.failure_of k b answer ≡ Some failure
+          → is_some (k.begun (number_of failure)) ≡ true
+      new_begun answers.Failed failure is = let e : failures.Call number ≡ failure =
+          cc in ap (λ f. is_some (k.begun (number_of f))) (sym e) ∙ own
       new_begun answers.Gone failure is = gone (known_calls.fails_gone k b call) failure is
       new_begun answer failure is = absurd cc
 
-  own_work : (o : Option Work) → work_of it n ≡ o → IsWork told n o → IsWork new n (option_map (ended_work asked places fail) o)
-  own_work (Some work) is (open_, (swept, work_stands, are_swept)) =
-      (going_same n ∙ open_, (swept,
+  own_work : (o : Option Work) → work_of it n ≡ o → IsWork told n o
+      → IsWork new n (option_map (ended_work asked places fail) o)
+  own_work (Some work) is (open_, (swept, work_stands, are_swept)) = (
+    going_same n ∙ open_,
+    (
+      swept,
       subst (λ (it : Told). StandsFor it (it.known.task n) n swept (ended_work asked places fail work)) told_is
-      (after_call_ended told n number worker call answer swept work (ended_work asked places fail work) i work_stands allows.changed_apart allows.pings_apart allows.obsolete_apart
-      allows.compiles_none allows.low (stands.tells_well.past number b allows.is_open) allows.begun allows.is_open allows.only
-      (ended_as asked places fail work
-      ∙ (λ j. record (given work (places_are work swept is work_stands j)) {
-        pings = asked_line (takes_as call answer j) (given_line work.pings (places_are work swept is work_stands j).part.ping) (places_are work swept is work_stands j).part.ping;
-        failed = (ended_work asked places fail work).failed;
-      }))
-      (failed_is work work_stands.failed_is ∙ (λ j. option_map (end_of (sym told_is j).known) ((sym told_is j).known.task n).failed))),
-      swept_same n swept are_swept))
+          (after_call_ended told n number worker call answer swept work (ended_work asked places fail work) i
+          work_stands allows.changed_apart allows.pings_apart allows.obsolete_apart
+          allows.compiles_none allows.low (stands.tells_well.past number b allows.is_open) allows.begun allows.is_open
+          allows.only
+          (ended_as asked places fail work
+          ∙ (λ j. record (given work (places_are work swept is work_stands j)) {
+            pings = asked_line (takes_as call answer j)
+                (given_line work.pings (places_are work swept is work_stands j).part.ping)
+                (places_are work swept is work_stands j).part.ping;
+            failed = (ended_work asked places fail work).failed;
+          }))
+          (failed_is work work_stands.failed_is
+          ∙ (λ j. option_map (end_of (sym told_is j).known) ((sym told_is j).known.task n).failed))),
+      swept_same n swept are_swept,
+    ),
+  )
   own_work None is gone = λ later. going_same n ∙ gone later
 
-  not_it : (xs : List Inst) → is_among same_inst i xs ≡ false → (j : ℕ) (x : Inst) → slice_get xs j ≡ Some x → idle_in new x ≡ idle_in told x
-  not_it xs none j x is = idle_as (Instance x) ∙ (λ l. if (inst_flip i x ∙ none_at (same_inst i) xs j x none is) l then true else is_idle told (Instance x))
+  not_it : (xs : List Inst) → is_among same_inst i xs ≡ false → (j : ℕ) (x : Inst) → slice_get xs j ≡ Some x
+      → idle_in new x ≡ idle_in told x
+  not_it xs none j x is = idle_as (Instance x) ∙ (λ l. if (inst_flip i x ∙ none_at (same_inst i) xs j x none is) l
+      then true else is_idle told (Instance x))
 
-  same_for : (t : ℕ) (swept : List MachineName) → eqb n t ≡ false → is_going k t ≡ true → SameListed told new (k.task t) t swept
+  same_for : (t : ℕ) (swept : List MachineName) → eqb n t ≡ false → is_going k t ≡ true
+      → SameListed told new (k.task t) t swept
   same_for t swept other open_ = record {
     pings = not_it (k.task t).to_ping (allows.not_asked t other open_);
     obsolete = not_it (k.task t).obsolete (allows.not_leaving t other open_);
@@ -545,22 +668,29 @@ module _ (told : Told) (was : Records) (it : Recorded) (n number worker : ℕ) (
     worked = λ key. refl;
     machines = refl;
     failed = refl;
-    calls = count_within (is_task_call new t) (is_task_call told t) k.last_call (λ c low. still (λ o. holds (λ (d : Begin). d.task == t) o) (sym other) c);
+    calls = count_within (is_task_call new t) (is_task_call told t) k.last_call
+        (λ c low. still (λ o. holds (λ (d : Begin). d.task == t) o) (sym other) c);
   }
 
   other_work : (t : ℕ) → eqb n t ≡ false → (o : Option Work) → IsWork told t o → IsWork new t o
-  other_work t other (Some work) (open_, (swept, work_stands, are_swept)) =
-      (going_same t ∙ open_, (swept,
+  other_work t other (Some work) (open_, (swept, work_stands, are_swept)) = (
+    going_same t ∙ open_,
+    (
+      swept,
       subst (λ (it : Task). StandsFor new it t swept work) (sym (λ j. if other j then task_now else k.task t))
-      (listed_goes_on told new (k.task t) t swept work (same_for t swept other open_) work_stands),
-      swept_same t swept are_swept))
+          (listed_goes_on told new (k.task t) t swept work (same_for t swept other open_) work_stands),
+      swept_same t swept are_swept,
+    ),
+  )
   other_work t other None gone = λ later. going_same t ∙ gone later
 
   works : (t : ℕ) → IsWork new t (work_of ended t)
   works t = subst (IsWork new t) (sym (work_is t)) (by (eqb n t) refl)
     where
-      by : (b : Bool) → eqb n t ≡ b → IsWork new t (if b then option_map (ended_work asked places fail) (work_of it t) else work_of it t)
-      by true is = subst (λ t. IsWork new t (option_map (ended_work asked places fail) (work_of it t))) (eqb-true n t is) (own_work (work_of it n) refl (stands.works n))
+      by : (b : Bool) → eqb n t ≡ b
+          → IsWork new t (if b then option_map (ended_work asked places fail) (work_of it t) else work_of it t)
+      by true is = subst (λ t. IsWork new t (option_map (ended_work asked places fail) (work_of it t)))
+          (eqb-true n t is) (own_work (work_of it n) refl (stands.works n))
       by false is = other_work t is (work_of it t) (stands.works t)
 
   -- ---- all
@@ -580,16 +710,21 @@ module _ (told : Told) (was : Records) (it : Recorded) (n number worker : ℕ) (
     row_calls = row_calls;
     machines = stands.machines;
     machine_keys = λ name. stands.machine_keys name
-        ∙ sym (task_same (λ (it : Task). option_and_then (λ key. first_marked (map (λ work. same_key work.key key) (keys_of it.goal))) (key_of_slot (k.slot name.task name.slot))) refl name.task);
+        ∙ sym (task_same
+        (λ (it : Task). option_and_then
+        (λ key. first_marked (map (λ work. same_key work.key key) (keys_of it.goal)))
+        (key_of_slot (k.slot name.task name.slot))) refl name.task);
     machine_calls = λ name. stands.machine_calls name ∙ sym (other_calls (Compile name.task name.slot) refl);
     orphans = stands.orphans;
     orphan_calls = λ d. stands.orphan_calls d ∙ sym (other_calls (Disk d) refl);
     digests = stands.digests;
     compiling = λ key. stands.compiling key
-        ∙ sym (any_within (λ c. holds (λ (d : Begin). compiles key d.call) (at eqb number None told.calls c)) (λ c. holds (λ (d : Begin). compiles key d.call) (told.calls c)) k.last_call
+        ∙ sym (any_within (λ c. holds (λ (d : Begin). compiles key d.call) (at eqb number None told.calls c))
+        (λ c. holds (λ (d : Begin). compiles key d.call) (told.calls c)) k.last_call
         (λ c low. still (λ o. holds (λ (d : Begin). compiles key d.call) o) (sym (allows.compiles_none key)) c));
     tasks = λ t. stands.tasks t
-        ∙ sym (task_same (λ (it : Task). if nat_le 1 t && nat_le t k.tasks then Some (row_by t it) else None) refl t);
+        ∙ sym (task_same (λ (it : Task). if nat_le 1 t && nat_le t k.tasks then Some (row_by t it) else None) refl
+        t);
     calls = calls;
     works = works;
     linked = links_go_on it ended (record {
@@ -614,4 +749,5 @@ module _ (told : Told) (was : Records) (it : Recorded) (n number worker : ℕ) (
   pub after_end : StandsIn (telling told (entries.End e)) (ended_in (ended_of was e) it)
   after_end =
       subst (λ (plan : Ended). StandsIn (telling told (entries.End e)) (ended_in plan it)) (sym plan_is)
-      (subst (StandsIn (telling told (entries.End e))) (sym ended_is) (subst (λ (told : Told). StandsIn told ended) (sym told_is) ended_stands))
+      (subst (StandsIn (telling told (entries.End e))) (sym ended_is) (subst (λ (told : Told). StandsIn told ended)
+      (sym told_is) ended_stands))

@@ -1,24 +1,23 @@
 -- Uploads: nothing else is told, and nothing else recorded.
-use Rattle.std.proofs.Common.{◌≡◌, ◌∙◌, ℕ, ◌<◌, List, ◌++◌, [], ◌∷◌, Option, Some, None, refl, subst, sym}
-use Rattle.bosh_base.specs.declared.entry.Entry.{Entry}
+use Rattle.std.proofs.Common.{ℕ, List, ◌++◌, [], ◌∷◌, Option, Some, None, refl, subst, sym}
 use Rattle.bosh_base.specs.declared.entry.Entry.TheVariants as entries
 use Rattle.bosh_base.specs.declared.release.Release.{Release}
 use Rattle.bosh_base.specs.declared.stemcell.Stemcell.{Stemcell}
-use Rattle.bosh_history.specs.Known.{Known}
-use Rattle.bosh_records.specs.Arrivals.{Arrivals}
 use Rattle.bosh_records.specs.Recorded.{Recorded}
 use Rattle.bosh_work.specs.declared.part.MachineName.{MachineName}
 use Rattle.bosh_work.specs.declared.work.Work.{Work}
 use Rattle.laws_stands.specs.Reading.{work_of}
 use Rattle.laws_stands.specs.Stands.{IsWork, StandsIn, arrivals_of}
-use Rattle.laws_stands.specs.Told.{TellsWell, Told, telling}
+use Rattle.laws_stands.specs.Told.{Told, telling}
 use Rattle.laws_stands_on.proofs.ListedLemmas.{SameListed, listed_goes_on}
 
 -- other uploads than those that are known
 abbrev uploaded : List Release → List Stemcell → Option (List ℕ) → Told → Told
-uploaded releases stemcells config told = record told { known = record told.known { releases = releases; stemcells = stemcells; config = config } }
+uploaded releases stemcells config told =
+    record told { known = record told.known { releases = releases; stemcells = stemcells; config = config } }
 
-module _ (releases : List Release) (stemcells : List Stemcell) (config : Option (List ℕ)) (told : Told) (it : Recorded) (stands : StandsIn told it) where
+module _ (releases : List Release) (stemcells : List Stemcell) (config : Option (List ℕ)) (told : Told)
+    (it : Recorded) (stands : StandsIn told it) where
   abbrev new : Told
   new = uploaded releases stemcells config told
 
@@ -79,14 +78,16 @@ module _ (releases : List Release) (stemcells : List Stemcell) (config : Option 
 -- ---- each kind
 
 pub after_release : (release : Release) (told : Told) (it : Recorded) → StandsIn told it
-    → StandsIn (telling told (entries.Release release)) (record it { came = record it.came { releases = it.came.releases ++ release ∷ [] } })
+    → StandsIn (telling told (entries.Release release))
+    (record it { came = record it.came { releases = it.came.releases ++ release ∷ [] } })
 after_release release told it stands =
     subst (λ came. StandsIn (telling told (entries.Release release)) (record it { came = came }))
     (λ i. record (sym stands.uploads i) { releases = (sym stands.uploads i).releases ++ release ∷ [] })
     (uploads_stand (told.known.releases ++ release ∷ []) told.known.stemcells told.known.config told it stands)
 
 pub after_stemcell : (stemcell : Stemcell) (told : Told) (it : Recorded) → StandsIn told it
-    → StandsIn (telling told (entries.Stemcell stemcell)) (record it { came = record it.came { stemcells = it.came.stemcells ++ stemcell ∷ [] } })
+    → StandsIn (telling told (entries.Stemcell stemcell))
+    (record it { came = record it.came { stemcells = it.came.stemcells ++ stemcell ∷ [] } })
 after_stemcell stemcell told it stands =
     subst (λ came. StandsIn (telling told (entries.Stemcell stemcell)) (record it { came = came }))
     (λ i. record (sym stands.uploads i) { stemcells = (sym stands.uploads i).stemcells ++ stemcell ∷ [] })

@@ -25,7 +25,9 @@ ghost use Rattle.laws_stands_on.specs.Once.{IsOnce};
 pub fn what_is_recorded_stands_after_a_call_begins()
     ensures { (told : Told) (it : Recorded) (n number worker : ℕ) (call : Call) (i : Inst)
         → AllowsCall told n number call i → HasPlaces it number i → StandsIn told it
-        → StandsIn (telling told (entries.Begin (record { n = number; task = n; worker = worker; owner = Instance i; call = call })))
+        → StandsIn
+        (telling told
+        (entries.Begin (record { n = number; task = n; worker = worker; owner = Instance i; call = call })))
         (learned (entries.Begin (record { n = number; task = n; worker = worker; owner = Instance i; call = call }))
         (changes.Begun (record {
           begin = record { n = number; task = n; worker = worker; owner = Instance i; call = call };
@@ -35,9 +37,11 @@ pub fn what_is_recorded_stands_after_a_call_begins()
 
 /// .. and after it ended, as it was planned, where no call stands twice.
 pub fn what_is_recorded_stands_after_a_call_ends()
-    ensures { (told : Told) (was : Records) (it : Recorded) (n number worker : ℕ) (call : Call) (answer : Answer) (i : Inst)
+    ensures { (told : Told) (was : Records) (it : Recorded) (n number worker : ℕ) (call : Call) (answer : Answer)
+        (i : Inst)
         → AllowsEnd told (record { n = number; task = n; worker = worker; owner = Instance i; call = call }) answer i
         → IsOnce nat_cmp it.calls → Stands told was → StandsIn told it
         → StandsIn (telling told (entries.End (record { n = number; answer = answer })))
-        (learned (entries.End (record { n = number; answer = answer })) (changes.Ended (ended_of was (record { n = number; answer = answer }))) it) }
+        (learned (entries.End (record { n = number; answer = answer }))
+        (changes.Ended (ended_of was (record { n = number; answer = answer }))) it) }
 {}

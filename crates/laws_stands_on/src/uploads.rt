@@ -12,9 +12,11 @@ ghost use Rattle.laws_stands.specs.Told.{Told, telling};
 /// It stands after a release, a stemcell or a cloud config was uploaded.
 pub fn what_is_recorded_stands_after_uploads()
     ensures release { (told : Told) (it : Recorded) (release : Release) → StandsIn told it
-        → StandsIn (telling told (entries.Release release)) (learned (entries.Release release) (changes.Release release) it) }
+        → StandsIn (telling told (entries.Release release))
+        (learned (entries.Release release) (changes.Release release) it) }
     ensures stemcell { (told : Told) (it : Recorded) (stemcell : Stemcell) → StandsIn told it
-        → StandsIn (telling told (entries.Stemcell stemcell)) (learned (entries.Stemcell stemcell) (changes.Stemcell stemcell) it) }
+        → StandsIn (telling told (entries.Stemcell stemcell))
+        (learned (entries.Stemcell stemcell) (changes.Stemcell stemcell) it) }
     ensures config { (told : Told) (it : Recorded) (file : List ℕ) → StandsIn told it
         → StandsIn (telling told (entries.Config file)) (learned (entries.Config file) (changes.Config file) it) }
 {}

@@ -21,7 +21,8 @@ ghost use Rattle.laws_stands.specs.WorkStands.{WorkStands, asked_line, asks, end
 
 /// The work of a task stands after a call of an instance began.
 pub fn work_stands_after_a_call_begins()
-    ensures { (told : Told) (n number worker : ℕ) (call : Call) (swept : List MachineName) (work new : Work) (i : Inst)
+    ensures { (told : Told) (n number worker : ℕ) (call : Call) (swept : List MachineName) (work new : Work)
+        (i : Inst)
         → WorkStands told n swept work
         → are_distinct same_inst (told.known.task n).changed ≡ true
         → are_distinct same_inst (told.known.task n).to_ping ≡ true
@@ -30,12 +31,16 @@ pub fn work_stands_after_a_call_begins()
         → number ≤ 18446744073709551615
         → (told.known.task n).failed ≡ None
         → new ≡ taken work (places_of (told.known.task n) i)
-        → WorkStands (telling told (entries.Begin (record { n = number; task = n; worker = worker; owner = Instance i; call = call }))) n swept new }
+        → WorkStands
+        (telling told
+        (entries.Begin (record { n = number; task = n; worker = worker; owner = Instance i; call = call }))) n
+        swept new }
 {}
 
 /// .. and after it ended, where no owner has two open calls and the failure is the one that is told.
 pub fn work_stands_after_a_call_ends()
-    ensures { (told : Told) (n number worker : ℕ) (call : Call) (answer : Answer) (swept : List MachineName) (work new : Work) (i : Inst)
+    ensures { (told : Told) (n number worker : ℕ) (call : Call) (answer : Answer) (swept : List MachineName)
+        (work new : Work) (i : Inst)
         → WorkStands told n swept work
         → are_distinct same_inst (told.known.task n).changed ≡ true
         → are_distinct same_inst (told.known.task n).to_ping ≡ true
@@ -43,13 +48,17 @@ pub fn work_stands_after_a_call_ends()
         → ((key : Key) → compiles key call ≡ false)
         → 1 ≤ number
         → number ≤ told.known.last_call
-        → told.known.begun number ≡ Some (record { n = number; task = n; worker = worker; owner = Instance i; call = call })
+        → told.known.begun number
+        ≡ Some (record { n = number; task = n; worker = worker; owner = Instance i; call = call })
         → told.calls number ≡ Some (record { n = number; task = n; worker = worker; owner = Instance i; call = call })
         → ((c : ℕ) (d : Begin) → told.calls c ≡ Some d → same_owner d.owner (Instance i) ≡ true → c ≡ number)
         → new ≡ record (given work (places_of (told.known.task n) i)) {
-          pings = asked_line (asks call answer) (given_line work.pings (place_of same_inst i (told.known.task n).to_ping)) (place_of same_inst i (told.known.task n).to_ping);
+          pings = asked_line (asks call answer)
+              (given_line work.pings (place_of same_inst i (told.known.task n).to_ping))
+              (place_of same_inst i (told.known.task n).to_ping);
           failed = new.failed;
         }
-        → new.failed ≡ option_map (end_of (telling told (entries.End (record { n = number; answer = answer }))).known) ((telling told (entries.End (record { n = number; answer = answer }))).known.task n).failed
+        → new.failed ≡ option_map (end_of (telling told (entries.End (record { n = number; answer = answer }))).known)
+        ((telling told (entries.End (record { n = number; answer = answer }))).known.task n).failed
         → WorkStands (telling told (entries.End (record { n = number; answer = answer }))) n swept new }
 {}
