@@ -1,15 +1,14 @@
-//! All facts, those on the cloud too, hold at each moment of a permitted history; so records stay what the cloud has, and
-//! machines share no address.
+//! All facts, those on the cloud too, hold at each moment of a permitted history: so it is safe, and what is
+//! recorded stays what the cloud has.
 #![tactic(auto)]
 
 ghost use Rattle.std.specs.Prelude.{List};
 ghost use Rattle.bosh_base.specs.declared.moves.Move.{Move};
-ghost use Rattle.bosh_history.specs.Addresses.{shares_no_address};
-ghost use Rattle.bosh_history.specs.Each.{EachMove};
 ghost use Rattle.bosh_history.specs.Fit.{IsFit, LeavesPair};
 ghost use Rattle.bosh_history.specs.Moments.{Moment, Opening, beginning, later, moment};
 ghost use Rattle.bosh_history.specs.Notes.{Outside};
 ghost use Rattle.bosh_history.specs.Permitted.{IsPermitted, IsRun};
+ghost use Rattle.bosh_history.specs.Safe.{IsSafe};
 ghost use Rattle.bosh_history.specs.Ties.{IsTied};
 ghost use Rattle.laws_facts.specs.Facts.{Holds};
 ghost use Rattle.laws_held.specs.Whole.{IsWholeKept, Whole};
@@ -41,8 +40,10 @@ pub fn records_stay_what_the_cloud_has()
         IsTied o moves }
 {}
 
-/// No two machines that are there, or that open calls may be making, share an address.
-pub fn machines_share_no_address()
+/// It is safe: disks are deleted as they are asked to be, no two machines share an address, groups are updated as their
+/// plans say, no package is compiled twice, the contents of disks are moved and never left behind, and the phases of each
+/// task follow one another.
+pub fn permitted_histories_are_safe()
     ensures { (outside : Outside) (o : Opening) (moves : List Move) → IsFit outside o → IsRun outside o moves →
-        EachMove shares_no_address (beginning o) moves }
+        IsSafe o moves }
 {}

@@ -72,7 +72,7 @@ each_along outside test each m (move ∷ moves) run h = (
 )
 
 -- what holds of each entry that may be noted holds of each that is, and of each that a stop keeps
-durable_each : (outside : Outside) (m : Moment) (test : Moment → Entry → Bool)
+pub durable_each : (outside : Outside) (m : Moment) (test : Moment → Entry → Bool)
     → ((e : Entry) → may_follow m e ≡ true → MayNote outside m e → test m e ≡ true)
     → (move : Move) → IsPermitted outside m move → durable_well test m move ≡ true
 durable_each outside m test each (moves.Note e) may = each e may.1 may.2
@@ -158,7 +158,7 @@ up_to n (suc last) there = by (in_parts n (numbers_to last) (suc last ∷ []) th
     by (inr (inl same)) rest = record { low = grind (arith, same); high = grind (arith, same) }
     by (inr (inr none)) rest = absurd none
 
-limits_at : (m : Moment) → KnownFacts m → are_within_limits m.known ≡ true
+pub limits_at : (m : Moment) → KnownFacts m → are_within_limits m.known ≡ true
 limits_at m h =
     all_from (λ t. not (is_open m.known t) || list_all (is_within_limit (m.known.task t)) (m.known.task t).changed)
     (numbers_to m.known.tasks) each

@@ -1,0 +1,3 @@
+pub mod ActiveLemmas
+pub mod ContentLemmas
+pub mod MigrationLemmas
