@@ -1,7 +1,7 @@
 -- What the cloud does of the call of a compile machine keeps its facts.
 use Rattle.std.proofs.Common.{◌≡◌, ◌∙◌, ℕ, Bool, true, false, Option, Some, None, List, refl, sym, subst, append-nil}
 use Rattle.std.proofs.Common.{inl, inr, ◌+◌, ◌≤◌, arith}
-use Rattle.std.specs.Prelude.{◌++◌, ◌≢◌, ◌&&◌, ◌⊎◌, nat_le, not, is_some}
+use Rattle.std.specs.Prelude.{◌++◌, ◌&&◌, ◌⊎◌, nat_le, not, is_some}
 use Rattle.std.specs.List.{list_all}
 use Rattle.std.proofs.lemmas.Bool.{and_parts, false≢true, leb-true, not-true, or_cases}
 use Rattle.bosh_base.specs.CallStep.{CallStep}

@@ -20,7 +20,7 @@ use Rattle.bosh_history.specs.Moments.{Moment, OpenCall}
 use Rattle.bosh_history.specs.Steps.{want_of}
 use Rattle.bosh_history.specs.Words.{holds}
 use Rattle.bosh_rows.specs.CallOf.{next_call}
-use Rattle.bosh_rows.specs.Disks.{active, coming, is_active, is_new, is_right, is_running, least, meets}
+use Rattle.bosh_rows.specs.Disks.{active, coming, is_new, is_right, is_running, least, meets}
 use Rattle.bosh_rows.specs.NextStep.{has_to_stop, is_disk_settled, spec_differs}
 use Rattle.laws_compile_machines_kept.proofs.NamedLemmas.{to_make}
 use Rattle.laws_facts.specs.Facts.{Holds}

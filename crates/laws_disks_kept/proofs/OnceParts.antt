@@ -1,10 +1,9 @@
 -- Each part of a move leaves each disk that is there recorded once, also once each open call is answered.
-use Rattle.std.proofs.Common.{◌≡◌, ◌∙◌, ℕ, ◌+◌, Bool, true, false, Option, Some, None, [], ◌∷◌, ◌++◌, refl, inl, inr}
-use Rattle.std.specs.Prelude.{◌⊎◌, ◌≢◌, is_some}
+use Rattle.std.proofs.Common.{◌≡◌, ◌∙◌, ℕ, Bool, true, false, Option, Some, None, [], ◌∷◌, ◌++◌, refl, inl, inr}
+use Rattle.std.specs.Prelude.{◌⊎◌, is_some}
 use Rattle.std.proofs.lemmas.Bool.{false≢true}
 use Rattle.bosh_base.specs.CallStep.{CallStep}
 use Rattle.bosh_base.specs.Cloud.{is_disk_there}
-use Rattle.bosh_base.specs.declared.entry.Effect.{Effect}
 use Rattle.bosh_base.specs.declared.entry.Entry.{Entry}
 use Rattle.bosh_base.specs.declared.entry.Entry.TheVariants as entries
 use Rattle.bosh_base.specs.declared.moves.Did.{Did}

@@ -1,7 +1,7 @@
 -- Each entry leaves orphaned disks what their records say.
 use Rattle.std.proofs.Common.{◌≡◌, ◌∙◌, ℕ, Bool, true, false, Option, Some, None, List, refl, sym, subst, inr, []}
 use Rattle.std.specs.List.{list_all}
-use Rattle.std.specs.Prelude.{◌≢◌, ◌==◌, if◌then◌else◌, is_some, not}
+use Rattle.std.specs.Prelude.{◌==◌, if◌then◌else◌, is_some, not}
 use Rattle.std.specs.Option.{option_and_then, option_map}
 use Rattle.std.proofs.lemmas.Bool.{and_from, and_parts, eq-eqb, false≢true}
 use Rattle.bosh_base.specs.Cloud.{disk_creation, is_disk_there}

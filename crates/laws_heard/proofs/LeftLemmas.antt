@@ -28,7 +28,6 @@ use Rattle.laws_facts.proofs.CallLemmas.{none_open}
 use Rattle.laws_facts.proofs.WorkLemmas.{opens_next}
 use Rattle.laws_facts.specs.CallFacts.{is_answer_heard_of, is_call_heard_of}
 use Rattle.laws_facts.specs.Facts.{Holds}
-use Rattle.laws_facts.specs.Owners.{works}
 use Rattle.laws_facts.specs.Tasks.{has_to_hear, is_row_heard_of}
 use Rattle.laws_heard.proofs.AnswerLemmas.{answer_heard, hears_more, implied}
 use Rattle.laws_heard.proofs.KeptLemmas.{lost_more}

@@ -1,6 +1,6 @@
 -- An entry leaves a task what it has heard of the machines that it asks.
 use Rattle.std.proofs.Common.{◌≡◌, ◌∙◌, ℕ, Bool, true, false, Option, Some, None, ap, refl, sym, inl, inr}
-use Rattle.std.specs.Prelude.{◌⊎◌, ◌≢◌, ◌&&◌, ◌||◌, eqb, if◌then◌else◌, is_some, not}
+use Rattle.std.specs.Prelude.{◌⊎◌, ◌&&◌, ◌||◌, eqb, if◌then◌else◌, is_some, not}
 use Rattle.std.proofs.lemmas.Bool.{and_from, and_parts, eq-eqb, false≢true, not-true, or_cases, or_left, or_right}
 use Rattle.bosh_base.specs.declared.answer.Answer.{Answer}
 use Rattle.bosh_base.specs.declared.answer.Answer.TheVariants as answers

@@ -22,7 +22,6 @@ use Rattle.bosh_history.specs.Sound.{has_instances, is_row_of, IsSound}
 use Rattle.bosh_history.specs.Tasks.{asks_of, has_machine, is_of_dep, task_opened, to_ping}
 use Rattle.bosh_history.specs.Words.{holds, is_among}
 use Rattle.bosh_rows.proofs.SameLemmas.{same_inst_decides}
-use Rattle.bosh_rows.specs.After.{bare}
 use Rattle.bosh_rows.specs.Same.{same_inst}
 use Rattle.bosh_rows.specs.SoundSnapshot.{are_distinct}
 use Rattle.laws_facts.proofs.GoalLemmas.{of_dep, of_none, opens_of, OpensOf, sound_of}

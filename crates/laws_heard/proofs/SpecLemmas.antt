@@ -1,6 +1,6 @@
 -- A row without a machine has no spec: each entry keeps that.
 use Rattle.std.proofs.Common.{◌≡◌, ◌∙◌, ℕ, Bool, true, false, Option, Some, None, ap, refl, sym, subst, inl, inr}
-use Rattle.std.specs.Prelude.{◌≢◌, if◌then◌else◌, is_some}
+use Rattle.std.specs.Prelude.{if◌then◌else◌, is_some}
 use Rattle.std.specs.Option.{option_map}
 use Rattle.std.proofs.lemmas.Bool.{false≢true, or_left}
 use Rattle.bosh_base.specs.declared.answer.Answer.{Answer}
