@@ -1,3 +1,4 @@
+pub mod DoneLemmas
 pub mod HeldLemmas
 pub mod PartLemmas
 pub mod RestLemmas

@@ -1,9 +1,10 @@
-//! All facts, those on the cloud too, hold at each moment of a permitted history: so it is safe, and what is
-//! recorded stays what the cloud has.
+//! All facts, those on the cloud too, hold at each moment of a permitted history: so it is safe, what is
+//! recorded stays what the cloud has, and a task that is reported done is exact.
 #![tactic(auto)]
 
 ghost use Rattle.std.specs.Prelude.{List};
 ghost use Rattle.bosh_base.specs.declared.moves.Move.{Move};
+ghost use Rattle.bosh_history.specs.Done.{AreDoneExactly};
 ghost use Rattle.bosh_history.specs.Fit.{IsFit, LeavesPair};
 ghost use Rattle.bosh_history.specs.Moments.{Moment, Opening, beginning, later, moment};
 ghost use Rattle.bosh_history.specs.Notes.{Outside};
@@ -46,4 +47,10 @@ pub fn records_stay_what_the_cloud_has()
 pub fn permitted_histories_are_safe()
     ensures { (outside : Outside) (o : Opening) (moves : List Move) → IsFit outside o → IsRun outside o moves →
         IsSafe o moves }
+{}
+
+/// Each task that is reported done left exactly what it was asked for, by a note or by the entry that a stop kept.
+pub fn done_tasks_are_exact()
+    ensures { (outside : Outside) (o : Opening) (moves : List Move) → IsFit outside o → IsRun outside o moves →
+        AreDoneExactly o moves }
 {}

@@ -56,14 +56,10 @@ taken_performs outside m n None may = absurd (false≢true may)
 module _ (All : Moment → Type 0) (outside : Outside)
     (halts : (m : Moment) (is_halted : Bool) → All m → All (record m { halted = is_halted }))
     (parts : (m : Moment) (part : Part) → MayHappen outside m part → All m → All (after_part m part)) where
-  -- what is kept, and that all is forgotten
-  rest : (m : Moment) (kept : Option Entry) → MayKeep outside m kept → All m → All (forgetting (keeping m kept))
-  rest m (Some e) may all = parts (keeping m (Some e)) Forgotten tt (parts m (Noted e) (may.1, may.0) all)
-  rest m None may all = parts m Forgotten tt all
-
+  -- what open calls did leaves what is kept, and that the entry may be noted that the stop kept
   taken : (m : Moment) (last : ℕ) (took : List ℕ) (kept : Option Entry) → MayTake outside m last took
-      → MayKeep outside m kept → All m → All (forgetting (keeping (fold taking m took) kept))
-  taken m last [] kept may also all = rest m kept also all
+      → MayKeep outside m kept → All m → All (fold taking m took) × MayKeep outside (fold taking m took) kept
+  taken m last [] kept may also all = (all, also)
   taken m last (n ∷ took) kept may also all =
       taken (taking m n) n took kept may.1
       (kept_stays m (taking m n).effects (taking m n).calls (taking m n).heard m.early m.halted
@@ -73,15 +69,19 @@ module _ (All : Moment → Type 0) (outside : Outside)
       performs : PerformsOpen outside m.effects (record { n = n; effect = true; answer = Failed }) (m.calls n)
       performs = taken_performs outside m n (m.calls n) (and_parts (nat_lt last n) (may_take outside m n) may.0).1
 
-  stops : (m : Moment) (s : stop.Stop) → Stops outside m s → All m → All (stopping m s)
-  stops m s may all = by s.wrote may.wrote may.took
+  -- so does what was written before it, up to the moment at which a stop finds the site
+  pub found : (m : Moment) (s : stop.Stop) → Stops outside m s → All m
+      → All (fold taking (with_written m s.wrote) s.took)
+      × MayKeep outside (fold taking (with_written m s.wrote) s.took) s.kept
+  found m s may all = by s.wrote may.wrote may.took
     where
       by : (wrote : Option Entry) → MayWrite m wrote → MayTake outside (with_written m wrote) 0 s.took
-          → All (forgetting (keeping (fold taking (with_written m wrote) s.took) s.kept))
+          → All (fold taking (with_written m wrote) s.took)
+          × MayKeep outside (fold taking (with_written m wrote) s.took) s.kept
       by (Some (entries.Write w)) wrote took =
           taken (with_written m (Some (entries.Write w))) 0 s.took s.kept took
-          (kept_stays m (m.effects ++ entries.Write w ∷ []) m.calls m.heard m.early m.halted (none_performed m.calls) outside
-          s.kept may.kept)
+          (kept_stays m (m.effects ++ entries.Write w ∷ []) m.calls m.heard m.early m.halted (none_performed m.calls)
+          outside s.kept may.kept)
           (parts m (Written w) (writer m w.disk m.known.instances wrote) all)
       by (Some (entries.Lost loss)) wrote took =
           taken (with_written m (Some (entries.Lost loss))) 0 s.took s.kept took
@@ -90,6 +90,17 @@ module _ (All : Moment → Type 0) (outside : Outside)
           (parts m (Lost loss) wrote all)
       by (Some entry) wrote took = absurd wrote
       by None wrote took = taken m 0 s.took s.kept took may.kept all
+
+  -- the entry that it kept, and that all is forgotten
+  rest : (m : Moment) (kept : Option Entry) → MayKeep outside m kept → All m → All (forgetting (keeping m kept))
+  rest m (Some e) may all = parts (keeping m (Some e)) Forgotten tt (parts m (Noted e) (may.1, may.0) all)
+  rest m None may all = parts m Forgotten tt all
+
+  stops : (m : Moment) (s : stop.Stop) → Stops outside m s → All m → All (stopping m s)
+  stops m s may all =
+      let there : All (fold taking (with_written m s.wrote) s.took)
+      × MayKeep outside (fold taking (with_written m s.wrote) s.took) s.kept = found m s may all in
+      rest (fold taking (with_written m s.wrote) s.took) s.kept there.1 there.0
 
   writes : (m : Moment) (i : Inst) (text : List ℕ) (disk : Option DiskRow) → active (m.known.row i).disks ≡ disk
       → can_write m i ≡ true → All m → All (record m { effects = m.effects ++ write_to text disk })
