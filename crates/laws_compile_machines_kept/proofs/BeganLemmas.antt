@@ -1,29 +1,20 @@
 -- A compile machine as it was before its open call: the call is one for it, and began from it.
 use Rattle.std.proofs.Common.{◌≡◌, ◌∙◌, ℕ, true, Option, Some, None, List, refl, sym}
 use Rattle.std.specs.Prelude.{◌==◌, not, is_some}
-use Rattle.std.proofs.lemmas.Bool.{and_from, and_parts, eqb-true, false≢true}
-use Rattle.bosh_base.specs.ExactParts.{Decides-call, Decides-make}
+use Rattle.std.proofs.lemmas.Bool.{and_from, and_parts, false≢true}
+use Rattle.bosh_base.specs.ExactParts.{Decides-make}
 use Rattle.bosh_base.specs.declared.call.Call.{Call}
 use Rattle.bosh_base.specs.declared.call.Call.TheVariants as calls
 use Rattle.bosh_base.specs.declared.key.Key.{Key}
-use Rattle.bosh_base.specs.declared.row.Doubt.{Doubt}
 use Rattle.bosh_history.specs.Known.{Slot}
 use Rattle.bosh_history.specs.Slots.{slot_begun}
 use Rattle.bosh_history.specs.Words.{holds}
+use Rattle.laws_cloud.proofs.CallLemmas.{doubt_is}
 use Rattle.laws_facts.specs.OpenCalls.{fits_slot, slot_as_before}
 use Rattle.laws_facts.specs.Owners.{is_doubt}
-use Rattle.laws_row_facts.specs.Words.{is_some_with, same_call}
+use Rattle.laws_row_facts.specs.Words.{is_some_with}
 use Rattle.laws_rows.specs.Rightful.{is_machine}
 use Rattle.laws_slots.specs.Slots.{has_shape, is_call_of_slot, is_shaped_by}
-
--- what is in doubt of a call
-pub one_doubt : (n : ℕ) (call : Call) (o : Option Doubt) → is_doubt n call o ≡ true
-    → o ≡ Some (record { n = n; call = call })
-one_doubt n call (Some d) is =
-    let parts : ((d.n == n) ≡ true) × (same_call d.call call ≡ true) =
-    and_parts (d.n == n) (same_call d.call call) is in
-    λ i. Some (record d { n = eqb-true d.n n parts.0 i; call = (Decides-call d.call call).0 parts.1 i })
-one_doubt n call None is = absurd (false≢true is)
 
 no_value : {X : Type 0} (o : Option X) → not (is_some o) ≡ true → o ≡ None
 no_value None is = refl
@@ -45,7 +36,7 @@ began n (calls.CreateVm make disks) it fits shape =
     and_parts (not (is_some it.vm)) (is_doubt n (calls.CreateVm make disks) it.doubt) fits in
     let none : it.vm ≡ None = no_value it.vm parts.0 in
     let doubted : it.doubt ≡ Some (record { n = n; call = calls.CreateVm make disks }) =
-    one_doubt n (calls.CreateVm make disks) it.doubt parts.1 in
+    doubt_is n (calls.CreateVm make disks) it.doubt parts.1 in
     let made : make ≡ it.make =
     (Decides-make make it.make).0 (sym (λ j. is_shaped_by it.make (none j) (doubted j)) ∙ shape) in
     record {
@@ -56,7 +47,7 @@ began n (calls.DeleteVm v) it fits shape =
     let parts : (is_machine it.vm v ≡ true) × (is_doubt n (calls.DeleteVm v) it.doubt ≡ true) =
     and_parts (is_machine it.vm v) (is_doubt n (calls.DeleteVm v) it.doubt) fits in
     let doubted : it.doubt ≡ Some (record { n = n; call = calls.DeleteVm v }) =
-    one_doubt n (calls.DeleteVm v) it.doubt parts.1 in
+    doubt_is n (calls.DeleteVm v) it.doubt parts.1 in
     record {
       is_call = and_from (is_machine it.vm v) true parts.0 refl;
       begun = λ j. Some (record it { doubt = sym doubted j });

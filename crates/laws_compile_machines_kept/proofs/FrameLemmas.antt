@@ -28,7 +28,9 @@ use Rattle.bosh_history.specs.Moments.{dep_of, Moment, OpenCall}
 use Rattle.bosh_history.specs.Permitted.{can_lose, is_instances}
 use Rattle.bosh_history.specs.Slots.{slot_after, slot_told}
 use Rattle.bosh_rows.specs.Same.{same_owner}
-use Rattle.laws_compile_machines_kept.proofs.NamedLemmas.{effect_made, names_own, other_number}
+use Rattle.laws_cloud.proofs.CallLemmas.{names_own}
+use Rattle.laws_cloud.proofs.DoneLemmas.{made_by}
+use Rattle.laws_compile_machines_kept.proofs.NamedLemmas.{other_number}
 use Rattle.laws_facts.specs.CallFacts.{IsOwnerKept, named}
 use Rattle.laws_facts.specs.Facts.{Holds}
 use Rattle.laws_facts.specs.Numbers.{is_open_for}
@@ -177,23 +179,23 @@ module _ (m : Moment) (h : Holds m) (t s : ℕ) where
         apart
 
     own_later : where_any
-        (is_slot_doubt_its_own (m.effects ++ entries.Effect (effect_made m.known call.begin) ∷ []) (named t s)) slot
+        (is_slot_doubt_its_own (m.effects ++ entries.Effect (made_by m.known call.begin) ∷ []) (named t s)) slot
         ≡ true
     own_later =
-        own_all (m.effects ++ entries.Effect (effect_made m.known call.begin) ∷ [])
+        own_all (m.effects ++ entries.Effect (made_by m.known call.begin) ∷ [])
         (λ it d at has.
         list_all-append (is_effect_of d.n (Compile t s) it.dep d.call) m.effects
-        (entries.Effect (effect_made m.known call.begin) ∷ [])
+        (entries.Effect (made_by m.known call.begin) ∷ [])
         ∙ and_from (list_all (is_effect_of d.n (Compile t s) it.dep d.call) m.effects) _ (doubt_own it d at has)
         (and_from
-        (is_effect_of d.n (Compile t s) it.dep d.call (entries.Effect (effect_made m.known call.begin))) true
+        (is_effect_of d.n (Compile t s) it.dep d.call (entries.Effect (made_by m.known call.begin))) true
         (λ j. implies (other it d at has j) (same_owner call.begin.owner (Compile t s)
         && (bytes_eq (dep_of m.known call.begin.owner) it.dep && same_call call.begin.call d.call))) refl))
 
-    pub others : Leaves m.effects (m.effects ++ entries.Effect (effect_made m.known call.begin) ∷ []) (named t s) slot
+    pub others : Leaves m.effects (m.effects ++ entries.Effect (made_by m.known call.begin) ∷ []) (named t s) slot
     others x doubts facts =
-        slot_other m.effects (named t s) x (effect_made m.known call.begin) facts
-        (own_of (m.effects ++ entries.Effect (effect_made m.known call.begin) ∷ []) (named t s) slot x doubts own_later)
+        slot_other m.effects (named t s) x (made_by m.known call.begin) facts
+        (own_of (m.effects ++ entries.Effect (made_by m.known call.begin) ∷ []) (named t s) slot x doubts own_later)
         (apart_owners call.begin.owner (Compile t s) apart) (names_own m h n call is)
 
   -- what an open call of it was or will be

@@ -23,11 +23,10 @@ use Rattle.bosh_history.specs.Slots.{slot_after, slot_begun}
 use Rattle.bosh_history.specs.Steps.{call_now}
 use Rattle.bosh_history.specs.Words.{at}
 use Rattle.bosh_rows.specs.Same.{same_owner}
+use Rattle.laws_cloud.proofs.DoneLemmas.{done_now, made_by}
 use Rattle.laws_compile_machines_kept.proofs.FrameLemmas.{doubts_itself, Leaves, lost, others, own_now, owner_left}
 use Rattle.laws_compile_machines_kept.proofs.FrameLemmas.{written}
-use Rattle.laws_compile_machines_kept.proofs.NamedLemmas.{effect_made}
-use Rattle.laws_compile_machines_kept.proofs.OwnLemmas.{done_effects, failed_instead, failed_slot, next_fresh}
-use Rattle.laws_compile_machines_kept.proofs.OwnLemmas.{own_done}
+use Rattle.laws_compile_machines_kept.proofs.OwnLemmas.{failed_instead, failed_slot, next_fresh, own_done}
 use Rattle.laws_compile_machines_kept.specs.CompileMachines.{AreAsRecorded, AreOwnersKept}
 use Rattle.laws_effects.specs.Orderly.{is_taken}
 use Rattle.laws_facts.specs.CallFacts.{IsOwnerKept, named}
@@ -221,9 +220,9 @@ module _ (outside : Outside) (m : Moment) (h : Holds m) (d : Did) (call : OpenCa
   left_apart : (t s : ℕ) → call.begin.owner ≢ Compile t s
       → Leaves m.effects (performing m d).effects (named t s) (m.known.slot t s)
   left_apart t s apart x doubts facts =
-      subst (λ xs. SlotFacts xs (named t s) x) (sym (done_effects m d call is)) (by d.effect)
+      subst (λ xs. SlotFacts xs (named t s) x) (sym (done_now m d call is)) (by d.effect)
     where
-      by : (has : Bool) → SlotFacts (done_with has m.effects (effect_made m.known call.begin)) (named t s) x
+      by : (has : Bool) → SlotFacts (done_with has m.effects (made_by m.known call.begin)) (named t s) x
       by true = others m h t s d.n call is apart x doubts facts
       by false = facts
 
@@ -233,7 +232,7 @@ module _ (outside : Outside) (m : Moment) (h : Holds m) (d : Did) (call : OpenCa
       (slot_after call.begin.n call.begin.call answer (m.known.slot t s))
   own_answered t s own answer step =
       subst (λ xs. SlotFacts xs (named t s) (slot_after call.begin.n call.begin.call answer (m.known.slot t s)))
-      (sym (done_effects m d call is)) (own_done m h d.n call is t s own none outside.built d.effect answer step)
+      (sym (done_now m d call is)) (own_done m h d.n call is t s own none outside.built d.effect answer step)
 
   slots_performed : AreAsRecorded (performing m d)
   slots_performed t s = by (same_owner call.begin.owner (Compile t s)) refl

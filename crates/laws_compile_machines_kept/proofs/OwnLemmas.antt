@@ -1,7 +1,7 @@
 -- What the cloud does of the call of a compile machine keeps its facts.
-use Rattle.std.proofs.Common.{◌≡◌, ◌∙◌, ℕ, Bool, true, false, Option, Some, None, List, refl, sym, subst, append-nil}
-use Rattle.std.proofs.Common.{inl, inr, ◌+◌, ◌≤◌, arith}
-use Rattle.std.specs.Prelude.{◌++◌, ◌&&◌, ◌⊎◌, nat_le, not, is_some}
+use Rattle.std.proofs.Common.{◌≡◌, ◌∙◌, ℕ, Bool, true, false, Option, Some, None, List, refl, sym, subst, inl, inr}
+use Rattle.std.proofs.Common.{◌+◌, ◌≤◌, arith}
+use Rattle.std.specs.Prelude.{◌&&◌, ◌⊎◌, nat_le, not, is_some}
 use Rattle.std.specs.List.{list_all}
 use Rattle.std.proofs.lemmas.Bool.{and_parts, false≢true, leb-true, not-true, or_cases}
 use Rattle.bosh_base.specs.CallStep.{CallStep}
@@ -13,16 +13,15 @@ use Rattle.bosh_base.specs.declared.digest.Digest.{Digest}
 use Rattle.bosh_base.specs.declared.entry.Effect.{Effect}
 use Rattle.bosh_base.specs.declared.entry.Entry.{Entry}
 use Rattle.bosh_base.specs.declared.key.KeyWork.{KeyWork}
-use Rattle.bosh_base.specs.declared.moves.Did.{Did}
 use Rattle.bosh_base.specs.declared.owner.Owner.TheVariants.{Compile}
 use Rattle.bosh_history.specs.Known.{dep_named, Slot}
-use Rattle.bosh_history.specs.Moments.{call_effects, dep_of, Moment, OpenCall, performing}
+use Rattle.bosh_history.specs.Moments.{dep_of, Moment, OpenCall}
 use Rattle.bosh_history.specs.Slots.{slot_after}
 use Rattle.bosh_history.specs.Words.{holds}
 use Rattle.bosh_rows.specs.Standing.{same_truth}
+use Rattle.laws_cloud.proofs.DoneLemmas.{made_by}
 use Rattle.laws_compile_machines_kept.proofs.BeganLemmas.{Began, began}
 use Rattle.laws_compile_machines_kept.proofs.FrameLemmas.{doubts_before, own_now, own_of}
-use Rattle.laws_compile_machines_kept.proofs.NamedLemmas.{effect_made}
 use Rattle.laws_effects.specs.Orderly.{is_taken}
 use Rattle.laws_facts.specs.CallFacts.{IsOwnerKept, named}
 use Rattle.laws_facts.specs.Facts.{Holds}
@@ -36,16 +35,6 @@ use Rattle.laws_slots.proofs.SlotCases.{slot_kept}
 use Rattle.laws_slots.specs.Slots.{has_shape, is_slot_doubt_its_own, SlotFacts}
 
 -- ---- what the cloud does of a call
-
--- the effects, once it is done
-pub done_effects : (m : Moment) (d : Did) (call : OpenCall) → m.calls d.n ≡ Some call
-    → (performing m d).effects ≡ done_with d.effect m.effects (effect_made m.known call.begin)
-done_effects m d call is = (λ j. m.effects ++ call_effects m d.effect (is j)) ∙ by d.effect
-  where
-    by : (has : Bool) → (m.effects ++ call_effects m has (Some call))
-        ≡ done_with has m.effects (effect_made m.known call.begin)
-    by true = refl
-    by false = append-nil m.effects
 
 -- where it was answered, it might have failed instead
 pub failed_instead : (built : KeyWork → List Digest → Digest) (xs : List Entry) (call : Call) (has : Bool)
@@ -104,7 +93,7 @@ module _ (m : Moment) (h : Holds m) (n : ℕ) (call : OpenCall) (is : m.calls n 
 
     pub own_done : (built : KeyWork → List Digest → Digest) (has : Bool) (answer : Answer)
         → CallStep built m.effects call.begin.call has answer
-        → SlotFacts (done_with has m.effects (effect_made m.known call.begin)) (named t s)
+        → SlotFacts (done_with has m.effects (made_by m.known call.begin)) (named t s)
         (slot_after call.begin.n call.begin.call answer (m.known.slot t s))
     own_done built has answer step =
         by (m.known.slot t s) refl
@@ -112,7 +101,7 @@ module _ (m : Moment) (h : Holds m) (n : ℕ) (call : OpenCall) (is : m.calls n 
       where
         by : (slot : Option Slot) → m.known.slot t s ≡ slot
             → holds (fits_slot call.begin.n call.begin.call) slot ≡ true
-            → SlotFacts (done_with has m.effects (effect_made m.known call.begin)) (named t s)
+            → SlotFacts (done_with has m.effects (made_by m.known call.begin)) (named t s)
             (slot_after call.begin.n call.begin.call answer (m.known.slot t s))
         by None at fits = absurd (false≢true fits)
         by (Some it) at fits =
@@ -140,7 +129,7 @@ module _ (m : Moment) (h : Holds m) (n : ℕ) (call : OpenCall) (is : m.calls n 
             dep_now : it.dep ≡ dep_of m.known call.begin.owner
             dep_now = sym ((λ j. dep_of m.known (own j)) ∙ (λ j. dep_named (slot_dep m t s it h.known at j)))
 
-            same_effect : made ≡ effect_made m.known call.begin
+            same_effect : made ≡ made_by m.known call.begin
             same_effect = λ j. record {
               n = call.begin.n;
               owner = sym own j;

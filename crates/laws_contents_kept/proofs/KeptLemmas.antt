@@ -22,8 +22,7 @@ use Rattle.bosh_history.specs.Moments.{losing, Moment, noting, OpenCall, perform
 use Rattle.bosh_history.specs.Notes.{MayNote, Outside}
 use Rattle.bosh_history.specs.Permitted.{PerformsOpen}
 use Rattle.bosh_lawful.specs.Clean.{is_failed}
-use Rattle.laws_compile_machines_kept.proofs.NamedLemmas.{effect_made}
-use Rattle.laws_compile_machines_kept.proofs.OwnLemmas.{done_effects}
+use Rattle.laws_cloud.proofs.DoneLemmas.{done_now, made_by}
 use Rattle.laws_contents_kept.proofs.MigrationLemmas.{IsMigration, migration}
 use Rattle.laws_contents_kept.proofs.WriteLemmas.{apart_disk, unwritten}
 use Rattle.laws_contents_kept.specs.Contents.{HaveMigrated}
@@ -154,7 +153,7 @@ module _ (m : Moment) (h : Holds m) (n : ℕ) (call : OpenCall) (is : m.calls n 
   -- another call moves nothing to them
   other_stays : (other : ℕ) (that : OpenCall) → m.calls other ≡ Some that → that.begin.owner ≢ call.begin.owner
       → (k : ℕ) → (k ≡ from) ⊎ (k ≡ to)
-      → contents_after (contents_of m.effects) (entries.Effect (effect_made m.known that.begin)) k
+      → contents_after (contents_of m.effects) (entries.Effect (made_by m.known that.begin)) k
       ≡ contents_of m.effects k
   other_stays other that that_is apart k at = by that.begin.call refl
     where
@@ -209,17 +208,17 @@ module _ (outside : Outside) (m : Moment) (h : Holds m) (d : Did) (call : OpenCa
     (step : CallStep outside.built m.effects call.begin.call d.effect d.answer) where
   own_moved : Moved (performing m d).effects d call.begin.call
   own_moved =
-      subst (λ xs. Moved xs d call.begin.call) (sym (done_effects m d call is))
-      (moved_done outside.built m.effects call.begin.call d (effect_made m.known call.begin) refl step)
+      subst (λ xs. Moved xs d call.begin.call) (sym (done_now m d call is))
+      (moved_done outside.built m.effects call.begin.call d (made_by m.known call.begin) refl step)
 
   other_moved : (n : ℕ) (that : OpenCall) (told : Did) → m.calls n ≡ Some that → that.did ≡ Some told
       → call.begin.owner ≢ that.begin.owner → Moved (performing m d).effects told that.begin.call
   other_moved n that told that_is is_told apart =
-      subst (λ xs. Moved xs told that.begin.call) (sym (done_effects m d call is)) (by d.effect)
+      subst (λ xs. Moved xs told that.begin.call) (sym (done_now m d call is)) (by d.effect)
     where
-      by : (has : Bool) → Moved (done_with has m.effects (effect_made m.known call.begin)) told that.begin.call
+      by : (has : Bool) → Moved (done_with has m.effects (made_by m.known call.begin)) told that.begin.call
       by true =
-          moved_left m.effects (entries.Effect (effect_made m.known call.begin)) told that.begin.call
+          moved_left m.effects (entries.Effect (made_by m.known call.begin)) told that.begin.call
           (λ v from to moves. other_stays m h n that that_is v from to moves d.n call is apart)
           (was_moved m h n that told that_is is_told)
       by false = was_moved m h n that told that_is is_told

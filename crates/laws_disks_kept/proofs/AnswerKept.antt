@@ -16,9 +16,8 @@ use Rattle.bosh_base.specs.declared.owner.Owner.TheVariants.{Compile, Disk, Inst
 use Rattle.bosh_history.specs.Moments.{losing, Moment, OpenCall, performed_call, performing}
 use Rattle.bosh_history.specs.Notes.{Outside}
 use Rattle.bosh_history.specs.Permitted.{PerformsOpen}
+use Rattle.laws_cloud.proofs.DoneLemmas.{done_now, made_by}
 use Rattle.laws_compile_machines_kept.proofs.KeptLemmas.{not_done}
-use Rattle.laws_compile_machines_kept.proofs.NamedLemmas.{effect_made}
-use Rattle.laws_compile_machines_kept.proofs.OwnLemmas.{done_effects}
 use Rattle.laws_disks_kept.proofs.AnswerNotes.{answers_noted, Grows, keeps_as, same_grows, same_owner_self}
 use Rattle.laws_disks_kept.proofs.CountLemmas.{Counted, counted}
 use Rattle.laws_disks_kept.proofs.GrowthLemmas.{made_before, Makes, there_before}
@@ -80,8 +79,8 @@ module _ (outside : Outside) (m : Moment) (h : Holds m) (did : Did) (call : Open
       of (Compile t s) own = tt
       of (Disk d) own =
           λ shows.
-          (λ j. is_disk_there (done_effects m did call is j) d)
-          ∙ gone_now outside.built m.effects d (effect_made m.known call.begin) did.effect did.answer call.begin.call
+          (λ j. is_disk_there (done_now m did call is j) d)
+          ∙ gone_now outside.built m.effects d (made_by m.known call.begin) did.effect did.answer call.begin.call
           refl
           (and_parts (is_on_orphan call.begin.call d) _
           (subst (λ owner. fits_known m.known call.begin owner ≡ true) own (h.known.calls did.n call is).fits)).0
@@ -96,10 +95,10 @@ module _ (outside : Outside) (m : Moment) (h : Holds m) (did : Did) (call : Open
   performed_grows : (n : ℕ) (that : OpenCall) → m.calls n ≡ Some that → call.begin.owner ≢ that.begin.owner
       → Grows m.effects (performing m did).effects that.begin.owner
   performed_grows n that now apart =
-      subst (λ xs. Grows m.effects xs that.begin.owner) (sym (done_effects m did call is)) (by did.effect)
+      subst (λ xs. Grows m.effects xs that.begin.owner) (sym (done_now m did call is)) (by did.effect)
     where
       made : Effect
-      made = effect_made m.known call.begin
+      made = made_by m.known call.begin
 
       of : (owner : Owner) → that.begin.owner ≡ owner → Grows m.effects (m.effects ++ entries.Effect made ∷ []) owner
       of (Instance i) own =

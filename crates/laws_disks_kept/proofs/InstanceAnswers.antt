@@ -28,9 +28,10 @@ use Rattle.bosh_history.specs.Ties.{creates_disk, is_making}
 use Rattle.bosh_rows.specs.After.{after, leaves_doubt}
 use Rattle.bosh_rows.specs.CallOf.{next_call}
 use Rattle.bosh_rows.specs.Tied.{without_doubt}
-use Rattle.laws_compile_machines_kept.proofs.BeganLemmas.{one_doubt}
-use Rattle.laws_compile_machines_kept.proofs.NamedLemmas.{effect_made, to_make}
-use Rattle.laws_compile_machines_kept.proofs.OwnLemmas.{done_effects, not_taken}
+use Rattle.laws_cloud.proofs.CallLemmas.{doubt_is}
+use Rattle.laws_cloud.proofs.DoneLemmas.{done_now, made_by}
+use Rattle.laws_compile_machines_kept.proofs.NamedLemmas.{to_make}
+use Rattle.laws_compile_machines_kept.proofs.OwnLemmas.{not_taken}
 use Rattle.laws_disks_kept.proofs.AnswerLemmas.{Calm, creating, finding, KeepsCount, plain_keeps}
 use Rattle.laws_disks_kept.proofs.CountLemmas.{Counted, counted}
 use Rattle.laws_disks_kept.proofs.RowTimes.{makes_disk, makes_none}
@@ -117,7 +118,7 @@ module _ (outside : Outside) (m : Moment) (h : Holds m) (did : Did) (call : Open
   doubted : leaves_doubt call.begin.call ≡ true
       → row.doubt ≡ Some (record { n = call.begin.n; call = call.begin.call })
   doubted leaves =
-      one_doubt call.begin.n call.begin.call row.doubt
+      doubt_is call.begin.n call.begin.call row.doubt
       (sym (λ j. implies (leaves j) (is_doubt call.begin.n call.begin.call row.doubt))
       ∙ (and_parts (implies (leaves_doubt call.begin.call) (is_doubt call.begin.n call.begin.call row.doubt)) _
       (and_parts (option_eq same_call (call_of_row task i (row_before call.begin.call row)) (Some call.begin.call)) _
@@ -157,16 +158,16 @@ module _ (outside : Outside) (m : Moment) (h : Holds m) (did : Did) (call : Open
 
   pub instance_keeps : KeepsCount (performing m did).effects i call.begin.n call.begin.call did.answer row
   instance_keeps =
-      subst (λ xs. KeepsCount xs i call.begin.n call.begin.call did.answer row) (sym (done_effects m did call is))
+      subst (λ xs. KeepsCount xs i call.begin.n call.begin.call did.answer row) (sym (done_now m did call is))
       (by call.begin.call refl)
     where
       ys : List Entry
-      ys = done_with did.effect m.effects (effect_made m.known call.begin)
+      ys = done_with did.effect m.effects (made_by m.known call.begin)
 
       by : (c : Call) → call.begin.call ≡ c → KeepsCount ys i call.begin.n call.begin.call did.answer row
       by (calls.CreateDisk w v) call_is =
           subst (λ c. KeepsCount ys i call.begin.n c did.answer row) (sym call_is)
-          (creating outside.built m.effects i call.begin.n (effect_made m.known call.begin) refl
+          (creating outside.built m.effects i call.begin.n (made_by m.known call.begin) refl
           (not_taken m h did.n call is none) known row w v call_is
           (doubted (λ j. leaves_doubt (call_is j))
           ∙ (λ j. Some (record { n = call.begin.n; call = call_is j })))
@@ -189,7 +190,7 @@ module _ (outside : Outside) (m : Moment) (h : Holds m) (did : Did) (call : Open
                   (subst (λ c. CallStep outside.built m.effects c did.effect did.answer) call_is step)
                 where
                   no_effect : (has : Bool) → CallStep outside.built m.effects (calls.FindDisk tag) has did.answer
-                      → done_with has m.effects (effect_made m.known call.begin) ≡ m.effects
+                      → done_with has m.effects (made_by m.known call.begin) ≡ m.effects
                   no_effect false step = refl
                   no_effect true (inl (says, takes)) = absurd (false≢true (sym takes))
                   no_effect true (inr (failed, may)) = absurd (false≢true (may refl))

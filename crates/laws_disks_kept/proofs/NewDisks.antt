@@ -19,8 +19,8 @@ use Rattle.bosh_history.specs.Ties.{is_making, is_wanted_as}
 use Rattle.bosh_history.specs.Words.{holds}
 use Rattle.bosh_rows.specs.After.{leaves_doubt}
 use Rattle.bosh_rows.specs.Tied.{is_made_for, one_if}
-use Rattle.laws_compile_machines_kept.proofs.BeganLemmas.{one_doubt}
-use Rattle.laws_compile_machines_kept.proofs.NamedLemmas.{effect_made}
+use Rattle.laws_cloud.proofs.CallLemmas.{doubt_is}
+use Rattle.laws_cloud.proofs.DoneLemmas.{made_by}
 use Rattle.laws_disks_kept.proofs.CountLemmas.{count_unrecorded, Counted, Kept, row_kept}
 use Rattle.laws_disks_kept.proofs.GrowthLemmas.{Makes}
 use Rattle.laws_effects.proofs.CreationLemmas.{disk_creation_next}
@@ -107,7 +107,7 @@ module _ (m : Moment) (h : Holds m) (n : ℕ) (call : OpenCall) (is : m.calls n 
   doubted : (i : Inst) → call.begin.owner ≡ Instance i → leaves_doubt call.begin.call ≡ true
       → (m.known.row i).doubt ≡ Some (record { n = call.begin.n; call = call.begin.call })
   doubted i own leaves =
-      one_doubt call.begin.n call.begin.call (m.known.row i).doubt
+      doubt_is call.begin.n call.begin.call (m.known.row i).doubt
       (sym (λ j. implies (leaves j) (is_doubt call.begin.n call.begin.call (m.known.row i).doubt))
       ∙ (and_parts (implies (leaves_doubt call.begin.call)
       (is_doubt call.begin.n call.begin.call (m.known.row i).doubt)) _
@@ -116,17 +116,17 @@ module _ (m : Moment) (h : Holds m) (n : ℕ) (call : OpenCall) (is : m.calls n 
       (Some call.begin.call)) _
       (subst (λ owner. fits_known m.known call.begin owner ≡ true) own (h.known.calls n call is).fits)).1).0)
 
-  pub new_counted : (d : ℕ) → Makes m.effects (entries.Effect (effect_made m.known call.begin)) d
-      → Counted (m.effects ++ entries.Effect (effect_made m.known call.begin) ∷ []) m.known.row
+  pub new_counted : (d : ℕ) → Makes m.effects (entries.Effect (made_by m.known call.begin)) d
+      → Counted (m.effects ++ entries.Effect (made_by m.known call.begin) ∷ []) m.known.row
       (is_some (m.known.orphan d)) d
   new_counted d makes =
       let (i, own) = of_instance makes.0 in
       let (leaves, one) = making call.begin.n call.begin.call makes.0 in
       record {
-        effect = effect_made m.known call.begin;
+        effect = made_by m.known call.begin;
         made =
-            (λ j. disk_creation (m.effects ++ entries.Effect (effect_made m.known call.begin) ∷ []) (makes.1 j))
-            ∙ disk_creation_next m.effects (effect_made m.known call.begin) makes.0;
+            (λ j. disk_creation (m.effects ++ entries.Effect (made_by m.known call.begin) ∷ []) (makes.1 j))
+            ∙ disk_creation_next m.effects (made_by m.known call.begin) makes.0;
         inst = i;
         owner = own;
         once =

@@ -10,9 +10,8 @@ use Rattle.bosh_base.specs.declared.moves.Did.{Did}
 use Rattle.bosh_history.specs.Moments.{Moment, OpenCall, performing}
 use Rattle.bosh_history.specs.Notes.{Outside}
 use Rattle.bosh_history.specs.Permitted.{PerformsOpen}
+use Rattle.laws_cloud.proofs.DoneLemmas.{done_now, made_by}
 use Rattle.laws_compile_machines_kept.proofs.KeptLemmas.{not_done}
-use Rattle.laws_compile_machines_kept.proofs.NamedLemmas.{effect_made}
-use Rattle.laws_compile_machines_kept.proofs.OwnLemmas.{done_effects}
 use Rattle.laws_disks_kept.proofs.AnswerKept.{answers_kept}
 use Rattle.laws_disks_kept.proofs.CountLemmas.{Counted, counted, recorded}
 use Rattle.laws_disks_kept.proofs.GrowthLemmas.{counted_later, Makes, there_before}
@@ -46,13 +45,13 @@ performed_once : (outside : Outside) (m : Moment) (h : Holds m) (did : Did) (cal
     → m.calls did.n ≡ Some call → call.did ≡ None
     → CallStep outside.built m.effects call.begin.call did.effect did.answer → AreRecordedOnce (performing m did)
 performed_once outside m h did call is none step d =
-    (λ j. is_recorded_once (done_effects m did call is j) m.known.row (is_some (m.known.orphan d)) d)
+    (λ j. is_recorded_once (done_now m did call is j) m.known.row (is_some (m.known.orphan d)) d)
     ∙ by did.effect
   where
     by : (has : Bool)
-        → is_recorded_once (done_with has m.effects (effect_made m.known call.begin)) m.known.row
+        → is_recorded_once (done_with has m.effects (made_by m.known call.begin)) m.known.row
         (is_some (m.known.orphan d)) d ≡ true
-    by true = grown m h (entries.Effect (effect_made m.known call.begin)) (new_counted m h did.n call is none) d
+    by true = grown m h (entries.Effect (made_by m.known call.begin)) (new_counted m h did.n call is none) d
     by false = (h.disks d).once
 
 pub once_kept : IsKeptByParts AreRecordedOnce

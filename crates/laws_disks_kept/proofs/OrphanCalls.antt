@@ -15,7 +15,7 @@ use Rattle.bosh_base.specs.declared.snapshot.Orphan.{Orphan}
 use Rattle.bosh_history.specs.Calls.{orphan_begun, orphan_told, shows_gone, shows_there}
 use Rattle.bosh_history.specs.Ties.{is_wanted_as}
 use Rattle.bosh_rows.specs.Standing.{same_truth}
-use Rattle.laws_compile_machines_kept.proofs.BeganLemmas.{one_doubt}
+use Rattle.laws_cloud.proofs.CallLemmas.{doubt_is}
 use Rattle.laws_effects.specs.Orderly.{is_taken}
 use Rattle.laws_facts.specs.OpenCalls.{fits_orphan}
 use Rattle.laws_facts.specs.Owners.{is_doubt}
@@ -57,7 +57,7 @@ module _ (xs : List Entry) (n d : ℕ) (it : Orphan) where
       let parts : ((disk == d) ≡ true) × (is_doubt n (calls.DeleteDisk disk) it.doubt ≡ true) =
       and_parts (disk == d) (is_doubt n (calls.DeleteDisk disk) it.doubt) fits in
       let doubted : it.doubt ≡ Some (record { n = n; call = calls.DeleteDisk disk }) =
-      one_doubt n (calls.DeleteDisk disk) it.doubt parts.1 in
+      doubt_is n (calls.DeleteDisk disk) it.doubt parts.1 in
       record {
         was = record it { doubt = None };
         is_call = and_from (disk == d) true parts.0 refl;

@@ -11,7 +11,8 @@ use Rattle.bosh_base.specs.declared.owner.Owner.TheVariants.{Disk}
 use Rattle.bosh_base.specs.declared.row.Doubt.{Doubt}
 use Rattle.bosh_base.specs.declared.snapshot.Orphan.{Orphan}
 use Rattle.bosh_history.specs.Moments.{Moment, OpenCall}
-use Rattle.laws_compile_machines_kept.proofs.NamedLemmas.{deletes_own, effect_made, other_number}
+use Rattle.laws_cloud.proofs.DoneLemmas.{made_by}
+use Rattle.laws_compile_machines_kept.proofs.NamedLemmas.{deletes_own, other_number}
 use Rattle.laws_disks_kept.proofs.OrphanCalls.{DoubtsAs}
 use Rattle.laws_facts.specs.Facts.{Holds}
 use Rattle.laws_row_facts.specs.Words.{where_any}
@@ -37,10 +38,10 @@ lost xs d orphan loss None doubts is = refl
 -- an open call of another owner
 module _ (m : Moment) (h : Holds m) (d : ℕ) (n : ℕ) (call : OpenCall) (is : m.calls n ≡ Some call)
     (apart : call.begin.owner ≢ Disk d) where
-  pub others : Leaves m.effects (m.effects ++ entries.Effect (effect_made m.known call.begin) ∷ []) d (m.known.orphan d)
+  pub others : Leaves m.effects (m.effects ++ entries.Effect (made_by m.known call.begin) ∷ []) d (m.known.orphan d)
   others None doubts recorded = refl
   others (Some it) doubts recorded =
-      orphan_other m.effects d it (effect_made m.known call.begin) recorded
+      orphan_other m.effects d it (made_by m.known call.begin) recorded
       (and_from (not (is_deletion_of_disk d call.begin.call)) _
       (λ j. not (deletes_own m h n call is d apart j)) (by it.doubt refl))
     where

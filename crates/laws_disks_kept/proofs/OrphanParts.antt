@@ -15,9 +15,9 @@ use Rattle.bosh_history.specs.Notes.{Outside}
 use Rattle.bosh_history.specs.Permitted.{PerformsOpen}
 use Rattle.bosh_history.specs.Words.{holds}
 use Rattle.bosh_rows.specs.Same.{same_owner}
+use Rattle.laws_cloud.proofs.DoneLemmas.{done_now, made_by}
 use Rattle.laws_compile_machines_kept.proofs.KeptLemmas.{not_done}
-use Rattle.laws_compile_machines_kept.proofs.NamedLemmas.{effect_made}
-use Rattle.laws_compile_machines_kept.proofs.OwnLemmas.{done_effects, failed_instead, not_taken}
+use Rattle.laws_compile_machines_kept.proofs.OwnLemmas.{failed_instead, not_taken}
 use Rattle.laws_disks_kept.proofs.OrphanBegun.{orphans_noted}
 use Rattle.laws_disks_kept.proofs.OrphanCalls.{doubts_answered, doubts_itself, failed_orphan, orphan_began}
 use Rattle.laws_disks_kept.proofs.OrphanCalls.{OrphanBegan}
@@ -44,10 +44,10 @@ module _ (outside : Outside) (m : Moment) (h : Holds m) (did : Did) (call : Open
   left_apart : (d : ℕ) → call.begin.owner ≢ Disk d
       → Leaves m.effects (performing m did).effects d (m.known.orphan d)
   left_apart d apart x doubts recorded =
-      (λ j. where_any (is_orphan_as_recorded (done_effects m did call is j) d) x) ∙ by did.effect
+      (λ j. where_any (is_orphan_as_recorded (done_now m did call is j) d) x) ∙ by did.effect
     where
       by : (has : Bool)
-          → where_any (is_orphan_as_recorded (done_with has m.effects (effect_made m.known call.begin)) d) x ≡ true
+          → where_any (is_orphan_as_recorded (done_with has m.effects (made_by m.known call.begin)) d) x ≡ true
       by true = others m h d did.n call is apart x doubts recorded
       by false = recorded
 
@@ -65,7 +65,7 @@ module _ (outside : Outside) (m : Moment) (h : Holds m) (did : Did) (call : Open
           (option_and_then (orphan_answered call.begin.call answer) (m.known.orphan d)) ≡ true
       by None at fits = absurd (false≢true fits)
       by (Some it) at fits =
-          (λ j. where_any (is_orphan_as_recorded (done_effects m did call is j) d)
+          (λ j. where_any (is_orphan_as_recorded (done_now m did call is j) d)
           (option_and_then (orphan_answered call.begin.call answer) (at j)))
           ∙ ((λ j. where_any (is_orphan_as_recorded (done_with did.effect m.effects (record {
             n = call.begin.n;

@@ -25,7 +25,7 @@ use Rattle.bosh_rows.specs.After.{after, leaves_doubt}
 use Rattle.bosh_rows.specs.CallOf.{next_call}
 use Rattle.bosh_rows.specs.Standing.{same_truth}
 use Rattle.bosh_rows.specs.Tied.{is_named_lost}
-use Rattle.laws_compile_machines_kept.proofs.BeganLemmas.{one_doubt}
+use Rattle.laws_cloud.proofs.CallLemmas.{doubt_is}
 use Rattle.laws_compile_machines_kept.proofs.NamedLemmas.{to_make}
 use Rattle.laws_contents_kept.proofs.SilenceLemmas.{lost_silent}
 use Rattle.laws_facts.specs.Facts.{Holds}
@@ -213,7 +213,7 @@ module _ (outside : Outside) (m : Moment) (h : Holds m) (f : HearingFacts m) (d 
       → is_ping c ≡ false → is_some row.spec ≡ false
   no_spec (calls.CreateVm make disks) call_is asks v tells plain =
       none_made make disks call.begin.n
-      (one_doubt call.begin.n (calls.CreateVm make disks) row.doubt
+      (doubt_is call.begin.n (calls.CreateVm make disks) row.doubt
       ((λ j. implies (leaves_doubt (calls.CreateVm make disks)) (is_doubt call.begin.n (sym call_is j) row.doubt))
       ∙ ((λ j. implies (leaves_doubt (sym call_is j)) (is_doubt call.begin.n call.begin.call row.doubt))
       ∙ (and_parts (implies (leaves_doubt call.begin.call) (is_doubt call.begin.n call.begin.call row.doubt)) _

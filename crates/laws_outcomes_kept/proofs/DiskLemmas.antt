@@ -27,8 +27,7 @@ use Rattle.bosh_history.specs.Tasks.{task_opened}
 use Rattle.bosh_history.specs.Words.{is_among}
 use Rattle.bosh_rows.specs.Same.{same_owner}
 use Rattle.bosh_rows.specs.Standing.{same_truth}
-use Rattle.laws_compile_machines_kept.proofs.NamedLemmas.{effect_made}
-use Rattle.laws_compile_machines_kept.proofs.OwnLemmas.{done_effects}
+use Rattle.laws_cloud.proofs.DoneLemmas.{done_now, made_by}
 use Rattle.laws_disks_kept.proofs.GrowthLemmas.{numbered}
 use Rattle.laws_disks_kept.proofs.OnceAnswers.{answers_keep, KeepsOwn}
 use Rattle.laws_disks_kept.proofs.OnceNotes.{ended_orphans}
@@ -268,11 +267,11 @@ disks_kept outside m (Performed did) may h = by (m.calls did.n) refl may
     by : (that : Option OpenCall) → m.calls did.n ≡ that → PerformsOpen outside m.effects did that
         → AreDisksToDelete (performing m did)
     by (Some call) is performs = delete_later m h (performing m did).effects
-        (λ d gone. (λ j. Gone (done_effects m did call is j) m.known d) ∙ of d gone did.effect)
+        (λ d gone. (λ j. Gone (done_now m did call is j) m.known d) ∙ of d gone did.effect)
       where
         of : (d : ℕ) → Gone m.effects m.known d ≡ true → (has : Bool)
-            → Gone (done_with has m.effects (effect_made m.known call.begin)) m.known d ≡ true
-        of d gone true = gone_later m (entries.Effect (effect_made m.known call.begin)) d gone
+            → Gone (done_with has m.effects (made_by m.known call.begin)) m.known d ≡ true
+        of d gone true = gone_later m (entries.Effect (made_by m.known call.begin)) d gone
         of d gone false = gone
     by None is performs = absurd performs
 disks_kept outside m (Written w) may h =
