@@ -24,7 +24,8 @@ use Rattle.bosh_rows.proofs.SameLemmas.{same_inst_decides}
 use Rattle.bosh_rows.specs.Disks.{is_active, is_detached, stays}
 use Rattle.bosh_rows.specs.Same.{same_inst, same_owner}
 use Rattle.bosh_rows.specs.Standing.{has_disks}
-use Rattle.laws_exact.proofs.ListLemmas.{IsIn, Meets, all_from, all_in, any_in, some_meets}
+use Rattle.laws_items.proofs.ListLemmas.{Meets, all_from, all_in, any_in, some_meets}
+use Rattle.laws_items.specs.Lists.{IsIn}
 use Rattle.laws_exact.proofs.SettledLemmas.{IsSettled}
 use Rattle.laws_exact.proofs.StandLemmas.{Stands, actives_of, known_of}
 use Rattle.bosh_history.specs.Exact.{is_accounted, is_of_inst, is_owner_in, is_staying, is_staying_of, leaves_no_disk}

@@ -21,7 +21,8 @@ use Rattle.bosh_history.specs.Words.{holds, is_among}
 use Rattle.bosh_rows.specs.Tied.{is_spoiled, is_tied_to, is_tied_to_lost, as_done, vms_of, without_doubt}
 use Rattle.laws_rows.proofs.SteadyLemmas.{tied-known}
 use Rattle.laws_exact.proofs.DiskLemmas.{disks_accounted, own_disks_accounted}
-use Rattle.laws_exact.proofs.ListLemmas.{IsIn, all_from, any_in, is_among_in}
+use Rattle.laws_items.proofs.ListLemmas.{all_from, any_in, is_among_in}
+use Rattle.laws_items.specs.Lists.{IsIn}
 use Rattle.laws_exact.proofs.MachineLemmas.{machines_belong}
 use Rattle.laws_exact.proofs.RowLemmas.{its_machine, lost_alone, machines_up, one_kept, put_away}
 use Rattle.laws_exact.proofs.SettledLemmas.{IsOneOver, IsOver, IsSettled}

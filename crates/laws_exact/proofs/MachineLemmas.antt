@@ -29,7 +29,8 @@ use Rattle.bosh_rows.specs.Same.{same_owner}
 use Rattle.bosh_rows.specs.Standing.{same_truth}
 use Rattle.bosh_rows.specs.Tied.{is_made_for, vms_of}
 use Rattle.laws_rows.proofs.WholeTieLemmas.{same_list}
-use Rattle.laws_exact.proofs.ListLemmas.{IsIn, all_from, among_is, any_in, in_filtered}
+use Rattle.laws_items.proofs.ListLemmas.{all_from, among_is, any_in, in_filtered}
+use Rattle.laws_items.specs.Lists.{IsIn}
 use Rattle.laws_exact.proofs.SettledLemmas.{IsOver, IsSettled}
 use Rattle.laws_exact.proofs.StandLemmas.{Stands, no_machines}
 use Rattle.bosh_history.specs.Known.{dep_named}

@@ -1,25 +1,18 @@
 -- Numbers from 1 on, of which at most one is left.
+use Rattle.laws_items.proofs.ListedLemmas.{numbered_in}
 use Rattle.std.proofs.Common.{◌≡◌, ◌∙◌, ℕ, ◌<◌, ◌≤◌, zero, suc, Bool, true, false, List, [], ◌∷◌, ◌++◌}
 use Rattle.std.proofs.Common.{filter, ap, refl, sym, subst, arith, inl, inr, append-nil}
-use Rattle.std.specs.Prelude.{◌⊎◌, eqb, if◌then◌else◌, nat_le, nat_lt}
-use Rattle.std.proofs.lemmas.Bool.{and_parts, eqb-true, false≢true, leb-true, ltb-true}
-use Rattle.std.proofs.lemmas.Bool.Decides.{nat_tests}
+use Rattle.std.specs.Prelude.{◌⊎◌, if◌then◌else◌, nat_le, nat_lt}
+use Rattle.std.proofs.lemmas.Bool.{and_parts, false≢true, leb-true, ltb-true}
 use Rattle.bosh_base.specs.Cloud.{numbers_to}
 use Rattle.laws_effects.specs.Orderly.{is_created}
 use Rattle.laws_rows.proofs.FilterLemmas.{filter_more}
-use Rattle.laws_exact.proofs.ListLemmas.{IsIn, in_back, in_front, in_parts, of_filtered}
+use Rattle.laws_exact.proofs.ListLemmas.{in_parts, of_filtered}
+use Rattle.laws_items.proofs.ListLemmas.{in_back, in_front}
+use Rattle.laws_items.specs.Lists.{IsIn}
 use Rattle.bosh_history.specs.Exact.{are_at_most_one}
 
 -- ---- which numbers there are
-
-pub numbered_in : (n last : ℕ) → 1 ≤ n → n ≤ last → IsIn n (numbers_to last)
-numbered_in n zero low high = absurd (omega arith)
-numbered_in n (suc last) low high = by (eqb n (suc last)) refl (numbered_in n last low)
-  where
-    by : (b : Bool) → eqb n (suc last) ≡ b → (n ≤ last → IsIn n (numbers_to last))
-        → IsIn n (numbers_to last ++ suc last ∷ [])
-    by true same more = in_back n (numbers_to last) (suc last ∷ []) (inl (sym (eqb-true n (suc last) same)))
-    by false other more = in_front n (numbers_to last) (suc last ∷ []) (more (grind (arith, nat_tests)))
 
 pub created_in : (last n : ℕ) → is_created last n ≡ true → IsIn n (numbers_to last)
 created_in last n is =

@@ -29,7 +29,8 @@ use Rattle.bosh_rows.specs.After.{bare}
 use Rattle.bosh_rows.specs.Same.{same_inst, same_spec}
 use Rattle.bosh_rows.specs.Standing.{stands}
 use Rattle.bosh_rows.specs.Tied.{number_of}
-use Rattle.laws_exact.proofs.ListLemmas.{IsIn, all_in, among_is, any_in, find_in}
+use Rattle.laws_items.proofs.ListLemmas.{all_in, among_is, any_in, find_in}
+use Rattle.laws_items.specs.Lists.{IsIn}
 use Rattle.laws_exact.proofs.SettledLemmas.{IsOneOver, IsOver, IsSettled}
 use Rattle.laws_exact.proofs.StandLemmas.{Stands, stands_of}
 use Rattle.laws_exact.proofs.TaskLemmas.{HasGoal, at_holds, found_first, implied, of_all, of_either, one_of}

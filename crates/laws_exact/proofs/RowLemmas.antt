@@ -34,7 +34,8 @@ use Rattle.laws_rows.proofs.ListLemmas as disks
 use Rattle.laws_rows.proofs.SteadyLemmas.{IsTiedTo, tied-known}
 use Rattle.laws_rows.proofs.TieLemmas.{AreFacts, facts-of, is_held_by}
 use Rattle.laws_rows.proofs.WholeTieLemmas.{IsPlacedSo, held-by, machine-answers, mounted-so, placed-so, same_list, truth-same}
-use Rattle.laws_exact.proofs.ListLemmas.{IsIn, all_in, in_filtered}
+use Rattle.laws_items.proofs.ListLemmas.{all_in, in_filtered}
+use Rattle.laws_items.specs.Lists.{IsIn}
 use Rattle.laws_exact.proofs.NumberLemmas.{created_in, just_one, none_in, one_left}
 use Rattle.laws_exact.proofs.StandLemmas.{IsAway, IsUp, unspoiled_without}
 use Rattle.bosh_history.specs.Exact.{are_at_most_one, has_its_disk, has_one, has_wanted_disk, is_created_as, is_machine_of, keeps_disk}

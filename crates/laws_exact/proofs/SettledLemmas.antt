@@ -10,7 +10,7 @@ use Rattle.bosh_history.specs.Known.{Known, want_in}
 use Rattle.bosh_history.specs.Moments.{Moment}
 use Rattle.bosh_history.specs.Items.{is_in_deployment}
 use Rattle.bosh_rows.specs.After.{bare}
-use Rattle.laws_exact.proofs.ListLemmas.{IsIn}
+use Rattle.laws_items.specs.Lists.{IsIn}
 use Rattle.laws_exact.proofs.StandLemmas.{Stands}
 
 -- an instance of the deployment is of the goal, and stands, or nothing of it is recorded

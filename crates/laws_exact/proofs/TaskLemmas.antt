@@ -27,7 +27,8 @@ use Rattle.bosh_history.specs.Words.{holds, is_among}
 use Rattle.bosh_rows.specs.SoundSnapshot.{are_distinct}
 use Rattle.bosh_rows.proofs.SameLemmas.{itself, same_inst_decides}
 use Rattle.bosh_rows.specs.Same.{same_inst}
-use Rattle.laws_exact.proofs.ListLemmas.{IsIn, holds_some, in_mapped, is_among_in}
+use Rattle.laws_items.proofs.ListLemmas.{holds_some, in_mapped, is_among_in}
+use Rattle.laws_items.specs.Lists.{IsIn}
 use Rattle.laws_exact.specs.Premises.{is_whole}
 
 pub implied : (a b : Bool) → implies a b ≡ true → a ≡ true → b ≡ true
