@@ -82,7 +82,7 @@ told n call answer was it d is has =
     let same : was ≡ it = cc in
     (was, refl, ap (λ (x : Slot). x.doubt) same ∙ has, ap (λ (x : Slot). x.dep) same)
 
-pub doubts_after : (n : ℕ) (call : Call) (answer : Answer) (slot : Option Slot)
+doubts_after : (n : ℕ) (call : Call) (answer : Answer) (slot : Option Slot)
     → DoubtsAs slot (slot_after n call answer slot)
 doubts_after n call answer (Some was) it d is has = told n call answer was it d is has
 doubts_after n call answer None it d is has = absurd cc

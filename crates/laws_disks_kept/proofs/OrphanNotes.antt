@@ -131,7 +131,7 @@ orphans_ended answer b k =
 -- ---- other entries
 
 -- the entry changes what is known of orphaned disks
-abbrev pub changes_orphans : Entry → Bool
+abbrev changes_orphans : Entry → Bool
 changes_orphans (entries.Begin b) = true
 changes_orphans (entries.End e) = true
 changes_orphans (entries.UpdDone u) = true

@@ -55,7 +55,7 @@ implied true b is at = is
 implied false b is at = absurd (false≢true at)
 
 -- a machine that answers was not lost early
-pub not_early : (m : Moment) → Holds m → HearingFacts m → (t v : ℕ) → has_agent m.effects v ≡ true
+not_early : (m : Moment) → Holds m → HearingFacts m → (t v : ℕ) → has_agent m.effects v ≡ true
     → m.early t v ≡ false
 not_early m h f t v answers = by (m.early t v) refl
   where

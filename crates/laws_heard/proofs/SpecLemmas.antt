@@ -103,7 +103,7 @@ after_spec n call answer row names has = told n call answer row names has
 
 -- ---- an open call of a row
 
-pub call_names : (t : Task) (b : Begin) (i : Inst) (row : Row) → fits_row t b i row ≡ true
+call_names : (t : Task) (b : Begin) (i : Inst) (row : Row) → fits_row t b i row ≡ true
     → names_machine b.call ≡ true → is_some row.vm ≡ true
 call_names t b i row fits names =
     (λ j. is_some (sym (vm_before b.call row) j)) ∙ by (asks t i (row_before b.call row) b.call (to_make t b i row fits))
