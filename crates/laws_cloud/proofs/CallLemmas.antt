@@ -36,7 +36,8 @@ use Rattle.laws_row_facts.specs.Words.{implies, same_call}
 use Rattle.laws_row_frames.specs.Others.{is_owned_by, names_own_machines}
 use Rattle.laws_rows.specs.Rightful.{fits, is_doubt_fit, is_machine}
 use Rattle.laws_slots.specs.Slots.{is_slot_created}
-use Rattle.laws_cloud.proofs.NameLemmas.{MigratesOwn, all_each, disk_joins, disk_names, fits_joins, fits_names, made_for, migrates_before, migrates_own, owned}
+use Rattle.laws_cloud.proofs.NameLemmas.{MigratesOwn, all_each, disk_joins, disk_names, fits_joins, fits_names}
+use Rattle.laws_cloud.proofs.NameLemmas.{made_for, migrates_before, migrates_own, owned}
 use Rattle.laws_cloud.proofs.NameLemmas.{quiet_joins, quiet_names, slot_joins, slot_names}
 
 -- ---- a call in doubt

@@ -10,7 +10,8 @@ use Rattle.bosh_base.specs.declared.call.Call.TheVariants as calls
 use Rattle.bosh_base.specs.declared.row.DiskRow.{DiskRow}
 use Rattle.bosh_base.specs.declared.row.Doubt.{Doubt}
 use Rattle.bosh_base.specs.declared.row.Row.{Row}
-use Rattle.bosh_rows.specs.After.{after, attach, attached_by, changing, let_go, mount, mounted_by, row_at_gone, row_by_answer, unmount}
+use Rattle.bosh_rows.specs.After.{after, attach, attached_by, changing, let_go, mount, mounted_by, row_at_gone}
+use Rattle.bosh_rows.specs.After.{row_by_answer, unmount}
 use Rattle.bosh_rows.specs.After.{with_disk, with_found, with_machine, without_machine}
 use Rattle.bosh_rows.specs.Disks.{active, is_active}
 

@@ -23,7 +23,8 @@ use Rattle.bosh_base.specs.declared.row.DiskRow.{DiskRow}
 use Rattle.bosh_base.specs.declared.row.Row.{Row}
 use Rattle.bosh_base.specs.declared.row.Vm.{Vm}
 use Rattle.bosh_history.specs.Calls.{call_ended}
-use Rattle.bosh_history.specs.DiskContents.{begins_well, is_wrong, keeps_contents, keeps_disks, moves_contents, moves_on, same_contents}
+use Rattle.bosh_history.specs.DiskContents.{begins_well, is_wrong, keeps_contents, keeps_disks, moves_contents}
+use Rattle.bosh_history.specs.DiskContents.{moves_on, same_contents}
 use Rattle.bosh_history.specs.Items.{is_to_go, is_to_ping}
 use Rattle.bosh_history.specs.Known.{want_in}
 use Rattle.bosh_history.specs.Learn.{learn}

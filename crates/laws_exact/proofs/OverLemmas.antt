@@ -13,7 +13,8 @@ use Rattle.bosh_base.specs.declared.inst.Inst.{Inst}
 use Rattle.bosh_base.specs.declared.row.Row.{Row}
 use Rattle.bosh_base.specs.declared.spec.Spec.{Spec}
 use Rattle.laws_exact.specs.Premises.{WorksWell}
-use Rattle.laws_facts.specs.Tasks.{has_heard, has_to_hear, is_known_of, is_of, is_recorded, is_row_heard_of, is_through, are_those_of_one, was_lost_early}
+use Rattle.laws_facts.specs.Tasks.{has_heard, has_to_hear, is_known_of, is_of, is_recorded, is_row_heard_of}
+use Rattle.laws_facts.specs.Tasks.{is_through, are_those_of_one, was_lost_early}
 use Rattle.laws_row_facts.specs.Words.{where_any}
 use Rattle.bosh_history.specs.Exact.{asks, is_spoiled_late}
 use Rattle.bosh_history.specs.Goals.{inst_of, is_in, named_instance}

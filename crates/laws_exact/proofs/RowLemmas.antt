@@ -8,7 +8,8 @@ use Rattle.std.specs.List.{list_all, list_any}
 use Rattle.std.specs.Option.{option_eq}
 use Rattle.std.proofs.lemmas.Bool.{and_from, and_parts, eq-eqb, eqb-true, false≢true, not-true, or_cases}
 use Rattle.bosh_base.specs.Cloud.{attached_to, disk_creation, disks_created, holder_of, is_disk_there}
-use Rattle.bosh_base.specs.Cloud.{is_holder, is_running, is_silent, is_vm_there, make_of, numbers_to, spec_of, vm_creation, vms_created}
+use Rattle.bosh_base.specs.Cloud.{is_holder, is_running, is_silent, is_vm_there, make_of, numbers_to, spec_of}
+use Rattle.bosh_base.specs.Cloud.{vm_creation, vms_created}
 use Rattle.bosh_base.specs.Cloud.{want_of}
 use Rattle.bosh_base.specs.Exact.{Decides-option}
 use Rattle.bosh_base.specs.ExactParts.{Decides-disk_want, Decides-make, Decides-spec}
@@ -29,16 +30,19 @@ use Rattle.bosh_rows.specs.Disks.{is_active, is_right, is_running as runs}
 use Rattle.bosh_rows.specs.NextStep.{is_in_place}
 use Rattle.bosh_rows.specs.Same.{same_make, same_owner, same_spec, same_want}
 use Rattle.bosh_rows.specs.Standing.{has_disks, same_truth}
-use Rattle.bosh_rows.specs.Tied.{has_no_other_disk, is_disk_kept, is_disk_placed, is_made_for, is_spoiled, is_tied_to_lost, number_of, vms_of, was_made, was_provided}
+use Rattle.bosh_rows.specs.Tied.{has_no_other_disk, is_disk_kept, is_disk_placed, is_made_for, is_spoiled}
+use Rattle.bosh_rows.specs.Tied.{is_tied_to_lost, number_of, vms_of, was_made, was_provided}
 use Rattle.laws_rows.proofs.ListLemmas as disks
 use Rattle.laws_rows.proofs.SteadyLemmas.{IsTiedTo, tied-known}
 use Rattle.laws_rows.proofs.TieLemmas.{AreFacts, facts-of, is_held_by}
-use Rattle.laws_rows.proofs.WholeTieLemmas.{IsPlacedSo, held-by, machine-answers, mounted-so, placed-so, same_list, truth-same}
+use Rattle.laws_rows.proofs.WholeTieLemmas.{IsPlacedSo, held-by, machine-answers, mounted-so, placed-so, same_list}
+use Rattle.laws_rows.proofs.WholeTieLemmas.{truth-same}
 use Rattle.laws_items.proofs.ListLemmas.{all_in, in_filtered}
 use Rattle.laws_items.specs.Lists.{IsIn}
 use Rattle.laws_exact.proofs.NumberLemmas.{created_in, just_one, none_in, one_left}
 use Rattle.laws_exact.proofs.StandLemmas.{IsAway, IsUp, unspoiled_without}
-use Rattle.bosh_history.specs.Exact.{are_at_most_one, has_its_disk, has_one, has_wanted_disk, is_created_as, is_machine_of, keeps_disk}
+use Rattle.bosh_history.specs.Exact.{are_at_most_one, has_its_disk, has_one, has_wanted_disk, is_created_as}
+use Rattle.bosh_history.specs.Exact.{is_machine_of, keeps_disk}
 
 -- ---- what was made
 

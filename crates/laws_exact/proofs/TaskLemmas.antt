@@ -1,28 +1,20 @@
 -- What a task that may be reported done lists, and that it works.
 use Rattle.std.proofs.Common.{◌≡◌, ◌∙◌, ℕ, Bool, true, false, ◌&&◌, ◌||◌, not, List, [], ◌∷◌, Option, Some}
-use Rattle.std.proofs.Common.{ap, map, refl, sym, subst, arith, inl, inr}
-use Rattle.std.specs.Prelude.{◌⊎◌, find, if◌then◌else◌, is_some, nat_lt}
-use Rattle.std.specs.List.{list_all, list_any}
+use Rattle.std.proofs.Common.{ap, map, refl, sym, subst, inl, inr}
+use Rattle.std.specs.Prelude.{◌⊎◌, find, if◌then◌else◌, is_some}
+use Rattle.std.specs.List.{list_all}
 use Rattle.std.specs.Str.{bytes_eq}
 use Rattle.std.proofs.lemmas.Bool.{and_parts, false≢true}
-use Rattle.bosh_base.specs.Cloud.{numbers_to}
-use Rattle.bosh_base.specs.declared.entry.Entry.TheVariants as entries
 use Rattle.bosh_base.specs.declared.goal.Goal.{Goal}
 use Rattle.bosh_base.specs.declared.goal.GoalRow.{GoalRow}
 use Rattle.bosh_base.specs.declared.inst.Inst.{Inst}
 use Rattle.bosh_base.specs.declared.task.TaskKind.{TaskKind}
 use Rattle.bosh_base.specs.declared.task.TaskKind.TheVariants as kinds
-use Rattle.laws_facts.proofs.WorkLemmas.{IsUpTo, is_up_to, none_to}
-use Rattle.laws_facts.specs.Owners.{works}
 use Rattle.laws_facts.specs.Tasks.{is_of, are_of_kind, are_those_of_one, lists_disks, lists_instances, lists_well}
 use Rattle.laws_row_facts.specs.Words.{implies, where_any}
 use Rattle.bosh_history.specs.Deletions.{is_clean_up}
 use Rattle.bosh_history.specs.Goals.{inst_of, is_in, named_instance}
-use Rattle.bosh_history.specs.Held.{is_open}
 use Rattle.bosh_history.specs.Known.{Task}
-use Rattle.bosh_history.specs.Moments.{Moment}
-use Rattle.bosh_history.specs.Notes.{is_task_open}
-use Rattle.bosh_history.specs.Recovered.{may_follow}
 use Rattle.bosh_history.specs.Words.{holds, is_among}
 use Rattle.bosh_rows.specs.SoundSnapshot.{are_distinct}
 use Rattle.bosh_rows.proofs.SameLemmas.{itself, same_inst_decides}
@@ -34,27 +26,6 @@ use Rattle.laws_exact.specs.Premises.{is_whole}
 pub implied : (a b : Bool) → implies a b ≡ true → a ≡ true → b ≡ true
 implied true b is here = is
 implied false b is here = absurd (false≢true here)
-
--- ---- the task works
-
-pub ends_works : (m : Moment) (t : ℕ) → may_follow m (entries.TaskDone t) ≡ true → is_task_open m.known t ≡ true
-    → works m t ≡ true
-ends_works m t follows is_open_now = by (nat_lt m.stopped t) refl
-  where
-    within : IsUpTo t m.known.tasks
-    within = is_up_to t m.known.tasks (grind (arith, is_open_now))
-
-    open_now : is_open m.known t ≡ true
-    open_now = grind (arith, is_open_now)
-
-    none : list_any (is_open m.known) (numbers_to m.stopped) ≡ false
-    none = grind (arith, follows)
-
-    by : (after : Bool) → nat_lt m.stopped t ≡ after → works m t ≡ true
-    by true after = grind (arith, after, within.high, open_now)
-    by false before =
-        absurd (grind
-        (arith, open_now, none_to (is_open m.known) m.stopped t none within.low (grind (arith, before))))
 
 -- ---- the kind
 
