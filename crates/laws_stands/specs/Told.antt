@@ -1,6 +1,6 @@
 -- What a director's entries tell, and the calls that stand open by them. A stop is no entry: a call that it forgot stays
 -- here until the end of its task is noted.
-use Rattle.std.specs.Prelude.{◌≡◌, ℕ, Bool, eqb, nat_le, not, ◌==◌, ◌&&◌, ◌≤◌, Option, Some, None, length, true}
+use Rattle.std.specs.Prelude.{◌≡◌, ℕ, Bool, eqb, nat_le, not, ◌==◌, ◌&&◌, ◌≤◌, Option, Some, None, length, true, is_some}
 use Rattle.std.specs.Prelude.{if◌then◌else◌}
 use Rattle.std.specs.List.{list_all}
 use Rattle.std.specs.Option.{option_and_then}
@@ -8,9 +8,11 @@ use Rattle.bosh_base.specs.Cloud.{numbers_to}
 use Rattle.bosh_base.specs.declared.entry.Begin.{Begin}
 use Rattle.bosh_base.specs.declared.entry.Entry.{Entry}
 use Rattle.bosh_base.specs.declared.entry.Entry.TheVariants as entries
+use Rattle.bosh_base.specs.declared.failure.Failure.{Failure}
 use Rattle.bosh_base.specs.declared.inst.Inst.{Inst}
 use Rattle.bosh_base.specs.declared.owner.Owner.{Owner}
 use Rattle.bosh_base.specs.declared.owner.Owner.TheVariants.{Instance}
+use Rattle.bosh_history.specs.Calls.{number_of}
 use Rattle.bosh_history.specs.Goals.{is_waiting}
 use Rattle.bosh_history.specs.Held.{is_open}
 use Rattle.bosh_history.specs.Items.{is_finished}
@@ -65,11 +67,16 @@ idle_in told i = is_idle told (Instance i)
 abbrev pub is_going : Known → ℕ → Bool
 is_going k t = nat_le 1 t && (nat_le t k.tasks && is_open k t)
 
--- what entries never tell otherwise: an open call has its number and is of an open task, and no update is told to have
--- failed
+-- what entries never tell otherwise: an open call has its number, began and is of an open task; a failed call began; and no
+-- update is told to have failed
 pub record TellsWell (told : Told) : Type 0 where
   pub number : (n : ℕ) (b : Begin) → told.calls n ≡ Some b → b.n ≡ n
+  pub low : (n : ℕ) (b : Begin) → told.calls n ≡ Some b → 1 ≤ n
   pub past : (n : ℕ) (b : Begin) → told.calls n ≡ Some b → n ≤ told.known.last_call
+  pub begun : (n : ℕ) (b : Begin) → told.calls n ≡ Some b → told.known.begun n ≡ Some b
+  pub begun_past : (n : ℕ) (b : Begin) → told.known.begun n ≡ Some b → n ≤ told.known.last_call
+  pub failed : (t : ℕ) (failure : Failure) → (told.known.task t).failed ≡ Some failure →
+      is_some (told.known.begun (number_of failure)) ≡ true
   pub going : (n : ℕ) (b : Begin) → told.calls n ≡ Some b → is_going told.known b.task ≡ true
   pub updates : (t : ℕ) (i : Inst) →
       is_finished ((told.known.task t).upd i)

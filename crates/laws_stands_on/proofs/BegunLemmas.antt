@@ -456,6 +456,11 @@ module _ (told : Told) (it : Recorded) (n number worker : ℕ) (call : Call) (i 
       plus_none : (c : ℕ) → c + 0 ≡ c
       plus_none c = omega arith
 
+  -- a call that began before has a number up to the last
+  failed_past : {c : ℕ} (o : Option Begin) → k.begun c ≡ o → is_some o ≡ true → c ≤ k.last_call
+  failed_past {c} (Some d) is some = stands.tells_well.begun_past c d is
+  failed_past None is some = absurd (false≢true some)
+
   same_for : (t : ℕ) (swept : List MachineName) → eqb n t ≡ false → is_going k t ≡ true
       → SameListed told new (k.task t) t swept
   same_for t swept other going = record {
@@ -477,7 +482,7 @@ module _ (told : Told) (it : Recorded) (n number worker : ℕ) (call : Call) (i 
           ≡ option_map (end_of k) o
       failed None is = refl
       failed (Some failure) is =
-          let low : number_of failure ≤ k.last_call = allows.failed_before t failure is in
+          let low : number_of failure ≤ k.last_call = failed_past {c = number_of failure} (k.begun (number_of failure)) refl (stands.tells_well.failed t failure is) in
           ap (λ u. Some (end_by failure (if u then Some b else k.begun (number_of failure))))
           (ne_eqb number (number_of failure)
           (λ e. absurd (let next : number ≡ k.last_call + 1 = allows.next in omega arith)))
@@ -526,6 +531,39 @@ module _ (told : Told) (it : Recorded) (n number worker : ℕ) (call : Call) (i 
           allows.next in
           (stands.tells_well.number c d is, omega arith, stands.tells_well.going c d is)
 
+  call_low : (c : ℕ) (d : Begin) → at eqb number (Some b) told.calls c ≡ Some d → 1 ≤ c
+  call_low c d is = by (eqb number c) refl is
+    where
+      by : (t : Bool) → eqb number c ≡ t → (if t then Some b else told.calls c) ≡ Some d → 1 ≤ c
+      by true same is =
+          let eq : number ≡ c = eqb-true number c same in let next : number ≡ k.last_call + 1 = allows.next in omega arith
+      by false other is = stands.tells_well.low c d is
+
+  call_began : (c : ℕ) (d : Begin) → at eqb number (Some b) told.calls c ≡ Some d
+      → at eqb number (Some b) k.begun c ≡ Some d
+  call_began c d is = by (eqb number c) is
+    where
+      by : (t : Bool) → (if t then Some b else told.calls c) ≡ Some d → (if t then Some b else k.begun c) ≡ Some d
+      by true is = is
+      by false is = stands.tells_well.begun c d is
+
+  began_past : (c : ℕ) (d : Begin) → at eqb number (Some b) k.begun c ≡ Some d → c ≤ number
+  began_past c d is = by (eqb number c) refl is
+    where
+      by : (t : Bool) → eqb number c ≡ t → (if t then Some b else k.begun c) ≡ Some d → c ≤ number
+      by true same is = let eq : number ≡ c = eqb-true number c same in omega arith
+      by false other is =
+          let low : c ≤ k.last_call = stands.tells_well.begun_past c d is in
+          let next : number ≡ k.last_call + 1 = allows.next in omega arith
+
+  failed_began : (failure : Failure) → is_some (k.begun (number_of failure)) ≡ true
+      → is_some (at eqb number (Some b) k.begun (number_of failure)) ≡ true
+  failed_began failure was = by (eqb number (number_of failure))
+    where
+      by : (t : Bool) → is_some (if t then Some b else k.begun (number_of failure)) ≡ true
+      by true = refl
+      by false = was
+
   came : begun.came ≡ arrivals_of new.known
   came = λ j. record (stands.uploads j) { last_call = number }
 
@@ -562,7 +600,11 @@ module _ (told : Told) (it : Recorded) (n number worker : ℕ) (call : Call) (i 
     }) stands.linked;
     tells_well = record {
       number = λ c d is. (call_of_new c d is).0;
+      low = call_low;
       past = λ c d is. (call_of_new c d is).1;
+      begun = call_began;
+      begun_past = began_past;
+      failed = λ t failure is. failed_began failure (stands.tells_well.failed t failure (sym (task_same (λ it. it.failed) (λ it. refl) t) ∙ is));
       going = λ c d is. going_same d.task ∙ (call_of_new c d is).2;
       updates = λ t x. task_same (λ it. is_finished (it.upd x)) (λ it. refl) t ∙ stands.tells_well.updates t x
           ∙ sym (task_same (λ it. not (is_waiting (it.upd x)) && not (is_busy (it.upd x))) (λ it. refl) t);

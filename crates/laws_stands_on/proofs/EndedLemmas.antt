@@ -208,6 +208,9 @@ module _ (told : Told) (was : Records) (it : Recorded) (n number worker : ℕ) (
   abbrev k : Known
   k = told.known
 
+  has_begun : k.begun number ≡ Some b
+  has_begun = stands.tells_well.begun number b allows.is_open
+
   -- its row
   abbrev row : Row
   row = after number call answer (k.row i)
@@ -236,7 +239,7 @@ module _ (told : Told) (was : Records) (it : Recorded) (n number worker : ℕ) (
     where
       known_is : call_ended answer (k.begun number) k ≡ new.known
       known_is =
-          ap (λ o. call_ended answer o k) allows.begun
+          ap (λ o. call_ended answer o k) has_begun
           ∙ (λ j. record (none_known call answer (record k { row = at same_inst i row k.row }) allows.compiles_none
           j) { task = at eqb n (task_told k b answer (k.task n)) k.task })
           ∙ (λ j. record k {
@@ -259,7 +262,7 @@ module _ (told : Told) (was : Records) (it : Recorded) (n number worker : ℕ) (
   fail_is = by answer
     where
       ends : {X : Type 0} (f : Option Begin → X) → f (Some b) ≡ f (k.begun number)
-      ends f = ap f (sym allows.begun)
+      ends f = ap f (sym has_begun)
 
       same_lost : option_map_or (λ (row : Row). row.lost) (row_at was i) false ≡ (k.row i).lost
       same_lost = ap (λ o. option_map_or (λ (row : Row). row.lost) o false) row_there
@@ -599,30 +602,48 @@ module _ (told : Told) (was : Records) (it : Recorded) (n number worker : ℕ) (
             ∙ ap (λ changed. change_place changed i) work_stands.changed_are) j;
       }
 
+  own_begun : is_some (k.begun number) ≡ true
+  own_begun = ap is_some has_begun
+
+  gone_begun : (g : Bool) (failure : Failure) → (if g then Some (failures.Gone number) else None) ≡ Some failure
+      → is_some (k.begun (number_of failure)) ≡ true
+  gone_begun true failure is = let e : failures.Gone number ≡ failure = cc in ap (λ f. is_some (k.begun (number_of f))) (sym e) ∙ own_begun
+  gone_begun false failure is = absurd cc
+
+  -- the call that failed now began
+  new_begun : (answer : Answer) (failure : Failure) → known_calls.failure_of k b answer ≡ Some failure
+      → is_some (k.begun (number_of failure)) ≡ true
+  new_begun answers.Failed failure is = let e : failures.Call number ≡ failure = cc in ap (λ f. is_some (k.begun (number_of f))) (sym e) ∙ own_begun
+  new_begun answers.Gone failure is = gone_begun (known_calls.fails_gone k b call) failure is
+  new_begun answer failure is = absurd cc
+
+  -- .. as did the least that failed
+  failed_began : (t : ℕ) (failure : Failure) → (new.known.task t).failed ≡ Some failure → is_some (k.begun (number_of failure)) ≡ true
+  failed_began t failure is = by (eqb n t) is
+    where
+      least : (old new : Option Failure) → least_failure old new ≡ Some failure
+          → ((f : Failure) → old ≡ Some f → is_some (k.begun (number_of f)) ≡ true)
+          → ((f : Failure) → new ≡ Some f → is_some (k.begun (number_of f)) ≡ true) → is_some (k.begun (number_of failure)) ≡ true
+      least None new is old_begun new_begun = new_begun failure is
+      least (Some old) None is old_begun new_begun = old_begun failure is
+      least (Some old) (Some new) is old_begun new_begun = of (nat_lt (number_of new) (number_of old)) is
+        where
+          of : (b : Bool) → (if b then Some new else Some old) ≡ Some failure → is_some (k.begun (number_of failure)) ≡ true
+          of true is = new_begun failure is
+          of false is = old_begun failure is
+
+      by : (u : Bool) → (if u then task_now else k.task t).failed ≡ Some failure → is_some (k.begun (number_of failure)) ≡ true
+      by true is = least (k.task n).failed (known_calls.failure_of k b answer) is (stands.tells_well.failed n) (new_begun answer)
+      by false is = stands.tells_well.failed t failure is
+
   failed_is : (work : Work) → work.failed ≡ option_map (end_of k) (k.task n).failed
       → (ended_work asked places fail work).failed ≡ option_map (end_of new.known) (new.known.task n).failed
   failed_is work is =
       failed_as asked places fail work
       ∙ (λ j. if work_specs.is_less (fail_is j) (is j) then fail_is j else is j)
-      ∙ least_is k (k.task n).failed (known_calls.failure_of k b answer) allows.failed_begun (new_begun answer)
+      ∙ least_is k (k.task n).failed (known_calls.failure_of k b answer) (stands.tells_well.failed n) (new_begun answer)
       ∙ ap (λ (t : Task). option_map (end_of k) t.failed)
       (sym (λ j. if eq-eqb n n refl j then task_now else k.task n))
-    where
-      own : is_some (k.begun number) ≡ true
-      own = ap is_some allows.begun
-
-      gone : (g : Bool) (failure : Failure) → (if g then Some (failures.Gone number) else None) ≡ Some failure
-          → is_some (k.begun (number_of failure)) ≡ true
-      gone true failure is = let e : failures.Gone number ≡ failure =
-          cc in ap (λ f. is_some (k.begun (number_of f))) (sym e) ∙ own
-      gone false failure is = absurd cc
-
-      new_begun : (answer : Answer) (failure : Failure) → known_calls.failure_of k b answer ≡ Some failure
-          → is_some (k.begun (number_of failure)) ≡ true
-      new_begun answers.Failed failure is = let e : failures.Call number ≡ failure =
-          cc in ap (λ f. is_some (k.begun (number_of f))) (sym e) ∙ own
-      new_begun answers.Gone failure is = gone (known_calls.fails_gone k b call) failure is
-      new_begun answer failure is = absurd cc
 
   own_work : (o : Option Work) → work_of it n ≡ o → IsWork told n o
       → IsWork new n (option_map (ended_work asked places fail) o)
@@ -633,7 +654,8 @@ module _ (told : Told) (was : Records) (it : Recorded) (n number worker : ℕ) (
       subst (λ (it : Told). StandsFor it (it.known.task n) n swept (ended_work asked places fail work)) told_is
           (after_call_ended told n number worker call answer swept work (ended_work asked places fail work) i
           work_stands allows.changed_apart allows.pings_apart allows.obsolete_apart
-          allows.compiles_none allows.low (stands.tells_well.past number b allows.is_open) allows.begun allows.is_open
+          allows.compiles_none (stands.tells_well.low number b allows.is_open) (stands.tells_well.past number b allows.is_open)
+          has_begun allows.is_open
           allows.only
           (ended_as asked places fail work
           ∙ (λ j. record (given work (places_are work swept is work_stands j)) {
@@ -738,7 +760,11 @@ module _ (told : Told) (was : Records) (it : Recorded) (n number worker : ℕ) (
     }) stands.linked;
     tells_well = record {
       number = λ c d is. stands.tells_well.number c d (was_open c d is);
+      low = λ c d is. stands.tells_well.low c d (was_open c d is);
       past = λ c d is. stands.tells_well.past c d (was_open c d is);
+      begun = λ c d is. stands.tells_well.begun c d (was_open c d is);
+      begun_past = stands.tells_well.begun_past;
+      failed = λ t failure is. failed_began t failure is;
       going = λ c d is. going_same d.task ∙ stands.tells_well.going c d (was_open c d is);
       updates = λ t x. task_same (λ it. is_finished (it.upd x)) refl t ∙ stands.tells_well.updates t x
           ∙ sym (task_same (λ it. not (is_waiting (it.upd x)) && not (is_busy (it.upd x))) refl t);

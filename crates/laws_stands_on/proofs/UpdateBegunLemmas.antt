@@ -212,7 +212,11 @@ module _ (u : Update) (told : Told) (it : Recorded) (allows : AllowsUpdate told 
     }) stands.linked;
     tells_well = record {
       number = stands.tells_well.number;
+      low = stands.tells_well.low;
       past = stands.tells_well.past;
+      begun = stands.tells_well.begun;
+      begun_past = stands.tells_well.begun_past;
+      failed = λ t failure is. stands.tells_well.failed t failure (sym (task_same (λ it. it.failed) (λ it. refl) t) ∙ is);
       going = λ c b is. going_same b.task ∙ stands.tells_well.going c b is;
       updates = updates_told;
     };

@@ -69,7 +69,11 @@ module _ (releases : List Release) (stemcells : List Stemcell) (config : Option 
     };
     tells_well = record {
       number = stands.tells_well.number;
+      low = stands.tells_well.low;
       past = stands.tells_well.past;
+      begun = stands.tells_well.begun;
+      begun_past = stands.tells_well.begun_past;
+      failed = stands.tells_well.failed;
       going = stands.tells_well.going;
       updates = stands.tells_well.updates;
     };

@@ -5,11 +5,9 @@ use Rattle.bosh_base.specs.declared.answer.Answer.{Answer}
 use Rattle.bosh_base.specs.declared.call.Call.{Call}
 use Rattle.bosh_base.specs.declared.entry.Begin.{Begin}
 use Rattle.bosh_base.specs.declared.entry.Update.{Update}
-use Rattle.bosh_base.specs.declared.failure.Failure.{Failure}
 use Rattle.bosh_base.specs.declared.inst.Inst.{Inst}
 use Rattle.bosh_base.specs.declared.key.Key.{Key}
 use Rattle.bosh_base.specs.declared.owner.Owner.TheVariants.{Instance}
-use Rattle.bosh_history.specs.Calls.{number_of}
 use Rattle.bosh_history.specs.Steps.{compiles}
 use Rattle.bosh_history.specs.Words.{is_among}
 use Rattle.bosh_records.specs.Recorded.{Recorded}
@@ -43,8 +41,6 @@ pub record AllowsCall (told : Told) (n number : ℕ) (call : Call) (i : Inst) : 
   pub compiles_none : (key : Key) → compiles key call ≡ false
   pub own_row : (told.known.row i).inst ≡ i
   pub bare_row : is_among same_inst i told.known.instances ≡ false → told.known.row i ≡ bare i
-  pub failed_before : (t : ℕ) (failure : Failure) → (told.known.task t).failed ≡ Some failure →
-      number_of failure ≤ told.known.last_call
   pub not_asked : (t : ℕ) → eqb n t ≡ false → is_going told.known t ≡ true →
       is_among same_inst i (told.known.task t).to_ping ≡ false
   pub not_leaving : (t : ℕ) → eqb n t ≡ false → is_going told.known t ≡ true →
@@ -60,9 +56,7 @@ pub record HasPlaces (it : Recorded) (number : ℕ) (i : Inst) : Type 0 where
 -- an open call of an instance may end: it is the only one of the instance, which is recorded, and no other open task lists
 -- it
 pub record AllowsEnd (told : Told) (begin : Begin) (answer : Answer) (i : Inst) : Type 0 where
-  pub low : 1 ≤ begin.n
   pub is_open : told.calls begin.n ≡ Some begin
-  pub begun : told.known.begun begin.n ≡ Some begin
   pub only : (c : ℕ) (d : Begin) → told.calls c ≡ Some d → same_owner d.owner (Instance i) ≡ true → c ≡ begin.n
   pub dep : (told.known.task begin.task).dep ≡ Some i.dep
   pub changed_apart : are_distinct same_inst (told.known.task begin.task).changed ≡ true
@@ -71,8 +65,6 @@ pub record AllowsEnd (told : Told) (begin : Begin) (answer : Answer) (i : Inst) 
   pub compiles_none : (key : Key) → compiles key begin.call ≡ false
   pub recorded : is_among same_inst i told.known.instances ≡ true
   pub own_row : (after begin.n begin.call answer (told.known.row i)).inst ≡ i
-  pub failed_begun : (failure : Failure) → (told.known.task begin.task).failed ≡ Some failure →
-      is_some (told.known.begun (number_of failure)) ≡ true
   pub not_asked : (t : ℕ) → eqb begin.task t ≡ false → is_going told.known t ≡ true →
       is_among same_inst i (told.known.task t).to_ping ≡ false
   pub not_leaving : (t : ℕ) → eqb begin.task t ≡ false → is_going told.known t ≡ true →
