@@ -168,12 +168,6 @@ module _ (m : Moment) (n worker : ℕ) (records : Records) (swept : List Machine
       (λ j d is. answer_of_others m n worker records swept work can p present (Disk d) (gone_late k n p d (gone d))
       (ap (λ b. is_phase k n p (if b then Some 0 else None)) (gone d)))
 
-  no_instances : (p : ℕ) → IsPresent k n p → ((i : Inst) → not_before k n p (Instance i) ≡ true)
-      → ((i : Inst) → is_phase k n p (phase_of k n (Instance i)) ≡ false) → (i : Inst) → answer_of (Instance i)
-      ≡ None
-  no_instances p present late other i = answer_of_others m n worker records swept work can p present (Instance i)
-      (late i) (other i)
-
   -- an instance that is neither asked nor goes is in a later phase
   pub in_later : (p : ℕ) (i : Inst) → p ≤ 3 → is_to_ping t i ≡ false → is_to_go t i ≡ false
       → is_phase k n p (phase_of k n (Instance i)) ≡ false

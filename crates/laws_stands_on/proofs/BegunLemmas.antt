@@ -10,18 +10,15 @@ use Rattle.bosh_base.specs.Cloud.{numbers_to}
 use Rattle.bosh_base.specs.Inst.{inst_cmp}
 use Rattle.bosh_base.specs.declared.call.Call.{Call}
 use Rattle.bosh_base.specs.declared.call.Call.TheVariants.{CompilePackage}
-use Rattle.bosh_base.specs.declared.digest.Digest.{Digest}
 use Rattle.bosh_base.specs.declared.entry.Begin.{Begin}
 use Rattle.bosh_base.specs.declared.entry.Entry.TheVariants as entries
 use Rattle.bosh_base.specs.declared.failure.Failure.{Failure}
 use Rattle.bosh_base.specs.declared.inst.Inst.{Inst}
 use Rattle.bosh_base.specs.declared.key.Key.{Key}
-use Rattle.bosh_base.specs.declared.key.KeyWork.{KeyWork}
 use Rattle.bosh_base.specs.declared.owner.Owner.{Owner}
 use Rattle.bosh_base.specs.declared.owner.Owner.TheVariants.{Compile, Disk, Instance}
 use Rattle.bosh_base.specs.declared.row.Row.{Row}
 use Rattle.bosh_base.specs.declared.task.TaskRow.{TaskRow}
-use Rattle.bosh_compile.proofs.KeyLemmas.{same_key_decides}
 use Rattle.bosh_compile.specs.Readiness.{same_key}
 use Rattle.bosh_fold.specs.Calls.{counted, noted_call, opened_call, taken_by, with_call, with_compiling, with_row}
 use Rattle.bosh_fold.specs.Calls.{with_subject}
@@ -67,7 +64,8 @@ use Rattle.laws_stands_on.proofs.KeyLemmas.{inst_at, inst_keys}
 use Rattle.laws_stands_on.proofs.LinkLemmas.{ListsSame, changed_work, links_go_on}
 use Rattle.laws_stands_on.proofs.ListedLemmas.{SameListed, listed_goes_on}
 use Rattle.laws_stands_on.proofs.TableLemmas.{found_altered, nat_at, nat_keys, thing_changed}
-use Rattle.laws_stands_on.proofs.WorkLemmas.{after_call_begun, count_within, idle_begun, inst_flip}
+use Rattle.laws_stands_on.proofs.CallLemmas.{count_within, idle_begun, inst_flip}
+use Rattle.laws_stands_on.proofs.WorkLemmas.{after_call_begun, compiles_itself}
 use Rattle.laws_stands_on.specs.Allows.{AllowsCall, HasPlaces}
 
 -- taking its places changes no list of a work
@@ -85,10 +83,6 @@ takes_same w places = record {
 }
 
 -- a call that compiles nothing leaves the keys as they are
-pub compiles_itself : (vm : ℕ) (work : KeyWork) (deps : List Digest)
-    → ((key : Key) → compiles key (CompilePackage vm work deps) ≡ false) → ⊥
-compiles_itself vm work deps none = false≢true (sym (none work.key) ∙ (same_key_decides work.key work.key).1 refl)
-
 pub none_compiled : (call : Call) (o : Option ℕ) (it : Recorded) → ((key : Key) → compiles key call ≡ false)
     → with_compiling call o it ≡ it
 none_compiled (CompilePackage vm work deps) o it none = absurd (compiles_itself vm work deps none)
@@ -482,7 +476,8 @@ module _ (told : Told) (it : Recorded) (n number worker : ℕ) (call : Call) (i 
           ≡ option_map (end_of k) o
       failed None is = refl
       failed (Some failure) is =
-          let low : number_of failure ≤ k.last_call = failed_past {c = number_of failure} (k.begun (number_of failure)) refl (stands.tells_well.failed t failure is) in
+          let low : number_of failure ≤ k.last_call = failed_past {c = number_of failure}
+          (k.begun (number_of failure)) refl (stands.tells_well.failed t failure is) in
           ap (λ u. Some (end_by failure (if u then Some b else k.begun (number_of failure))))
           (ne_eqb number (number_of failure)
           (λ e. absurd (let next : number ≡ k.last_call + 1 = allows.next in omega arith)))
@@ -536,7 +531,8 @@ module _ (told : Told) (it : Recorded) (n number worker : ℕ) (call : Call) (i 
     where
       by : (t : Bool) → eqb number c ≡ t → (if t then Some b else told.calls c) ≡ Some d → 1 ≤ c
       by true same is =
-          let eq : number ≡ c = eqb-true number c same in let next : number ≡ k.last_call + 1 = allows.next in omega arith
+          let eq : number ≡ c = eqb-true number c same in let next : number ≡ k.last_call + 1 =
+          allows.next in omega arith
       by false other is = stands.tells_well.low c d is
 
   call_began : (c : ℕ) (d : Begin) → at eqb number (Some b) told.calls c ≡ Some d
@@ -604,7 +600,8 @@ module _ (told : Told) (it : Recorded) (n number worker : ℕ) (call : Call) (i 
       past = λ c d is. (call_of_new c d is).1;
       begun = call_began;
       begun_past = began_past;
-      failed = λ t failure is. failed_began failure (stands.tells_well.failed t failure (sym (task_same (λ it. it.failed) (λ it. refl) t) ∙ is));
+      failed = λ t failure is. failed_began failure
+          (stands.tells_well.failed t failure (sym (task_same (λ it. it.failed) (λ it. refl) t) ∙ is));
       going = λ c d is. going_same d.task ∙ (call_of_new c d is).2;
       updates = λ t x. task_same (λ it. is_finished (it.upd x)) (λ it. refl) t ∙ stands.tells_well.updates t x
           ∙ sym (task_same (λ it. not (is_waiting (it.upd x)) && not (is_busy (it.upd x))) (λ it. refl) t);

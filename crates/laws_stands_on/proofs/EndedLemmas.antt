@@ -4,28 +4,26 @@ use Rattle.std.proofs.Common.{filter, map, Option, Some, None, ap, refl, sym, su
 use Rattle.std.specs.Prelude.{eqb, is_some, nat_le, nat_lt, slice_get, if◌then◌else◌}
 use Rattle.std.specs.Option.{option_and_then, option_map, option_map_or}
 use Rattle.std.specs.Ordering.{nat_cmp}
-use Rattle.std.proofs.lemmas.Bool.{eq-eqb, eqb-true, false≢true}
+use Rattle.std.proofs.lemmas.Bool.{eq-eqb, eqb-true}
 use Rattle.bosh_base.specs.Cloud.{numbers_to}
 use Rattle.bosh_base.specs.Inst.{inst_cmp}
 use Rattle.bosh_base.specs.declared.answer.Answer.{Answer}
 use Rattle.bosh_base.specs.declared.answer.Answer.TheVariants as answers
 use Rattle.bosh_base.specs.declared.call.Call.{Call}
-use Rattle.bosh_base.specs.declared.call.Call.TheVariants.{CompilePackage, DeleteVm, Ping}
-use Rattle.bosh_base.specs.declared.digest.Digest.{Digest}
+use Rattle.bosh_base.specs.declared.call.Call.TheVariants.{DeleteVm, Ping}
 use Rattle.bosh_base.specs.declared.entry.Begin.{Begin}
 use Rattle.bosh_base.specs.declared.entry.End.{End}
 use Rattle.bosh_base.specs.declared.entry.Entry.TheVariants as entries
 use Rattle.bosh_base.specs.declared.failure.Failure.{Failure}
 use Rattle.bosh_base.specs.declared.failure.Failure.TheVariants as failures
 use Rattle.bosh_base.specs.declared.inst.Inst.{Inst}
-use Rattle.bosh_base.specs.declared.key.Key.{Key}
 use Rattle.bosh_base.specs.declared.owner.Owner.{Owner}
 use Rattle.bosh_base.specs.declared.owner.Owner.TheVariants.{Compile, Disk, Instance}
 use Rattle.bosh_base.specs.declared.row.Row.{Row}
 use Rattle.bosh_base.specs.declared.task.TaskEnd.{TaskEnd}
 use Rattle.bosh_base.specs.declared.task.TaskRow.{TaskRow}
 use Rattle.bosh_compile.specs.Readiness.{same_key}
-use Rattle.bosh_fold.specs.Calls.{built_in, closed_call, ended_by, ended_in, failed_in, given_by}
+use Rattle.bosh_fold.specs.Calls.{closed_call, ended_by, ended_in, failed_in, given_by}
 use Rattle.bosh_fold.specs.Calls.{pinged_by, with_call, with_row}
 use Rattle.bosh_history.specs.Calls as known_calls
 use Rattle.bosh_history.specs.Calls.{call_ended, least_failure, number_of, task_told}
@@ -53,11 +51,10 @@ use Rattle.bosh_records.specs.declared.records.Records.{Records}
 use Rattle.bosh_roll.specs.Upd.{is_busy}
 use Rattle.bosh_rows.specs.After.{after}
 use Rattle.bosh_rows.specs.Same.{same_inst, same_owner}
-use Rattle.bosh_work.specs.Line.{finished_line, given_line}
+use Rattle.bosh_work.specs.Line.{given_line}
 use Rattle.bosh_work.specs.Part.{no_part}
 use Rattle.bosh_work.specs.Work as work_specs
 use Rattle.bosh_work.specs.Work.{failed_by, given}
-use Rattle.bosh_work.specs.declared.line.Line.{Line}
 use Rattle.bosh_work.specs.declared.part.MachineName.{MachineName}
 use Rattle.bosh_work.specs.declared.part.Places.{Places}
 use Rattle.bosh_work.specs.declared.work.Work.{Work}
@@ -69,130 +66,18 @@ use Rattle.laws_stands.specs.Reading.{call_of as recorded_call, dep_of, instance
 use Rattle.laws_stands.specs.Stands.{AreSwept, IsWork, Stands, StandsIn, call_of, key_of_slot}
 use Rattle.laws_stands.specs.Told.{Told, idle_in, is_going, is_idle, telling}
 use Rattle.laws_stands.specs.WorkStands.{StandsFor, asked_line, asks, end_of, is_task_call, places_of}
-use Rattle.laws_stands_on.proofs.BegunLemmas.{compiles_itself, none_compiled}
+use Rattle.laws_stands_on.proofs.BegunLemmas.{none_compiled}
 use Rattle.laws_stands_on.proofs.FindLemmas.{any_within, find_within, none_is_found}
 use Rattle.laws_stands_on.proofs.KeyLemmas.{inst_at, inst_keys}
-use Rattle.laws_stands_on.proofs.LinkLemmas.{ListsSame, changed_work, links_go_on}
+use Rattle.laws_stands_on.proofs.LinkLemmas.{changed_work, links_go_on}
 use Rattle.laws_stands_on.proofs.ListedLemmas.{SameListed, listed_goes_on}
 use Rattle.laws_stands_on.proofs.TableLemmas.{found_altered, found_without, nat_at, nat_keys, thing_changed}
-use Rattle.laws_stands_on.proofs.WorkLemmas.{after_call_ended, after_ping, count_within, idle_ended, inst_flip}
+use Rattle.laws_stands_on.proofs.CallLemmas.{count_within, idle_ended, inst_flip}
+use Rattle.laws_stands_on.proofs.WorkLemmas.{after_call_ended, after_ping}
 use Rattle.laws_stands_on.specs.Allows.{AllowsEnd}
 use Rattle.laws_stands_on.specs.Once.{IsOnce}
-
--- ---- failures
-
--- a failure ends a task by the number of its call
-number_is : (k : Known) (failure : Failure) → is_some (k.begun (number_of failure)) ≡ true
-    → work_specs.number_of (end_of k failure) ≡ number_of failure
-number_is k failures.Interrupted is = refl
-number_is k (failures.Call n) is = by (k.begun n) is
-  where
-    by : (o : Option Begin) → is_some o ≡ true → work_specs.number_of (end_by (failures.Call n) o) ≡ n
-    by (Some b) is = refl
-    by None is = absurd (false≢true is)
-number_is k (failures.Gone n) is = by (k.begun n) is
-  where
-    by : (o : Option Begin) → is_some o ≡ true → work_specs.number_of (end_by (failures.Gone n) o) ≡ n
-    by (Some b) is = refl
-    by None is = absurd (false≢true is)
-
--- the least of two failed calls ends a task
-least_is : (k : Known) (old new : Option Failure)
-    → ((failure : Failure) → old ≡ Some failure → is_some (k.begun (number_of failure)) ≡ true)
-    → ((failure : Failure) → new ≡ Some failure → is_some (k.begun (number_of failure)) ≡ true)
-    → (if work_specs.is_less (option_map (end_of k) new) (option_map (end_of k) old) then option_map (end_of k) new
-    else option_map (end_of k) old)
-    ≡ option_map (end_of k) (least_failure old new)
-least_is k (Some old) (Some new) old_begun new_begun =
-    (λ i. if nat_lt (number_is k new (new_begun new refl) i) (number_is k old (old_begun old refl) i)
-    then Some (end_of k new) else Some (end_of k old))
-    ∙ by (nat_lt (number_of new) (number_of old))
-  where
-    by : (b : Bool) → (if b then Some (end_of k new) else Some (end_of k old))
-        ≡ option_map (end_of k) (if b then Some new else Some old)
-    by true = refl
-    by false = refl
-least_is k None (Some new) old_begun new_begun = refl
-least_is k (Some old) None old_begun new_begun = refl
-least_is k None None old_begun new_begun = refl
-
--- ---- what an answer changes in a work
-
--- an answered ping is noted
-abbrev takes_ping : Call → Bool → Bool
-takes_ping (Ping vm) true = true
-takes_ping call told = false
-
-takes_as : (call : Call) (answer : Answer) → takes_ping call (is_told answer) ≡ asks call answer
-takes_as (Ping vm) answers.Failed = refl
-takes_as (Ping vm) answer = refl
-takes_as call answer = refl
-
-pinged_as : (told : Bool) (begin : Begin) (call : Call) (it : Recorded)
-    → pinged_by told (record begin { call = call }) it
-    ≡ record it {
-      works = if takes_ping call told then changed nat_cmp begin.task
-          (with_pinged (places_in it begin.owner).part.ping) it.works else it.works;
-    }
-pinged_as true begin (Ping vm) it = refl
-pinged_as true begin call it = refl
-pinged_as false begin (Ping vm) it = refl
-pinged_as false begin call it = refl
-
-none_built : (call : Call) (built : Option Digest) (it : Recorded) → ((key : Key) → compiles key call ≡ false)
-    → built_in call built it ≡ it
-none_built (CompilePackage vm work deps) built it none = absurd (compiles_itself vm work deps none)
-none_built call built it none = refl
-
-none_known : (call : Call) (answer : Answer) (k : Known) → ((key : Key) → compiles key call ≡ false)
-    → known_calls.compiles call answer k ≡ k
-none_known (CompilePackage vm work deps) answer k none = absurd (compiles_itself vm work deps none)
-none_known call answer k none = refl
-
--- a work once its call ended
-abbrev ended_work : Bool → Places → Option TaskEnd → Work → Work
-ended_work asked places fail w = failed_by (if asked then with_pinged places.part.ping (given w places)
-    else given w places) fail
-
-ended_as : (asked : Bool) (places : Places) (fail : Option TaskEnd) (w : Work)
-    → ended_work asked places fail w
-    ≡ record (given w places) {
-      pings = asked_line asked (given_line w.pings places.part.ping) places.part.ping;
-      failed = (ended_work asked places fail w).failed;
-    }
-ended_as true places fail w = refl
-ended_as false places fail w = refl
-
-failed_as : (asked : Bool) (places : Places) (fail : Option TaskEnd) (w : Work)
-    → (ended_work asked places fail w).failed ≡ (if work_specs.is_less fail w.failed then fail else w.failed)
-failed_as true places fail w = refl
-failed_as false places fail w = refl
-
-lines_given : {T : Type 0} (line : Line T) (o : Option ℕ) → (given_line line o).items ≡ line.items
-lines_given line None = refl
-lines_given line (Some place) = refl
-
-lines_finished : {T : Type 0} (line : Line T) (o : Option ℕ) → (finished_line line o).items ≡ line.items
-lines_finished line None = refl
-lines_finished line (Some place) = refl
-
-ends_same : (asked : Bool) (places : Places) (fail : Option TaskEnd) (w : Work)
-    → ListsSame (ended_work asked places fail w) w
-ends_same true places fail w = record {
-  pings = lines_finished (given_line w.pings places.part.ping) places.part.ping
-      ∙ lines_given w.pings places.part.ping;
-  obsolete = lines_given w.obsolete places.part.leaving;
-  changed = refl;
-  sweep = lines_given w.sweep places.sweep;
-  disks = lines_given w.disks places.deleting;
-}
-ends_same false places fail w = record {
-  pings = lines_given w.pings places.part.ping;
-  obsolete = lines_given w.obsolete places.part.leaving;
-  changed = refl;
-  sweep = lines_given w.sweep places.sweep;
-  disks = lines_given w.disks places.deleting;
-}
+use Rattle.laws_stands_on.proofs.AnsweredLemmas.{ended_as, ended_work, ends_same, failed_as, least_is, none_built}
+use Rattle.laws_stands_on.proofs.AnsweredLemmas.{none_known, pinged_as, takes_as, takes_ping}
 
 module _ (told : Told) (was : Records) (it : Recorded) (n number worker : ℕ) (call : Call) (answer : Answer)
     (i : Inst)
@@ -607,33 +492,40 @@ module _ (told : Told) (was : Records) (it : Recorded) (n number worker : ℕ) (
 
   gone_begun : (g : Bool) (failure : Failure) → (if g then Some (failures.Gone number) else None) ≡ Some failure
       → is_some (k.begun (number_of failure)) ≡ true
-  gone_begun true failure is = let e : failures.Gone number ≡ failure = cc in ap (λ f. is_some (k.begun (number_of f))) (sym e) ∙ own_begun
+  gone_begun true failure is = let e : failures.Gone number ≡ failure =
+      cc in ap (λ f. is_some (k.begun (number_of f))) (sym e) ∙ own_begun
   gone_begun false failure is = absurd cc
 
   -- the call that failed now began
   new_begun : (answer : Answer) (failure : Failure) → known_calls.failure_of k b answer ≡ Some failure
       → is_some (k.begun (number_of failure)) ≡ true
-  new_begun answers.Failed failure is = let e : failures.Call number ≡ failure = cc in ap (λ f. is_some (k.begun (number_of f))) (sym e) ∙ own_begun
+  new_begun answers.Failed failure is = let e : failures.Call number ≡ failure =
+      cc in ap (λ f. is_some (k.begun (number_of f))) (sym e) ∙ own_begun
   new_begun answers.Gone failure is = gone_begun (known_calls.fails_gone k b call) failure is
   new_begun answer failure is = absurd cc
 
   -- .. as did the least that failed
-  failed_began : (t : ℕ) (failure : Failure) → (new.known.task t).failed ≡ Some failure → is_some (k.begun (number_of failure)) ≡ true
+  failed_began : (t : ℕ) (failure : Failure) → (new.known.task t).failed ≡ Some failure
+      → is_some (k.begun (number_of failure)) ≡ true
   failed_began t failure is = by (eqb n t) is
     where
       least : (old new : Option Failure) → least_failure old new ≡ Some failure
           → ((f : Failure) → old ≡ Some f → is_some (k.begun (number_of f)) ≡ true)
-          → ((f : Failure) → new ≡ Some f → is_some (k.begun (number_of f)) ≡ true) → is_some (k.begun (number_of failure)) ≡ true
+          → ((f : Failure) → new ≡ Some f → is_some (k.begun (number_of f)) ≡ true)
+          → is_some (k.begun (number_of failure)) ≡ true
       least None new is old_begun new_begun = new_begun failure is
       least (Some old) None is old_begun new_begun = old_begun failure is
       least (Some old) (Some new) is old_begun new_begun = of (nat_lt (number_of new) (number_of old)) is
         where
-          of : (b : Bool) → (if b then Some new else Some old) ≡ Some failure → is_some (k.begun (number_of failure)) ≡ true
+          of : (b : Bool) → (if b then Some new else Some old) ≡ Some failure → is_some (k.begun (number_of failure))
+              ≡ true
           of true is = new_begun failure is
           of false is = old_begun failure is
 
-      by : (u : Bool) → (if u then task_now else k.task t).failed ≡ Some failure → is_some (k.begun (number_of failure)) ≡ true
-      by true is = least (k.task n).failed (known_calls.failure_of k b answer) is (stands.tells_well.failed n) (new_begun answer)
+      by : (u : Bool) → (if u then task_now else k.task t).failed ≡ Some failure
+          → is_some (k.begun (number_of failure)) ≡ true
+      by true is = least (k.task n).failed (known_calls.failure_of k b answer) is (stands.tells_well.failed n)
+          (new_begun answer)
       by false is = stands.tells_well.failed t failure is
 
   failed_is : (work : Work) → work.failed ≡ option_map (end_of k) (k.task n).failed
@@ -641,7 +533,8 @@ module _ (told : Told) (was : Records) (it : Recorded) (n number worker : ℕ) (
   failed_is work is =
       failed_as asked places fail work
       ∙ (λ j. if work_specs.is_less (fail_is j) (is j) then fail_is j else is j)
-      ∙ least_is k (k.task n).failed (known_calls.failure_of k b answer) (stands.tells_well.failed n) (new_begun answer)
+      ∙ least_is k (k.task n).failed (known_calls.failure_of k b answer) (stands.tells_well.failed n)
+      (new_begun answer)
       ∙ ap (λ (t : Task). option_map (end_of k) t.failed)
       (sym (λ j. if eq-eqb n n refl j then task_now else k.task n))
 
@@ -654,7 +547,8 @@ module _ (told : Told) (was : Records) (it : Recorded) (n number worker : ℕ) (
       subst (λ (it : Told). StandsFor it (it.known.task n) n swept (ended_work asked places fail work)) told_is
           (after_call_ended told n number worker call answer swept work (ended_work asked places fail work) i
           work_stands allows.changed_apart allows.pings_apart allows.obsolete_apart
-          allows.compiles_none (stands.tells_well.low number b allows.is_open) (stands.tells_well.past number b allows.is_open)
+          allows.compiles_none (stands.tells_well.low number b allows.is_open)
+          (stands.tells_well.past number b allows.is_open)
           has_begun allows.is_open
           allows.only
           (ended_as asked places fail work

@@ -1,5 +1,7 @@
 pub mod AlikeLemmas
+pub mod AnsweredLemmas
 pub mod BegunLemmas
+pub mod CallLemmas
 pub mod EndedLemmas
 pub mod FindLemmas
 pub mod KeptLemmas

@@ -216,7 +216,8 @@ module _ (u : Update) (told : Told) (it : Recorded) (allows : AllowsUpdate told 
       past = stands.tells_well.past;
       begun = stands.tells_well.begun;
       begun_past = stands.tells_well.begun_past;
-      failed = λ t failure is. stands.tells_well.failed t failure (sym (task_same (λ it. it.failed) (λ it. refl) t) ∙ is);
+      failed = λ t failure is. stands.tells_well.failed t failure (sym (task_same (λ it. it.failed) (λ it. refl) t)
+          ∙ is);
       going = λ c b is. going_same b.task ∙ stands.tells_well.going c b is;
       updates = updates_told;
     };
