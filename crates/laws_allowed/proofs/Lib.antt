@@ -1,0 +1,7 @@
+mod CallLemmas
+mod FailureLemmas
+mod PlaceLemmas
+mod PresentLemmas
+mod UpdateLemmas
+mod UploadLemmas
+mod WorkingLemmas

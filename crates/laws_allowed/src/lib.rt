@@ -1,0 +1,63 @@
+//! What may be noted at a moment of a history is allowed after the entries that the records stand for, kind by kind.
+#![tactic(auto)]
+
+ghost use Rattle.std.specs.Prelude.{◌≡◌, ◌<◌, ℕ, List, true};
+ghost use Rattle.bosh_base.specs.declared.entry.End.{End};
+ghost use Rattle.bosh_base.specs.declared.entry.Entry.TheVariants as entries;
+ghost use Rattle.bosh_base.specs.declared.entry.TaskError.{TaskError};
+ghost use Rattle.bosh_base.specs.declared.entry.Update.{Update};
+ghost use Rattle.bosh_base.specs.declared.release.Release.{Release};
+ghost use Rattle.bosh_base.specs.declared.stemcell.Stemcell.{Stemcell};
+ghost use Rattle.bosh_claim.specs.Allowed.{allowed};
+ghost use Rattle.bosh_history.specs.Moments.{Moment};
+ghost use Rattle.bosh_history.specs.Notes.{MayNote, Outside};
+ghost use Rattle.bosh_history.specs.Recovered.{may_follow};
+ghost use Rattle.bosh_records.specs.declared.records.Records.{Records};
+ghost use Rattle.laws_facts.specs.KnownFacts.{KnownFacts};
+ghost use Rattle.laws_stands.specs.Agrees.{Agrees};
+ghost use Rattle.laws_stands.specs.Stands.{Stands};
+ghost use Rattle.laws_stands.specs.Told.{Told};
+
+/// A release that may be noted is allowed.
+pub fn a_release_that_may_be_noted_is_allowed()
+    ensures { (outside : Outside) (m : Moment) (told : Told) (records : Records) (release : Release)
+        → Stands told records → Agrees m told → MayNote outside m (entries.Release release)
+        → allowed records (entries.Release release) ≡ true }
+{}
+
+/// A stemcell that may be noted is allowed.
+pub fn a_stemcell_that_may_be_noted_is_allowed()
+    ensures { (outside : Outside) (m : Moment) (told : Told) (records : Records) (stemcell : Stemcell)
+        → Stands told records → Agrees m told → MayNote outside m (entries.Stemcell stemcell)
+        → allowed records (entries.Stemcell stemcell) ≡ true }
+{}
+
+/// A config that may be noted is allowed.
+pub fn a_config_that_may_be_noted_is_allowed()
+    ensures { (outside : Outside) (m : Moment) (records : Records) (file : List ℕ)
+        → MayNote outside m (entries.Config file)
+        → allowed records (entries.Config file) ≡ true }
+{}
+
+/// The end of a call that may be noted is allowed.
+pub fn an_end_that_may_be_noted_is_allowed()
+    ensures { (outside : Outside) (m : Moment) (told : Told) (records : Records) (end : End)
+        → Stands told records → Agrees m told → KnownFacts m → MayNote outside m (entries.End end)
+        → allowed records (entries.End end) ≡ true }
+{}
+
+/// The failure of a task that may be noted is allowed: by a call, once no task is to be interrupted, or by a stop.
+pub fn a_failure_that_may_be_noted_is_allowed()
+    ensures { (outside : Outside) (m : Moment) (told : Told) (records : Records) (error : TaskError)
+        → Stands told records → Agrees m told → KnownFacts m → MayNote outside m (entries.TaskError error)
+        → may_follow m (entries.TaskError error) ≡ true
+        → allowed records (entries.TaskError error) ≡ true }
+{}
+
+/// The beginning of an update that may be noted is allowed, as long as calls have numbers.
+pub fn an_update_that_may_begin_is_allowed()
+    ensures { (outside : Outside) (m : Moment) (told : Told) (records : Records) (update : Update)
+        → Stands told records → Agrees m told → KnownFacts m → m.known.last_call < 18446744073709551615
+        → MayNote outside m (entries.UpdBegin update) → may_follow m (entries.UpdBegin update) ≡ true
+        → allowed records (entries.UpdBegin update) ≡ true }
+{}
