@@ -1,3 +1,4 @@
+mod BeginLemmas
 mod CallLemmas
 mod FailureLemmas
 mod PlaceLemmas

@@ -26,9 +26,10 @@ use Rattle.bosh_roll.specs.declared.upd.Upd.TheVariants.{Busy, Failed, Finished,
 use Rattle.bosh_rows.specs.Same.{same_inst}
 use Rattle.bosh_work.specs.declared.part.MachineName.{MachineName}
 use Rattle.bosh_work.specs.declared.work.Work.{Work}
+use Rattle.laws_items.proofs.ListLemmas.{among_is, any_in}
 use Rattle.laws_stands.proofs.FirstLemmas.{same_first}
 use Rattle.laws_stands.proofs.LineLemmas.{over_is}
-use Rattle.laws_stands.proofs.MemberLemmas.{among_from}
+use Rattle.laws_stands.proofs.MemberLemmas.{among_from, inst_is}
 use Rattle.laws_stands.proofs.NextKeyLemmas.{compiles_some}
 use Rattle.laws_stands.proofs.NoneLemmas.{none_asked, none_going}
 use Rattle.laws_stands.proofs.PhaseLemmas.{AllParts, machine_owner, not_before, parts_of}
@@ -210,25 +211,27 @@ module _ (m : Moment) (n : ℕ) (records : Records) (swept : List MachineName) (
               (sym (can.begun i is among waits)
               ∙ (λ j. quiet i j || (stay late i j || waiting_quiet (t.upd i) waits j))))
 
+  -- ---- what is present
+
+  pings_over : 0 < p → is_finished work.pings.queue ≡ true
+  pings_over late = over_is t.to_ping (λ i. not (t.pinged i)) (idle_at m) work.pings can.pings ∙ ap not (asked_over late)
+
+  deletions_over : 0 < p → is_finished work.disks.queue ≡ true
+  deletions_over late = over_is t.disks (λ d. is_some (k.orphan d)) (λ d. is_idle m (Disk d)) work.disks can.disks
+      ∙ ap not (disks_over late)
+
+  sweeps_over : 1 < p → is_finished work.sweep.queue ≡ true
+  sweeps_over late = over_is swept (λ name. is_some (k.slot name.task name.slot))
+      (λ name. is_idle m (Compile name.task name.slot)) work.sweep can.sweep ∙ ap not (sweep_over late)
+
   -- the stages of groups come last, and the least of those that are left is present
   pub updates_now : (s : ℕ) → p ≡ 4 + s → HasLeft t s → present records work ≡ Some (phases.Update s)
   updates_now s at has =
-      λ j. phase_by (pings j) (disks j) (sweep j) (compile_over (omega arith) j) (obsolete j) (stage j)
+      λ j. phase_by (pings_over (omega arith) j) (deletions_over (omega arith) j) (sweeps_over (omega arith) j)
+      (compile_over (omega arith) j) (obsolete j) (stage j)
     where
       late : 3 < p
       late = omega arith
-
-      pings : is_finished work.pings.queue ≡ true
-      pings = over_is t.to_ping (λ i. not (t.pinged i)) (idle_at m) work.pings can.pings
-          ∙ ap not (asked_over (omega arith))
-
-      disks : is_finished work.disks.queue ≡ true
-      disks = over_is t.disks (λ d. is_some (k.orphan d)) (λ d. is_idle m (Disk d)) work.disks can.disks
-          ∙ ap not (disks_over (omega arith))
-
-      sweep : is_finished work.sweep.queue ≡ true
-      sweep = over_is swept (λ name. is_some (k.slot name.task name.slot))
-          (λ name. is_idle m (Compile name.task name.slot)) work.sweep can.sweep ∙ ap not (sweep_over (omega arith))
 
       obsolete : is_finished work.obsolete.queue ≡ true
       obsolete = over_is t.obsolete (λ i. not (t.gone i)) (idle_at m) work.obsolete can.obsolete
@@ -254,3 +257,29 @@ module _ (m : Moment) (n : ℕ) (records : Records) (swept : List MachineName) (
       stage : least_stage work.groups ≡ Some s
       stage = same_first (HasLeft t) (least_stage work.groups) (Some s)
           (least_is_left t (idle_at m) (can_update late) work.groups can.groups_stand) (has, λ q other. least q other)
+
+  -- somebody is asked
+  pub asks_now : (i : Inst) → is_to_ping t i ≡ true → present records work ≡ Some phases.Ask
+  asks_now i asks =
+      λ j. phase_by (left j) (is_finished work.disks.queue) (is_finished work.sweep.queue) (has_to_compile records work)
+      (is_finished work.obsolete.queue) (least_stage work.groups)
+    where
+      parted : (is_among same_inst i t.to_ping ≡ true) × (not (t.pinged i) ≡ true)
+      parted = and_parts (is_among same_inst i t.to_ping) (not (t.pinged i)) asks
+
+      left : is_finished work.pings.queue ≡ false
+      left = over_is t.to_ping (λ i. not (t.pinged i)) (idle_at m) work.pings can.pings
+          ∙ ap not (any_in (λ i. not (t.pinged i)) i t.to_ping (among_is same_inst inst_is i t.to_ping parted.0) parted.1)
+
+  -- an instance leaves, and nothing is left in an earlier phase
+  pub leaves_now : (i : Inst) → is_to_go t i ≡ true → 2 < p → present records work ≡ Some phases.Leave
+  leaves_now i goes late =
+      λ j. phase_by (pings_over (omega arith) j) (deletions_over (omega arith) j) (sweeps_over (omega arith) j)
+      (compile_over late j) (left j) (least_stage work.groups)
+    where
+      parted : (is_among same_inst i t.obsolete ≡ true) × (not (t.gone i) ≡ true)
+      parted = and_parts (is_among same_inst i t.obsolete) (not (t.gone i)) goes
+
+      left : is_finished work.obsolete.queue ≡ false
+      left = over_is t.obsolete (λ i. not (t.gone i)) (idle_at m) work.obsolete can.obsolete
+          ∙ ap not (any_in (λ i. not (t.gone i)) i t.obsolete (among_is same_inst inst_is i t.obsolete parted.0) parted.1)
