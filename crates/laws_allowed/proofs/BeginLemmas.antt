@@ -69,14 +69,37 @@ row_vm i row (Some it) is = ap (λ (row : Row). row.vm) is
 row_vm i row None is = ap (λ (row : Row). row.vm) is
 
 -- an item of a line that is left, and on which nobody works
-free_at : (items : List Inst) (left idle : Inst → Bool) (line : Line Inst) (i : Inst) (j : ℕ) (place : Option ℕ)
-    → LineStands items left idle line → place_of same_inst i items ≡ Some j → is_among same_inst i items ≡ true
-    → left i ≡ true → idle i ≡ true → place ≡ Some j → is_free_at line place ≡ true
-free_at items left idle line i j place stands at among is_left is_idle is =
-    let q : (q : ℕ) × (place_of same_inst i items ≡ Some q) × (slice_get items q ≡ Some i) =
-    has_place same_inst inst_is i items among in
-    ap (is_free_at line) (is ∙ sym at ∙ q.1) ∙ ap (λ marks. slice_index_or marks q.0 false) stands.free_are
-    ∙ at_place (λ x. left x && idle x) items q.0 i q.2 ∙ and_from (left i) (idle i) is_left is_idle
+pub free_at : {T : Type 0} (same : T → T → Bool) → ((a b : T) → same a b ≡ true → a ≡ b) → (items : List T)
+    (left idle : T → Bool) (line : Line T) (x : T) (place : Option ℕ)
+    → LineStands items left idle line → is_among same x items ≡ true
+    → left x ≡ true → idle x ≡ true → place ≡ place_of same x items → is_free_at line place ≡ true
+free_at same decides items left idle line x place stands among is_left is_idle is =
+    let q : (q : ℕ) × (place_of same x items ≡ Some q) × (slice_get items q ≡ Some x) =
+    has_place same decides x items among in
+    ap (is_free_at line) (is ∙ q.1) ∙ ap (λ marks. slice_index_or marks q.0 false) stands.free_are
+    ∙ at_place (λ y. left y && idle y) items q.0 x q.2 ∙ and_from (left x) (idle x) is_left is_idle
+
+module _ (m : Moment) (records : Records) (b : Begin) (at : IsAtWork m records b.task) (facts : KnownFacts m)
+    (working : works m b.task ≡ true) (numbers : m.known.last_call < 18446744073709551615)
+    (noted : Begins m b) where
+  -- no call of the task failed, so its worker chooses
+  pub choosing : CanChoose m b.task records at.swept at.work
+  choosing = can_choose m at.snapped b.task records at.swept at.work facts working numbers at.stands at.work_stands
+      at.are_swept (none_is (m.known.task b.task).failed noted.none_failed)
+
+-- a call may begin where it is the one that is to be made for its owner
+pub begins_by : (m : Moment) (records : Records) (b : Begin) (at : IsAtWork m records b.task) → Begins m b
+    → option_and_then (λ phase. call_for records at.work phase b.owner) (present records at.work) ≡ Some b.call
+    → begins records b ≡ true
+begins_by m records b at noted called_is =
+    ap (λ o. option_map_or (begins_in records b) o false) at.there
+    ∙ (λ j. is_none
+    ((at.work_stands.failed_is
+    ∙ ap (option_map (end_of m.known)) (none_is (m.known.task b.task).failed noted.none_failed)) j)
+    && (eq-eqb b.n (records.last_call + 1)
+    (noted.number ∙ ap (λ n. n + 1) (sym (ap (λ (it : Arrivals). it.last_call) at.stands.uploads))) j
+    && is_call (option_and_then (λ phase. call_for records at.work phase b.owner) (present records at.work)) b.call))
+    ∙ ap (λ o. is_call o b.call) called_is ∙ (Decides-call b.call b.call).1 refl
 
 module _ (m : Moment) (records : Records) (b : Begin) (at : IsAtWork m records b.task) (facts : KnownFacts m)
     (working : works m b.task ≡ true) (numbers : m.known.last_call < 18446744073709551615)
@@ -87,12 +110,8 @@ module _ (m : Moment) (records : Records) (b : Begin) (at : IsAtWork m records b
   abbrev t : Task
   t = m.known.task b.task
 
-  none_failed : t.failed ≡ None
-  none_failed = none_is t.failed noted.none_failed
-
   can : CanChoose m b.task records at.swept at.work
-  can = can_choose m at.snapped b.task records at.swept at.work facts working numbers at.stands at.work_stands
-      at.are_swept none_failed
+  can = choosing m records b at facts working numbers noted
 
   numbered : WorksAt m b.task
   numbered = works_at m b.task working
@@ -131,8 +150,8 @@ module _ (m : Moment) (records : Records) (b : Begin) (at : IsAtWork m records b
           ∙ ap (place_of same_inst i) at.work_stands.pings.items_are ∙ place.1)
 
       free : is_free_at at.work.pings known.0.part.ping ≡ true
-      free = free_at t.to_ping (λ i. not (t.pinged i)) (idle_at m) at.work.pings i place.0 known.0.part.ping can.pings
-          place.1 parted.0 parted.1 idle known.2
+      free = free_at same_inst inst_is t.to_ping (λ i. not (t.pinged i)) (idle_at m) at.work.pings i known.0.part.ping
+          can.pings parted.0 parted.1 idle (known.2 ∙ sym place.1)
 
       vm_is : option_and_then (λ (row : Row). row.vm) known.0.row ≡ (k.row i).vm
       vm_is = row_vm i (k.row i) known.0.row
@@ -163,8 +182,8 @@ module _ (m : Moment) (records : Records) (b : Begin) (at : IsAtWork m records b
 
       leaving : is_leaving records at.work i ≡ true
       leaving = ap (λ o. option_map_or (λ (it : instance.Instance). is_free_at at.work.obsolete it.part.leaving) o false) known.1
-          ∙ free_at t.obsolete (λ i. not (t.gone i)) (idle_at m) at.work.obsolete i place.0 known.0.part.leaving
-          can.obsolete place.1 parted.0 parted.1 idle known.2
+          ∙ free_at same_inst inst_is t.obsolete (λ i. not (t.gone i)) (idle_at m) at.work.obsolete i
+          known.0.part.leaving can.obsolete parted.0 parted.1 idle (known.2 ∙ sym place.1)
 
   -- ---- an instance is updated
 
@@ -245,12 +264,9 @@ module _ (m : Moment) (records : Records) (b : Begin) (at : IsAtWork m records b
 
   pub call_begins : begins records b ≡ true
   call_begins =
-      ap (λ o. option_map_or (begins_in records b) o false) at.there
-      ∙ (λ j. is_none ((at.work_stands.failed_is ∙ ap (option_map (end_of k)) none_failed) j)
-      && (eq-eqb b.n (records.last_call + 1)
-      (noted.number ∙ ap (λ n. n + 1) (sym (ap (λ (it : Arrivals). it.last_call) at.stands.uploads))) j
-      && is_call (option_and_then (λ phase. call_for records at.work phase (own j)) (present records at.work)) b.call))
-      ∙ ap (λ o. is_call o b.call) called_is ∙ (Decides-call b.call b.call).1 refl
+      begins_by m records b at noted
+      (ap (λ owner. option_and_then (λ phase. call_for records at.work phase owner) (present records at.work)) own
+      ∙ called_is)
 
 pub begin_is_allowed : (m : Moment) (told : Told) (records : Records) (b : Begin) (i : Inst) → Stands told records
     → Agrees m told → KnownFacts m → m.known.last_call < 18446744073709551615 → b.owner ≡ Instance i → Begins m b

@@ -1,8 +1,10 @@
 mod BeginLemmas
 mod CallLemmas
+mod DiskLemmas
 mod FailureLemmas
 mod PlaceLemmas
 mod PresentLemmas
+mod SweepLemmas
 mod UpdateLemmas
 mod UploadLemmas
 mod WorkingLemmas

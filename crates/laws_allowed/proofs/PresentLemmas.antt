@@ -1,10 +1,10 @@
 -- The present phase of a task, by the records: where nothing is left in an earlier phase, it is not one of those.
 use Rattle.std.proofs.Common.{◌≡◌, ◌∙◌, ℕ, ◌+◌, ◌<◌, ◌≤◌, zero, suc, Bool, true, false, ◌&&◌, ◌||◌, not, List, [], ◌∷◌}
-use Rattle.std.proofs.Common.{length, map, filter, Option, Some, None, ap, refl, sym, arith}
-use Rattle.std.specs.Prelude.{eqb, is_some, nat_lt, slice_get, if◌then◌else◌}
+use Rattle.std.proofs.Common.{length, map, filter, Option, Some, None, ap, refl, sym, arith, inl, inr}
+use Rattle.std.specs.Prelude.{◌==◌, eqb, is_some, nat_lt, slice_get, if◌then◌else◌}
 use Rattle.std.specs.List.{list_all, list_any}
 use Rattle.std.specs.Option.{option_map}
-use Rattle.std.proofs.lemmas.Bool.{and_from, and_parts, eq-eqb, false≢true, lt-ltb, ltb-false, ltb-true, or_right, true≢false}
+use Rattle.std.proofs.lemmas.Bool.{and_from, and_parts, eq-eqb, eqb-true, false≢true, lt-ltb, ltb-false, ltb-true, or_left, or_right, true≢false}
 use Rattle.bosh_base.specs.declared.inst.Inst.{Inst}
 use Rattle.bosh_base.specs.declared.owner.Owner.{Owner}
 use Rattle.bosh_base.specs.declared.owner.Owner.TheVariants.{Instance, Compile, Disk}
@@ -27,6 +27,7 @@ use Rattle.bosh_rows.specs.Same.{same_inst}
 use Rattle.bosh_work.specs.declared.part.MachineName.{MachineName}
 use Rattle.bosh_work.specs.declared.work.Work.{Work}
 use Rattle.laws_items.proofs.ListLemmas.{among_is, any_in}
+use Rattle.laws_items.specs.Lists.{IsIn}
 use Rattle.laws_stands.proofs.FirstLemmas.{same_first}
 use Rattle.laws_stands.proofs.LineLemmas.{over_is}
 use Rattle.laws_stands.proofs.MemberLemmas.{among_from, inst_is}
@@ -38,6 +39,7 @@ use Rattle.laws_stands.proofs.PremiseLemmas.{own_phase, passes_among, passes_bel
 use Rattle.laws_stands.proofs.StageLemmas.{HasLeft, least_is_left}
 use Rattle.laws_stands.specs.Choosing.{CanChoose, idle_at}
 use Rattle.laws_stands.specs.GroupsStand.{CanUpdate}
+use Rattle.laws_stands.specs.Linked.{same_machine}
 
 disk_among : (d : ℕ) (xs : List ℕ) (j : ℕ) → slice_get xs j ≡ Some d → is_among eqb d xs ≡ true
 disk_among d [] j is = absurd cc
@@ -68,7 +70,7 @@ phase_by pings disks sweep compiles obsolete stage =
     else (if not obsolete then Some phases.Leave
     else option_map phases.Update stage))))
 
-abbrev slot_name : MachineName → SlotName
+abbrev pub slot_name : MachineName → SlotName
 slot_name name = record { task = name.task; slot = name.slot }
 
 kept_none : (q : MachineName → Bool) (xs : List MachineName) → map slot_name (filter q xs) ≡ [] → list_any q xs ≡ false
@@ -79,6 +81,29 @@ kept_none q (x ∷ xs) none = by (q x) none (λ none. kept_none q xs none)
         → (map slot_name (filter q xs) ≡ [] → list_any q xs ≡ false) → (b || list_any q xs) ≡ false
     by true none more = absurd cc
     by false none more = more none
+
+pub machine_is : (a b : MachineName) → same_machine a b ≡ true → a ≡ b
+machine_is a b same =
+    let both : ((a.task == b.task) ≡ true) × ((a.slot == b.slot) ≡ true) =
+    and_parts (a.task == b.task) (a.slot == b.slot) same in
+    λ i. record { task = eqb-true a.task b.task both.0 i; slot = eqb-true a.slot b.slot both.1 i }
+
+-- a machine that is left of those that were swept is one of them
+pub kept_in : (q : MachineName → Bool) (xs : List MachineName) (name : MachineName)
+    → IsIn (slot_name name) (map slot_name (filter q xs)) → is_among same_machine name xs ≡ true
+kept_in q [] name is = absurd is
+kept_in q (x ∷ xs) name is = by (q x) is (λ is. kept_in q xs name is)
+  where
+    by : (b : Bool) → IsIn (slot_name name) (map slot_name (if b then x ∷ filter q xs else filter q xs))
+        → (IsIn (slot_name name) (map slot_name (filter q xs)) → is_among same_machine name xs ≡ true)
+        → (same_machine name x || is_among same_machine name xs) ≡ true
+    by true (inl same) more =
+        or_left (same_machine name x) (is_among same_machine name xs)
+        (and_from (name.task == x.task) (name.slot == x.slot)
+        (eq-eqb name.task x.task (sym (ap (λ (it : SlotName). it.task) same)))
+        (eq-eqb name.slot x.slot (sym (ap (λ (it : SlotName). it.slot) same))))
+    by true (inr is) more = or_right (same_machine name x) (is_among same_machine name xs) (more is)
+    by false is more = or_right (same_machine name x) (is_among same_machine name xs) (more is)
 
 module _ (m : Moment) (n : ℕ) (records : Records) (swept : List MachineName) (work : Work)
     (can : CanChoose m n records swept work) (p : ℕ) (none : none_left_before m.known n p ≡ true) where
@@ -283,3 +308,36 @@ module _ (m : Moment) (n : ℕ) (records : Records) (swept : List MachineName) (
       left : is_finished work.obsolete.queue ≡ false
       left = over_is t.obsolete (λ i. not (t.gone i)) (idle_at m) work.obsolete can.obsolete
           ∙ ap not (any_in (λ i. not (t.gone i)) i t.obsolete (among_is same_inst inst_is i t.obsolete parted.0) parted.1)
+
+  -- a disk is deleted
+  pub deletes_now : (d : ℕ) → is_among eqb d t.disks ≡ true → is_some (k.orphan d) ≡ true
+      → present records work ≡ Some phases.DeleteDisks
+  deletes_now d among there =
+      λ j. phase_by (none_asked_left j) (left j) (is_finished work.sweep.queue) (has_to_compile records work)
+      (is_finished work.obsolete.queue) (least_stage work.groups)
+    where
+      nobody : list_any (λ i. not (t.pinged i)) t.to_ping ≡ false
+      nobody = elim can.asks_or_deletes [
+        | inl empty ↦ ap (list_any (λ i. not (t.pinged i))) empty
+        | inr empty ↦ absurd (false≢true (sym (ap (is_among eqb d) empty) ∙ among))
+      ]
+
+      none_asked_left : is_finished work.pings.queue ≡ true
+      none_asked_left = over_is t.to_ping (λ i. not (t.pinged i)) (idle_at m) work.pings can.pings ∙ ap not nobody
+
+      left : is_finished work.disks.queue ≡ false
+      left = over_is t.disks (λ d. is_some (k.orphan d)) (λ d. is_idle m (Disk d)) work.disks can.disks
+          ∙ ap not (any_in (λ d. is_some (k.orphan d)) d t.disks (among_is eqb eqb-true d t.disks among) there)
+
+  -- a machine that an earlier task left is swept
+  pub sweeps_now : (name : MachineName) → is_among same_machine name swept ≡ true
+      → is_some (k.slot name.task name.slot) ≡ true → 0 < p → present records work ≡ Some phases.Sweep
+  sweeps_now name among there late =
+      λ j. phase_by (pings_over late j) (deletions_over late j) (left j) (has_to_compile records work)
+      (is_finished work.obsolete.queue) (least_stage work.groups)
+    where
+      left : is_finished work.sweep.queue ≡ false
+      left = over_is swept (λ name. is_some (k.slot name.task name.slot))
+          (λ name. is_idle m (Compile name.task name.slot)) work.sweep can.sweep
+          ∙ ap not (any_in (λ (name : MachineName). is_some (k.slot name.task name.slot)) name swept
+          (among_is same_machine machine_is name swept among) there)
