@@ -1,10 +1,10 @@
 -- The end of a task that failed, which may be noted, is allowed.
-use Rattle.std.proofs.Common.{◌≡◌, ◌∙◌, ℕ, ◌≤◌, ◌+◌, zero, suc, Bool, true, false, ◌&&◌, not, List, [], ◌∷◌, ◌++◌}
+use Rattle.std.proofs.Common.{◌≡◌, ◌∙◌, ℕ, ◌≤◌, ◌+◌, zero, suc, Bool, true, false, ◌&&◌, not, List, [], ◌∷◌}
 use Rattle.std.proofs.Common.{Option, Some, None, ap, refl, sym, arith, inl, inr}
 use Rattle.std.specs.Prelude.{◌⊎◌, ◌==◌, ◌||◌, cond, count_by, is_none, is_some, nat_le, if◌then◌else◌}
 use Rattle.std.specs.List.{list_all, list_any}
 use Rattle.std.specs.Option.{option_map, option_map_or}
-use Rattle.std.proofs.lemmas.Bool.{and_from, and_parts, eq-eqb, eqb-true, false≢true, le-leb, or_cases}
+use Rattle.std.proofs.lemmas.Bool.{and_parts, eq-eqb, eqb-true, false≢true, le-leb, or_cases}
 use Rattle.std.proofs.lemmas.List.Folds.{list_any-append}
 use Rattle.std.proofs.lemmas.List.Sums.{sum_by-cons}
 use Rattle.bosh_base.specs.Cloud.{numbers_to}
@@ -17,7 +17,6 @@ use Rattle.bosh_base.specs.declared.task.TaskEnd.{TaskEnd}
 use Rattle.bosh_base.specs.declared.task.TaskRow.{TaskRow}
 use Rattle.bosh_claim.specs.Ending.{failed_so, fails_task, has_failed}
 use Rattle.bosh_claim.specs.Ending as ending
-use Rattle.bosh_history.specs.Calls.{number_of}
 use Rattle.bosh_history.specs.Held.{is_open}
 use Rattle.bosh_history.specs.Moments.{Moment, OpenCall}
 use Rattle.bosh_history.specs.Notes.{FailsTask, IsCause, is_task_open}
@@ -28,7 +27,6 @@ use Rattle.bosh_history.specs.Tasks.{end_by}
 use Rattle.bosh_history.specs.Words.{holds}
 use Rattle.bosh_records.specs.Readers.{work_at}
 use Rattle.bosh_records.specs.declared.records.Records.{Records}
-use Rattle.bosh_work.specs.declared.work.Work.{Work}
 use Rattle.laws_choices.proofs.SameCallLemmas.{told_at}
 use Rattle.laws_facts.proofs.CurrentLemmas.{done_works}
 use Rattle.laws_facts.specs.KnownFacts.{KnownFacts}

@@ -2,6 +2,7 @@ mod BeginLemmas
 mod CallLemmas
 mod DiskLemmas
 mod FailureLemmas
+mod ListedLemmas
 mod PlaceLemmas
 mod PresentLemmas
 mod SweepLemmas

@@ -1,10 +1,10 @@
 -- The present phase of a task, by the records: where nothing is left in an earlier phase, it is not one of those.
-use Rattle.std.proofs.Common.{◌≡◌, ◌∙◌, ℕ, ◌+◌, ◌<◌, ◌≤◌, zero, suc, Bool, true, false, ◌&&◌, ◌||◌, not, List, [], ◌∷◌}
+use Rattle.std.proofs.Common.{◌≡◌, ◌∙◌, ℕ, ◌+◌, ◌<◌, ◌≤◌, Bool, true, false, ◌||◌, not, List, [], ◌∷◌}
 use Rattle.std.proofs.Common.{length, map, filter, Option, Some, None, ap, refl, sym, arith, inl, inr}
-use Rattle.std.specs.Prelude.{◌==◌, eqb, is_some, nat_lt, slice_get, if◌then◌else◌}
+use Rattle.std.specs.Prelude.{eqb, is_some, nat_lt, slice_get, if◌then◌else◌}
 use Rattle.std.specs.List.{list_all, list_any}
 use Rattle.std.specs.Option.{option_map}
-use Rattle.std.proofs.lemmas.Bool.{and_from, and_parts, eq-eqb, eqb-true, false≢true, lt-ltb, ltb-false, ltb-true, or_left, or_right, true≢false}
+use Rattle.std.proofs.lemmas.Bool.{and_from, and_parts, eqb-true, false≢true, lt-ltb, ltb-false, ltb-true, true≢false}
 use Rattle.bosh_base.specs.declared.inst.Inst.{Inst}
 use Rattle.bosh_base.specs.declared.owner.Owner.{Owner}
 use Rattle.bosh_base.specs.declared.owner.Owner.TheVariants.{Instance, Compile, Disk}
@@ -20,14 +20,11 @@ use Rattle.bosh_history.specs.Moments.{Moment}
 use Rattle.bosh_history.specs.Steps.{is_idle}
 use Rattle.bosh_history.specs.Words.{is_among}
 use Rattle.bosh_records.specs.declared.records.Records.{Records}
-use Rattle.bosh_roll.specs.Upd.{is_busy}
-use Rattle.bosh_roll.specs.declared.upd.Upd.{Upd}
-use Rattle.bosh_roll.specs.declared.upd.Upd.TheVariants.{Busy, Failed, Finished, Todo}
 use Rattle.bosh_rows.specs.Same.{same_inst}
 use Rattle.bosh_work.specs.declared.part.MachineName.{MachineName}
 use Rattle.bosh_work.specs.declared.work.Work.{Work}
+use Rattle.laws_allowed.proofs.ListedLemmas.{disk_among, kept_none, machine_is, waiting_quiet}
 use Rattle.laws_items.proofs.ListLemmas.{among_is, any_in}
-use Rattle.laws_items.specs.Lists.{IsIn}
 use Rattle.laws_stands.proofs.FirstLemmas.{same_first}
 use Rattle.laws_stands.proofs.LineLemmas.{over_is}
 use Rattle.laws_stands.proofs.MemberLemmas.{among_from, inst_is}
@@ -41,25 +38,6 @@ use Rattle.laws_stands.specs.Choosing.{CanChoose, idle_at}
 use Rattle.laws_stands.specs.GroupsStand.{CanUpdate}
 use Rattle.laws_stands.specs.Linked.{same_machine}
 
-disk_among : (d : ℕ) (xs : List ℕ) (j : ℕ) → slice_get xs j ≡ Some d → is_among eqb d xs ≡ true
-disk_among d [] j is = absurd cc
-disk_among d (x ∷ xs) zero is = let e : x ≡ d = cc in ap (λ b. b || is_among eqb d xs) (eq-eqb d x (sym e))
-disk_among d (x ∷ xs) (suc j) is = or_right (eqb d x) (is_among eqb d xs) (disk_among d xs j is)
-
--- of an instance whose update waits
-
-pub waiting_unfinished : (u : Upd) → is_waiting u ≡ true → finished.is_finished u ≡ false
-waiting_unfinished Todo is = refl
-waiting_unfinished Busy is = absurd (false≢true is)
-waiting_unfinished Finished is = absurd (false≢true is)
-waiting_unfinished Failed is = absurd (false≢true is)
-
-pub waiting_quiet : (u : Upd) → is_waiting u ≡ true → is_busy u ≡ false
-waiting_quiet Todo is = refl
-waiting_quiet Busy is = absurd (false≢true is)
-waiting_quiet Finished is = absurd (false≢true is)
-waiting_quiet Failed is = absurd (false≢true is)
-
 -- the phase, by what is over
 abbrev phase_by : Bool → Bool → Bool → Bool → Bool → Option ℕ → Option Phase
 phase_by pings disks sweep compiles obsolete stage =
@@ -69,41 +47,6 @@ phase_by pings disks sweep compiles obsolete stage =
     else (if compiles then Some phases.Compile
     else (if not obsolete then Some phases.Leave
     else option_map phases.Update stage))))
-
-abbrev pub slot_name : MachineName → SlotName
-slot_name name = record { task = name.task; slot = name.slot }
-
-kept_none : (q : MachineName → Bool) (xs : List MachineName) → map slot_name (filter q xs) ≡ [] → list_any q xs ≡ false
-kept_none q [] none = refl
-kept_none q (x ∷ xs) none = by (q x) none (λ none. kept_none q xs none)
-  where
-    by : (b : Bool) → map slot_name (if b then x ∷ filter q xs else filter q xs) ≡ []
-        → (map slot_name (filter q xs) ≡ [] → list_any q xs ≡ false) → (b || list_any q xs) ≡ false
-    by true none more = absurd cc
-    by false none more = more none
-
-pub machine_is : (a b : MachineName) → same_machine a b ≡ true → a ≡ b
-machine_is a b same =
-    let both : ((a.task == b.task) ≡ true) × ((a.slot == b.slot) ≡ true) =
-    and_parts (a.task == b.task) (a.slot == b.slot) same in
-    λ i. record { task = eqb-true a.task b.task both.0 i; slot = eqb-true a.slot b.slot both.1 i }
-
--- a machine that is left of those that were swept is one of them
-pub kept_in : (q : MachineName → Bool) (xs : List MachineName) (name : MachineName)
-    → IsIn (slot_name name) (map slot_name (filter q xs)) → is_among same_machine name xs ≡ true
-kept_in q [] name is = absurd is
-kept_in q (x ∷ xs) name is = by (q x) is (λ is. kept_in q xs name is)
-  where
-    by : (b : Bool) → IsIn (slot_name name) (map slot_name (if b then x ∷ filter q xs else filter q xs))
-        → (IsIn (slot_name name) (map slot_name (filter q xs)) → is_among same_machine name xs ≡ true)
-        → (same_machine name x || is_among same_machine name xs) ≡ true
-    by true (inl same) more =
-        or_left (same_machine name x) (is_among same_machine name xs)
-        (and_from (name.task == x.task) (name.slot == x.slot)
-        (eq-eqb name.task x.task (sym (ap (λ (it : SlotName). it.task) same)))
-        (eq-eqb name.slot x.slot (sym (ap (λ (it : SlotName). it.slot) same))))
-    by true (inr is) more = or_right (same_machine name x) (is_among same_machine name xs) (more is)
-    by false is more = or_right (same_machine name x) (is_among same_machine name xs) (more is)
 
 module _ (m : Moment) (n : ℕ) (records : Records) (swept : List MachineName) (work : Work)
     (can : CanChoose m n records swept work) (p : ℕ) (none : none_left_before m.known n p ≡ true) where

@@ -1,10 +1,10 @@
 -- The beginning of a call for a compile machine that an earlier task left, which may be noted, is allowed.
-use Rattle.std.proofs.Common.{◌≡◌, ◌≢◌, ◌∙◌, ℕ, ◌<◌, Bool, true, false, ◌&&◌, not, List, map, filter, Option, Some, None}
+use Rattle.std.proofs.Common.{◌≡◌, ◌≢◌, ◌∙◌, ℕ, ◌<◌, Bool, true, false, not, List, Option, Some, None}
 use Rattle.std.proofs.Common.{ap, refl, sym, subst, arith}
 use Rattle.std.specs.Prelude.{◌==◌, is_some, if◌then◌else◌}
 use Rattle.std.specs.Option.{option_and_then, option_eq, option_map}
 use Rattle.std.specs.Str.{bytes_eq}
-use Rattle.std.proofs.lemmas.Bool.{and_parts, eq-eqb, eqb-true, false≢true}
+use Rattle.std.proofs.lemmas.Bool.{and_parts, eqb-true, false≢true}
 use Rattle.bosh_base.specs.declared.entry.Begin.{Begin}
 use Rattle.bosh_base.specs.declared.entry.Entry.TheVariants as entries
 use Rattle.bosh_base.specs.declared.owner.Owner.TheVariants.{Compile}
@@ -28,7 +28,8 @@ use Rattle.bosh_records.specs.declared.records.Records.{Records}
 use Rattle.bosh_rows.specs.Standing.{same_truth}
 use Rattle.bosh_work.specs.declared.part.MachineName.{MachineName}
 use Rattle.laws_allowed.proofs.BeginLemmas.{begins_by, choosing, free_at}
-use Rattle.laws_allowed.proofs.PresentLemmas.{kept_in, machine_is, slot_name, sweeps_now}
+use Rattle.laws_allowed.proofs.ListedLemmas.{kept_in, machine_is, slot_name}
+use Rattle.laws_allowed.proofs.PresentLemmas.{sweeps_now}
 use Rattle.laws_allowed.proofs.WorkingLemmas.{IsAtWork, at_work}
 use Rattle.laws_choices.proofs.ReadLemmas.{dep_is}
 use Rattle.laws_facts.proofs.CurrentLemmas.{done_works}

@@ -1,9 +1,9 @@
 -- The beginning of an update that may be noted is allowed.
 use Rattle.std.proofs.Common.{◌≡◌, ◌∙◌, ℕ, ◌+◌, ◌<◌, Bool, true, false, ◌&&◌, ◌||◌, not, List, [], ◌∷◌, Option, Some}
 use Rattle.std.proofs.Common.{None, ap, refl, sym, arith, inl, inr}
-use Rattle.std.specs.Prelude.{◌⊎◌, ◌==◌, is_none, is_some, slice_index_or, if◌then◌else◌}
+use Rattle.std.specs.Prelude.{is_none, is_some, slice_index_or, if◌then◌else◌}
 use Rattle.std.specs.Option.{option_and_then, option_map, option_map_or}
-use Rattle.std.proofs.lemmas.Bool.{and_from, and_parts, eq-eqb, false≢true}
+use Rattle.std.proofs.lemmas.Bool.{and_parts, eq-eqb, false≢true}
 use Rattle.bosh_base.specs.declared.entry.Entry.TheVariants as entries
 use Rattle.bosh_base.specs.declared.entry.Update.{Update}
 use Rattle.bosh_base.specs.declared.failure.Failure.{Failure}
@@ -12,8 +12,8 @@ use Rattle.bosh_base.specs.declared.owner.Owner.TheVariants.{Instance}
 use Rattle.bosh_claim.specs.Phase.{present}
 use Rattle.bosh_claim.specs.Updating.{at_change, begins_in, begins_now, begins_update, if_present, is_stage, of_present}
 use Rattle.bosh_claim.specs.declared.phase.Phase.TheVariants as phases
-use Rattle.bosh_history.specs.Goals.{changed_in, is_in, is_waiting, may_begin}
-use Rattle.bosh_history.specs.Items.{is_finished, is_item, is_to_change, is_to_go, is_to_ping, none_left_before}
+use Rattle.bosh_history.specs.Goals.{changed_in, is_in}
+use Rattle.bosh_history.specs.Items.{is_finished, is_to_change, is_to_go, none_left_before}
 use Rattle.bosh_history.specs.Items.{phase_of, stage_of}
 use Rattle.bosh_history.specs.Known.{Known, Task, plan_in}
 use Rattle.bosh_history.specs.Moments.{Moment}
@@ -25,10 +25,9 @@ use Rattle.bosh_records.specs.declared.records.Records.{Records}
 use Rattle.bosh_roll.specs.Upd.{is_busy}
 use Rattle.bosh_rows.specs.Same.{same_inst}
 use Rattle.bosh_rows.specs.Standing.{is_empty}
-use Rattle.bosh_work.specs.declared.groups.GroupWork.{GroupWork}
-use Rattle.bosh_work.specs.declared.work.Work.{Work}
+use Rattle.laws_allowed.proofs.ListedLemmas.{waiting_quiet, waiting_unfinished}
 use Rattle.laws_allowed.proofs.PlaceLemmas.{IsPlaced, placed}
-use Rattle.laws_allowed.proofs.PresentLemmas.{can_update, updates_now, waiting_quiet, waiting_unfinished}
+use Rattle.laws_allowed.proofs.PresentLemmas.{can_update, updates_now}
 use Rattle.laws_allowed.proofs.WorkingLemmas.{IsAtWork, at_work}
 use Rattle.laws_choices.proofs.StandLemmas.{can_choose}
 use Rattle.laws_facts.proofs.CurrentLemmas.{done_works}

@@ -1,6 +1,6 @@
 -- An upload that may be noted is allowed.
-use Rattle.std.proofs.Common.{◌≡◌, ◌∙◌, true, false, not, List, Option, Some, None, ap, refl, sym}
-use Rattle.std.specs.Prelude.{◌&&◌, Bool}
+use Rattle.std.proofs.Common.{◌≡◌, ◌∙◌, true, not, List, Option, Some, None, ap, refl}
+use Rattle.std.specs.Prelude.{◌&&◌}
 use Rattle.std.specs.List.{list_any}
 use Rattle.std.specs.Str.{bytes_eq}
 use Rattle.std.specs.declared.cmp.Ordering.{Ordering}
@@ -16,7 +16,7 @@ use Rattle.bosh_history.specs.Notes as notes
 use Rattle.bosh_records.specs.Arrivals.{Arrivals}
 use Rattle.bosh_records.specs.declared.records.Records.{Records}
 use Rattle.laws_stands.specs.Agrees.{Agrees}
-use Rattle.laws_stands.specs.Stands.{Stands, arrivals_of}
+use Rattle.laws_stands.specs.Stands.{Stands}
 use Rattle.laws_stands.specs.Told.{Told}
 
 same_equal : (order : Option Ordering) → is_equal order ≡ notes.is_equal order
