@@ -132,7 +132,7 @@ module _ (m : Moment) (n worker : ℕ) (records : Records) (swept : List Machine
       by (Some it) = ap (option_map (λ (make : Make). calls.CreateVm (compile_make it.key make) [])) slot_at_is
       by None = refl
 
-  slot_call_is : (s : ℕ) → s < length (slots_of t.goal)
+  pub slot_call_is : (s : ℕ) → s < length (slots_of t.goal)
       → slots.call_of_slot records work s
       ≡ (if is_slot_left k n s then (if is_idle m (Compile n s) then own_slot m n s (k.slot n s) else None)
       else None)
