@@ -5,6 +5,7 @@ mod FailureLemmas
 mod ListedLemmas
 mod PlaceLemmas
 mod PresentLemmas
+mod SlotLemmas
 mod SweepLemmas
 mod UpdateLemmas
 mod UploadLemmas

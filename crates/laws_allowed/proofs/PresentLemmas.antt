@@ -28,7 +28,7 @@ use Rattle.laws_items.proofs.ListLemmas.{among_is, any_in}
 use Rattle.laws_stands.proofs.FirstLemmas.{same_first}
 use Rattle.laws_stands.proofs.LineLemmas.{over_is}
 use Rattle.laws_stands.proofs.MemberLemmas.{among_from, inst_is}
-use Rattle.laws_stands.proofs.NextKeyLemmas.{compiles_some}
+use Rattle.laws_stands.proofs.NextKeyLemmas.{compiles_none, compiles_some}
 use Rattle.laws_stands.proofs.NoneLemmas.{none_asked, none_going}
 use Rattle.laws_stands.proofs.PhaseLemmas.{AllParts, machine_owner, not_before, parts_of}
 use Rattle.laws_stands.proofs.PremiseLemmas.{any_at, asked_phase, changing_phase, disk_phase, going_phase, left_phase}
@@ -284,3 +284,14 @@ module _ (m : Moment) (n : ℕ) (records : Records) (swept : List MachineName) (
           (λ name. is_idle m (Compile name.task name.slot)) work.sweep can.sweep
           ∙ ap not (any_in (λ (name : MachineName). is_some (k.slot name.task name.slot)) name swept
           (among_is same_machine machine_is name swept among) there)
+
+  -- a slot has something left, and nothing is left in an earlier phase
+  pub compiles_now : (s : ℕ) → is_slot_left k n s ≡ true → 1 < p → present records work ≡ Some phases.Compile
+  compiles_now s left late =
+      λ j. phase_by (pings_over (omega arith) j) (deletions_over (omega arith) j) (sweeps_over late j)
+      (has (has_to_compile records work) refl j) (is_finished work.obsolete.queue) (least_stage work.groups)
+    where
+      has : (b : Bool) → has_to_compile records work ≡ b → has_to_compile records work ≡ true
+      has true is = is
+      has false is =
+          absurd (true≢false (sym left ∙ compiles_none m n 0 records swept work can is s))

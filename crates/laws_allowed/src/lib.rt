@@ -1,14 +1,12 @@
 //! What may be noted at a moment of a history is allowed after the entries that the records stand for, kind by kind.
 #![tactic(auto)]
 
-ghost use Rattle.std.specs.Prelude.{◌≡◌, ◌≢◌, ◌<◌, ℕ, List, true};
+ghost use Rattle.std.specs.Prelude.{◌≡◌, ◌<◌, ℕ, List, true};
 ghost use Rattle.bosh_base.specs.declared.entry.Begin.{Begin};
 ghost use Rattle.bosh_base.specs.declared.entry.End.{End};
 ghost use Rattle.bosh_base.specs.declared.entry.Entry.TheVariants as entries;
 ghost use Rattle.bosh_base.specs.declared.entry.TaskError.{TaskError};
 ghost use Rattle.bosh_base.specs.declared.entry.Update.{Update};
-ghost use Rattle.bosh_base.specs.declared.inst.Inst.{Inst};
-ghost use Rattle.bosh_base.specs.declared.owner.Owner.TheVariants.{Compile, Disk, Instance};
 ghost use Rattle.bosh_base.specs.declared.release.Release.{Release};
 ghost use Rattle.bosh_base.specs.declared.stemcell.Stemcell.{Stemcell};
 ghost use Rattle.bosh_claim.specs.Allowed.{allowed};
@@ -42,30 +40,10 @@ pub fn a_config_that_may_be_noted_is_allowed()
         → allowed records (entries.Config file) ≡ true }
 {}
 
-/// The beginning of a call of an instance that may be noted is allowed, as long as calls have numbers.
-pub fn a_call_of_an_instance_that_may_begin_is_allowed()
-    ensures { (outside : Outside) (m : Moment) (told : Told) (records : Records) (begin : Begin) (inst : Inst)
+/// The beginning of a call that may be noted is allowed, as long as calls have numbers.
+pub fn a_call_that_may_begin_is_allowed()
+    ensures { (outside : Outside) (m : Moment) (told : Told) (records : Records) (begin : Begin)
         → Stands told records → Agrees m told → KnownFacts m → m.known.last_call < 18446744073709551615
-        → begin.owner ≡ Instance inst
-        → MayNote outside m (entries.Begin begin) → may_follow m (entries.Begin begin) ≡ true
-        → allowed records (entries.Begin begin) ≡ true }
-{}
-
-/// The beginning of a call for a disk that may be noted is allowed, as long as calls have numbers.
-pub fn a_call_for_a_disk_that_may_begin_is_allowed()
-    ensures { (outside : Outside) (m : Moment) (told : Told) (records : Records) (begin : Begin) (disk : ℕ)
-        → Stands told records → Agrees m told → KnownFacts m → m.known.last_call < 18446744073709551615
-        → begin.owner ≡ Disk disk
-        → MayNote outside m (entries.Begin begin) → may_follow m (entries.Begin begin) ≡ true
-        → allowed records (entries.Begin begin) ≡ true }
-{}
-
-/// The beginning of a call for a compile machine that an earlier task left, which may be noted, is allowed, as long as
-/// calls have numbers.
-pub fn a_sweep_that_may_begin_is_allowed()
-    ensures { (outside : Outside) (m : Moment) (told : Told) (records : Records) (begin : Begin) (task slot : ℕ)
-        → Stands told records → Agrees m told → KnownFacts m → m.known.last_call < 18446744073709551615
-        → begin.owner ≡ Compile task slot → task ≢ begin.task
         → MayNote outside m (entries.Begin begin) → may_follow m (entries.Begin begin) ≡ true
         → allowed records (entries.Begin begin) ≡ true }
 {}
