@@ -1,0 +1,10 @@
+pub mod AnswerLemmas
+pub mod CloudLemmas
+pub mod CourseLemmas
+pub mod EntryLemmas
+pub mod HistoryLemmas
+pub mod MachineLemmas
+pub mod NoteLemmas
+pub mod OpenLemmas
+pub mod PerformedLemmas
+pub mod WriteLemmas
