@@ -2,6 +2,7 @@ pub mod AnswerLemmas
 pub mod CloudLemmas
 pub mod CourseLemmas
 pub mod EntryLemmas
+pub mod FewLemmas
 pub mod HistoryLemmas
 pub mod MachineLemmas
 pub mod NoteLemmas
