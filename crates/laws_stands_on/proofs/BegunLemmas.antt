@@ -73,7 +73,7 @@ lines_same : {T : Type 0} (line : Line T) (o : Option ℕ) → (taken_line line 
 lines_same line None = refl
 lines_same line (Some place) = refl
 
-takes_same : (w : Work) (places : Places) → ListsSame (taken w places) w
+pub takes_same : (w : Work) (places : Places) → ListsSame (taken w places) w
 takes_same w places = record {
   pings = lines_same w.pings places.part.ping;
   obsolete = lines_same w.obsolete places.part.leaving;

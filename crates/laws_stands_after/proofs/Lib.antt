@@ -1,0 +1,3 @@
+pub mod DiskBegunLemmas
+pub mod NextCallLemmas
+pub mod SameGroupLemmas
