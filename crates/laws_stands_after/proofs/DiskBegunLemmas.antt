@@ -1,17 +1,15 @@
 -- A call of a disk that belongs to no instance begins.
 use Rattle.std.proofs.Common.{◌≡◌, ◌∙◌, ℕ, ◌+◌, Bool, true, false, ◌&&◌, not, List, ◌==◌, filter, map}
 use Rattle.std.proofs.Common.{Option, Some, None, ap, refl, sym, subst}
-use Rattle.std.specs.Prelude.{eqb, is_some, min, nat_le, slice_get, if◌then◌else◌}
+use Rattle.std.specs.Prelude.{eqb, is_some, min, nat_le, if◌then◌else◌}
 use Rattle.std.specs.Option.{option_and_then, option_map}
 use Rattle.std.specs.Ordering.{nat_cmp}
-use Rattle.std.proofs.lemmas.Bool.{eq-eqb, eqb-true, false≢true, true≢false}
+use Rattle.std.proofs.lemmas.Bool.{eq-eqb, eqb-true, false≢true}
 use Rattle.bosh_base.specs.declared.call.Call.{Call}
 use Rattle.bosh_base.specs.declared.call.Call.TheVariants.{DeleteDisk}
 use Rattle.bosh_base.specs.declared.entry.Begin.{Begin}
 use Rattle.bosh_base.specs.declared.entry.Entry.TheVariants as entries
-use Rattle.bosh_base.specs.declared.inst.Inst.{Inst}
 use Rattle.bosh_base.specs.declared.owner.Owner.TheVariants.{Compile, Disk, Instance}
-use Rattle.bosh_base.specs.declared.snapshot.Orphan.{Orphan}
 use Rattle.bosh_base.specs.declared.task.TaskRow.{TaskRow}
 use Rattle.bosh_compile.specs.Readiness.{same_key}
 use Rattle.bosh_fold.specs.Calls.{counted, noted_call, opened_call, taken_by, with_call, with_subject}
@@ -43,13 +41,14 @@ use Rattle.laws_stands.specs.Linked.{IsLinked}
 use Rattle.laws_stands.specs.Reading.{dep_of, orphan_of, work_of}
 use Rattle.laws_stands.specs.Stands.{AreSwept, IsWork, StandsIn, call_of, key_of_slot}
 use Rattle.laws_stands.specs.Told.{Told, TellsWell, idle_in, is_going, is_idle, telling}
-use Rattle.laws_stands.specs.WorkStands.{StandsFor, end_of}
+use Rattle.laws_stands.specs.WorkStands.{StandsFor}
 use Rattle.laws_stands_on.proofs.BegunLemmas.{none_compiled, takes_same}
 use Rattle.laws_stands_on.proofs.CallLemmas.{idle_begun, one_more_call}
 use Rattle.laws_stands_on.proofs.FindLemmas.{compiling_begun}
 use Rattle.laws_stands_on.proofs.LinkLemmas.{WasWork, changed_work, links_go_on}
 use Rattle.laws_stands_on.proofs.ListedLemmas.{SameListed, listed_goes_on}
 use Rattle.laws_stands_on.proofs.TableLemmas.{nat_at, nat_keys, thing_changed}
+use Rattle.laws_stands_after.proofs.ChangedLemmas.{eqb_flip, some_mapped, thing_at_key, things_changed}
 use Rattle.laws_stands_after.proofs.NextCallLemmas.{calls_next, dep_same, going_same, other_calls, other_idle, own_call}
 use Rattle.laws_stands_after.proofs.NextCallLemmas.{same_count, same_failed, task_same, tasks_next, tells_next}
 use Rattle.laws_stands_after.proofs.SameGroupLemmas.{groups_as}
@@ -73,51 +72,12 @@ subject_as was b d call it = refl
 abbrev said : ℕ → Call → LooseDisk → LooseDisk
 said number call loose = record loose { orphan = orphan_begun number call loose.orphan; call = Some number }
 
-pub changed_twice : {V : Type 0} (f g : V → V) (b : Bool) (o : Option V)
-    → (if b then option_map g (if b then option_map f o else o) else (if b then option_map f o else o))
-    ≡ (if b then option_map (λ w. g (f w)) o else o)
-changed_twice f g true (Some w) = refl
-changed_twice f g true None = refl
-changed_twice f g false o = refl
-
--- one change after another at the same place
-pub things_changed : {V : Type 0} (key : ℕ) (f g : V → V) (places : List (ℕ × Option V)) (x : ℕ)
-    → thing_in nat_cmp (changed nat_cmp key g (changed nat_cmp key f places)) x
-    ≡ (if eqb key x then option_map (λ w. g (f w)) (thing_in nat_cmp places x) else thing_in nat_cmp places x)
-things_changed key f g places x =
-    thing_changed nat_cmp nat_keys key g (changed nat_cmp key f places) x
-    ∙ (λ j. if nat_at key x j then option_map g (inner j) else inner j)
-    ∙ changed_twice f g (eqb key x) (thing_in nat_cmp places x)
-  where
-    inner : thing_in nat_cmp (changed nat_cmp key f places) x
-        ≡ (if eqb key x then option_map f (thing_in nat_cmp places x) else thing_in nat_cmp places x)
-    inner = thing_changed nat_cmp nat_keys key f places x
-        ∙ (λ j. if nat_at key x j then option_map f (thing_in nat_cmp places x) else thing_in nat_cmp places x)
-
 orphans_noted : (number : ℕ) (call : Call) (d : ℕ) (orphans : List (ℕ × Option LooseDisk)) (x : ℕ)
     → thing_in nat_cmp (changed nat_cmp d (with_disk_call (Some number)) (noted_orphans number call d orphans)) x
     ≡ (if eqb d x then option_map (said number call) (thing_in nat_cmp orphans x) else thing_in nat_cmp orphans x)
 orphans_noted number (DeleteDisk disk) d orphans x = things_changed d
     (with_disk_doubt (Some (record { n = number; call = DeleteDisk disk }))) (with_disk_call (Some number)) orphans x
-orphans_noted number call d orphans x =
-    thing_changed nat_cmp nat_keys d (with_disk_call (Some number)) orphans x
-    ∙ (λ j. if nat_at d x j then option_map (with_disk_call (Some number)) (thing_in nat_cmp orphans x)
-    else thing_in nat_cmp orphans x)
-
--- ---- options and numbers
-
-pub some_mapped : {A B : Type 0} (f : A → B) (o : Option A) → is_some (option_map f o) ≡ is_some o
-some_mapped f (Some a) = refl
-some_mapped f None = refl
-
-pub eqb_flip : (a b : ℕ) → eqb a b ≡ eqb b a
-eqb_flip a b = by (eqb a b) (eqb b a) refl refl
-  where
-    by : (t u : Bool) → eqb a b ≡ t → eqb b a ≡ u → eqb a b ≡ eqb b a
-    by true true is too = is ∙ sym too
-    by false false is too = is ∙ sym too
-    by true false is too = absurd (true≢false (sym (eq-eqb b a (sym (eqb-true a b is))) ∙ too))
-    by false true is too = absurd (true≢false (sym (eq-eqb a b (sym (eqb-true b a too))) ∙ is))
+orphans_noted number call d orphans x = thing_at_key d (with_disk_call (Some number)) orphans x
 
 -- ---- the call
 

@@ -1,7 +1,7 @@
 -- A call of any owner begins: what is told of it and of its task.
-use Rattle.std.proofs.Common.{◌≡◌, ◌∙◌, ℕ, ◌+◌, ◌<◌, ◌≤◌, suc, Bool, true, false, ◌&&◌, not, List}
+use Rattle.std.proofs.Common.{◌≡◌, ◌∙◌, ℕ, ◌+◌, ◌<◌, ◌≤◌, suc, Bool, true, false, ◌&&◌, not}
 use Rattle.std.proofs.Common.{◌==◌, Option, Some, None, add-one, ap, refl, subst, sym, arith}
-use Rattle.std.specs.Prelude.{cond, count_by, eqb, find, is_some, min, nat_le, if◌then◌else◌}
+use Rattle.std.specs.Prelude.{cond, count_by, eqb, is_some, min, nat_le, if◌then◌else◌}
 use Rattle.std.specs.Option.{option_and_then, option_map, option_or}
 use Rattle.std.specs.Ordering.{nat_cmp}
 use Rattle.std.proofs.lemmas.Bool.{eq-eqb, eqb-true, false≢true, ne_eqb}
@@ -13,7 +13,6 @@ use Rattle.bosh_base.specs.declared.owner.Owner.{Owner}
 use Rattle.bosh_base.specs.declared.task.TaskRow.{TaskRow}
 use Rattle.bosh_history.specs.Calls.{number_of, task_with_call}
 use Rattle.bosh_history.specs.Goals.{is_waiting}
-use Rattle.bosh_history.specs.Held.{is_open}
 use Rattle.bosh_history.specs.Items.{is_finished}
 use Rattle.bosh_history.specs.Known.{Known, Task}
 use Rattle.bosh_history.specs.Snapshots.{task_row}

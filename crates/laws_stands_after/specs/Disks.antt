@@ -3,7 +3,6 @@ use Rattle.std.specs.Prelude.{◌≡◌, ◌+◌, ◌<◌, ◌≤◌, ℕ, None,
 use Rattle.bosh_base.specs.declared.call.Call.{Call}
 use Rattle.bosh_base.specs.declared.entry.Begin.{Begin}
 use Rattle.bosh_base.specs.declared.key.Key.{Key}
-use Rattle.bosh_base.specs.declared.owner.Owner.TheVariants.{Disk}
 use Rattle.bosh_history.specs.Steps.{compiles}
 use Rattle.bosh_history.specs.Words.{is_among}
 use Rattle.bosh_rows.specs.Same.{same_owner}

@@ -3,4 +3,7 @@
 
 mod disks;
 
-pub use disks::what_is_recorded_stands_after_a_call_of_a_disk_begins;
+pub use disks::{
+    what_is_recorded_stands_after_a_call_of_a_disk_begins,
+    what_is_recorded_stands_after_a_call_of_a_disk_ends,
+};
