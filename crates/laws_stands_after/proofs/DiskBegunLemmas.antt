@@ -48,11 +48,12 @@ use Rattle.laws_stands_on.proofs.FindLemmas.{compiling_begun}
 use Rattle.laws_stands_on.proofs.LinkLemmas.{WasWork, changed_work, links_go_on}
 use Rattle.laws_stands_on.proofs.ListedLemmas.{SameListed, listed_goes_on}
 use Rattle.laws_stands_on.proofs.TableLemmas.{nat_at, nat_keys, thing_changed}
-use Rattle.laws_stands_after.proofs.ChangedLemmas.{eqb_flip, some_mapped, thing_at_key, things_changed}
-use Rattle.laws_stands_after.proofs.NextCallLemmas.{calls_next, dep_same, going_same, other_calls, other_idle, own_call}
-use Rattle.laws_stands_after.proofs.NextCallLemmas.{same_count, same_failed, task_same, tasks_next, tells_next}
+use Rattle.laws_stands_on.proofs.ChangedLemmas.{eqb_flip, some_mapped, thing_at_key, things_changed}
+use Rattle.laws_stands_on.proofs.NextCallLemmas.{calls_next, dep_same, going_same, other_calls, other_idle, own_call}
+use Rattle.laws_stands_on.proofs.NextCallLemmas.{same_count, same_failed, task_same, tasks_next, tells_next}
 use Rattle.laws_stands_after.proofs.SameGroupLemmas.{groups_as}
-use Rattle.laws_stands_after.specs.Disks.{AllowsDisk, AllowsNext}
+use Rattle.laws_stands_on.specs.Allows.{AllowsNext}
+use Rattle.laws_stands_after.specs.Disks.{AllowsDisk}
 
 -- ---- what is planned
 

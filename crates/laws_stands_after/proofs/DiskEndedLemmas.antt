@@ -60,16 +60,17 @@ use Rattle.laws_stands_on.proofs.FindLemmas.{any_within}
 use Rattle.laws_stands_on.proofs.LinkLemmas.{ListsSame, WasWork, links_go_on}
 use Rattle.laws_stands_on.proofs.ListedLemmas.{SameListed, listed_goes_on}
 use Rattle.laws_stands_on.specs.Once.{IsOnce}
-use Rattle.laws_stands_after.proofs.ChangedLemmas.{eqb_flip, some_mapped, thing_at_key}
+use Rattle.laws_stands_on.proofs.ChangedLemmas.{eqb_flip, some_mapped, thing_at_key}
 use Rattle.laws_stands_after.proofs.DiskToldLemmas.{gone_by, gone_same, last_line, last_work, listed, loose_by, no_ping}
 use Rattle.laws_stands_after.proofs.DiskToldLemmas.{orphan_by, orphans_by, orphans_ended, told_as, told_by, unlisted}
 use Rattle.laws_stands_after.proofs.DiskToldLemmas.{works_by, works_ended}
-use Rattle.laws_stands_after.proofs.NextCallLemmas.{row_by}
-use Rattle.laws_stands_after.proofs.OnlyCallLemmas.{calls_last, ended_works, ended_works_are, failed_is, failure_is}
-use Rattle.laws_stands_after.proofs.OnlyCallLemmas.{going_same, has_begun, idle_as, one_less_call, other_calls, own_call}
-use Rattle.laws_stands_after.proofs.OnlyCallLemmas.{same_count, still, task_same, tells_last}
+use Rattle.laws_stands_on.proofs.NextCallLemmas.{row_by}
+use Rattle.laws_stands_on.proofs.OnlyCallLemmas.{calls_last, ended_works, ended_works_are, failed_is, failure_is}
+use Rattle.laws_stands_on.proofs.OnlyCallLemmas.{going_same, has_begun, idle_as, one_less_call, other_calls, own_call}
+use Rattle.laws_stands_on.proofs.OnlyCallLemmas.{same_count, still, task_same, tells_last}
 use Rattle.laws_stands_after.proofs.SameGroupLemmas.{groups_as}
-use Rattle.laws_stands_after.specs.Disks.{AllowsDisk, IsOnlyCall}
+use Rattle.laws_stands_on.specs.Allows.{IsOnlyCall}
+use Rattle.laws_stands_after.specs.Disks.{AllowsDisk}
 
 -- ---- the call
 
@@ -129,7 +130,7 @@ module _ (told : Told) (was : Records) (it : Recorded) (n number worker : ℕ) (
     where
       known_is : call_ended answer (k.begun number) k ≡ new.known
       known_is =
-          ap (λ o. call_ended answer o k) (has_begun told it b answer only stands)
+          ap (λ o. call_ended answer o k) (has_begun told it b answer (k.task n).pinged only stands)
           ∙ (λ j. record (none_known call answer (orphan_after d call answer k) allows.compiles_none j) {
             task = at eqb n (task_told k b answer (k.task n)) k.task;
           })
@@ -249,10 +250,10 @@ module _ (told : Told) (was : Records) (it : Recorded) (n number worker : ℕ) (
           → option_and_then (λ (loose : LooseDisk). loose.call)
           (if u then loose_by goes settles (orphan_of it x) else orphan_of it x) ≡ call_of new (Disk x)
       by true is = none goes settles (orphan_of it x)
-          ∙ sym (own_call told it b answer only stands (eq-eqb d d refl))
+          ∙ sym (own_call told it b answer (k.task n).pinged only stands (eq-eqb d d refl))
           ∙ ap (λ x. call_of new (Disk x)) (eqb-true d x is)
       by false other = stands.orphan_calls x
-          ∙ sym (other_calls told it b answer only stands (Disk x) (eqb_flip x d ∙ other))
+          ∙ sym (other_calls told it b answer (k.task n).pinged only stands (Disk x) (eqb_flip x d ∙ other))
 
   -- what is there of the other disks
   left_same : (x : ℕ) → eqb d x ≡ false → is_some (new.known.orphan x) ≡ is_some (k.orphan x)
@@ -261,19 +262,20 @@ module _ (told : Told) (was : Records) (it : Recorded) (n number worker : ℕ) (
   -- ---- works
 
   other_idle : (i : Inst) → idle_in new i ≡ idle_in told i
-  other_idle i = idle_as told it b answer only stands (Instance i)
+  other_idle i = idle_as told it b answer (k.task n).pinged only stands (Instance i)
 
   slot_idle : (name : MachineName) → is_idle new (Compile name.task name.slot)
       ≡ is_idle told (Compile name.task name.slot)
-  slot_idle name = idle_as told it b answer only stands (Compile name.task name.slot)
+  slot_idle name = idle_as told it b answer (k.task n).pinged only stands (Compile name.task name.slot)
 
   idle_disks : (x : ℕ) → is_idle new (Disk x) ≡ at eqb d true (λ x. is_idle told (Disk x)) x
-  idle_disks x = idle_as told it b answer only stands (Disk x)
+  idle_disks x = idle_as told it b answer (k.task n).pinged only stands (Disk x)
       ∙ ap (λ u. if u then true else is_idle told (Disk x)) (eqb_flip x d)
 
   swept_same : (t : ℕ) (swept : List MachineName) → AreSwept k t swept → AreSwept new.known t swept
   swept_same t swept are = are
-      ∙ sym (task_same told it b answer only stands (λ it. filter (λ (name : SlotName). not (name.task == t)
+      ∙ sym (task_same told it b answer (k.task n).pinged only stands (λ it. filter
+      (λ (name : SlotName). not (name.task == t)
       && is_in_deployment k it.dep name) k.machines) refl t)
 
   work_is : (t : ℕ) → work_of ended t
@@ -391,9 +393,9 @@ module _ (told : Told) (was : Records) (it : Recorded) (n number worker : ℕ) (
         groups_as (k.task n) (idle_in new) (k.task n).pinged (k.task n).gone task_now.failed (k.task n).calls
         (k.task n).end (names_of (k.task n).changed) work.groups
         (subst (λ idle. GroupsStand (k.task n) idle work.groups) idle_path work_stands.groups_stand);
-    failed_is = failed_is told it b answer only stands false places fail work
-        (failure_is told it b answer only stands was refl) work_stands.failed_is;
-    open_are = ap (λ c. c - 1) (work_stands.open_are ∙ one_less_call told it b answer only stands)
+    failed_is = failed_is told it b answer (k.task n).pinged only stands false places fail work
+        (failure_is told it b answer (k.task n).pinged only stands was refl) work_stands.failed_is;
+    open_are = ap (λ c. c - 1) (work_stands.open_are ∙ one_less_call told it b answer (k.task n).pinged only stands)
         ∙ less (count_by (is_task_call new n) (numbers_to k.last_call));
   }
     where
@@ -403,7 +405,7 @@ module _ (told : Told) (was : Records) (it : Recorded) (n number worker : ℕ) (
   own_work : (o : Option Work) → work_of it n ≡ o → IsWork told n o
       → IsWork new n (option_map (λ w. gone_by goes d place (ended_work asked places fail w)) o)
   own_work (Some work) is (going, (swept, work_stands, are_swept)) = (
-    going_same told it b answer only stands n ∙ going,
+    going_same told it b answer (k.task n).pinged only stands n ∙ going,
     (
       swept,
       subst (λ w. StandsFor new (new.known.task n) n swept w) (sym work_last)
@@ -427,7 +429,7 @@ module _ (told : Told) (was : Records) (it : Recorded) (n number worker : ℕ) (
           (ended_work asked
           (record { part = no_part; sweep = None; deleting = place_is work swept is work_stands j }) fail work))
           ∙ listed goes asked d listed_at fail work there
-  own_work None is gone = λ later. going_same told it b answer only stands n ∙ gone later
+  own_work None is gone = λ later. going_same told it b answer (k.task n).pinged only stands n ∙ gone later
 
   same_for : (t : ℕ) (swept : List MachineName) → eqb n t ≡ false → is_going k t ≡ true
       → SameListed told new (k.task t) t swept
@@ -443,7 +445,7 @@ module _ (told : Told) (was : Records) (it : Recorded) (n number worker : ℕ) (
     worked = λ key. refl;
     machines = refl;
     failed = refl;
-    calls = same_count told it b answer only stands t other;
+    calls = same_count told it b answer (k.task n).pinged only stands t other;
   }
     where
       not_it : (j x : ℕ) → slice_get (k.task t).disks j ≡ Some x → eqb d x ≡ false
@@ -452,7 +454,7 @@ module _ (told : Told) (was : Records) (it : Recorded) (n number worker : ℕ) (
   other_work : (t : ℕ) → eqb n t ≡ false → (o : Option Work) → IsWork told t o
       → IsWork new t (option_map (gone_by goes d place) o)
   other_work t other (Some work) (going, (swept, work_stands, are_swept)) = (
-    going_same told it b answer only stands t ∙ going,
+    going_same told it b answer (k.task n).pinged only stands t ∙ going,
     (
       swept,
       subst (λ w. StandsFor new (new.known.task t) t swept w)
@@ -463,13 +465,14 @@ module _ (told : Told) (was : Records) (it : Recorded) (n number worker : ℕ) (
       swept_same t swept are_swept,
     ),
   )
-  other_work t other None gone = λ later. going_same told it b answer only stands t ∙ gone later
+  other_work t other None gone = λ later. going_same told it b answer (k.task n).pinged only stands t ∙ gone later
 
   works : (t : ℕ) → IsWork new t (work_of ended t)
   works t = subst (IsWork new t) (sym (work_is t)) (by (eqb n t) refl)
     where
       by : (u : Bool) → eqb n t ≡ u
-          → IsWork new t (if u then option_map (λ w. gone_by goes d place (ended_work asked places fail w)) (work_of it t)
+          → IsWork new t (if u then option_map
+          (λ w. gone_by goes d place (ended_work asked places fail w)) (work_of it t)
           else option_map (gone_by goes d place) (work_of it t))
       by true is =
           subst (λ t. IsWork new t
@@ -556,30 +559,32 @@ module _ (told : Told) (was : Records) (it : Recorded) (n number worker : ℕ) (
     uploads = stands.uploads;
     deployments = stands.deployments;
     rows = stands.rows;
-    row_calls = λ x. stands.row_calls x ∙ sym (other_calls told it b answer only stands (Instance x) refl);
+    row_calls = λ x. stands.row_calls x
+        ∙ sym (other_calls told it b answer (k.task n).pinged only stands (Instance x) refl);
     machines = stands.machines;
     machine_keys = λ name. stands.machine_keys name
-        ∙ sym (task_same told it b answer only stands
+        ∙ sym (task_same told it b answer (k.task n).pinged only stands
         (λ (it : Task). option_and_then
         (λ key. first_marked (map (λ work. same_key work.key key) (keys_of it.goal)))
         (key_of_slot (k.slot name.task name.slot))) refl name.task);
     machine_calls = λ name. stands.machine_calls name
-        ∙ sym (other_calls told it b answer only stands (Compile name.task name.slot) refl);
+        ∙ sym (other_calls told it b answer (k.task n).pinged only stands (Compile name.task name.slot) refl);
     orphans = orphans;
     orphan_calls = orphan_calls;
     digests = stands.digests;
     compiling = λ key. stands.compiling key
         ∙ sym (any_within (λ c. holds (λ (d : Begin). compiles key d.call) (at eqb number None told.calls c))
         (λ c. holds (λ (d : Begin). compiles key d.call) (told.calls c)) k.last_call
-        (λ c low. still told it b answer only stands (λ o. holds (λ (d : Begin). compiles key d.call) o)
+        (λ c low. still told it b answer (k.task n).pinged only stands (λ o. holds
+        (λ (d : Begin). compiles key d.call) o)
         (sym (allows.compiles_none key)) c));
     tasks = λ t. stands.tasks t
-        ∙ sym (task_same told it b answer only stands
+        ∙ sym (task_same told it b answer (k.task n).pinged only stands
         (λ (it : Task). if nat_le 1 t && nat_le t k.tasks then Some (row_by t it) else None) refl t);
-    calls = calls_last told it b answer only stands once;
+    calls = calls_last told it b answer (k.task n).pinged only stands once;
     works = works;
     linked = linked;
-    tells_well = let tells : TellsWell _ = tells_last told it b answer only stands in record {
+    tells_well = let tells : TellsWell _ = tells_last told it b answer (k.task n).pinged only stands in record {
       number = tells.number;
       low = tells.low;
       past = tells.past;

@@ -33,8 +33,8 @@ use Rattle.laws_stands.proofs.PremiseLemmas.{none_at}
 use Rattle.laws_stands_on.proofs.AnsweredLemmas.{ended_work}
 use Rattle.laws_stands_on.proofs.LinkLemmas.{ListsSame}
 use Rattle.laws_stands_on.specs.Once.{IsOnce}
-use Rattle.laws_stands_after.proofs.ChangedLemmas.{each_found, eqb_flip, thing_at_key, thing_gone}
-use Rattle.laws_stands_after.proofs.ChangedLemmas.{things_changed}
+use Rattle.laws_stands_on.proofs.ChangedLemmas.{each_found, eqb_flip, thing_at_key, thing_gone}
+use Rattle.laws_stands_on.proofs.ChangedLemmas.{things_changed}
 
 -- ---- what an answer tells: that the disk goes, that no doubt is left, or nothing
 
@@ -46,7 +46,8 @@ orphan_by false settles orphan = option_map (orphan_told settles) orphan
 -- .. and as it is recorded
 abbrev pub loose_by : Bool → Bool → Option LooseDisk → Option LooseDisk
 loose_by true settles loose = None
-loose_by false settles loose = option_map (λ (it : LooseDisk). record it { orphan = orphan_told settles it.orphan; call = None }) loose
+loose_by false settles loose = option_map
+    (λ (it : LooseDisk). record it { orphan = orphan_told settles it.orphan; call = None }) loose
 
 abbrev pub orphans_by : Bool → Bool → ℕ → List (ℕ × Option LooseDisk) → List (ℕ × Option LooseDisk)
 orphans_by true settles d orphans = without nat_cmp d orphans

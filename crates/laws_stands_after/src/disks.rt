@@ -14,7 +14,8 @@ ghost use Rattle.bosh_records.specs.Table.{found};
 ghost use Rattle.bosh_records.specs.declared.records.Records.{Records};
 ghost use Rattle.laws_stands.specs.Stands.{Stands, StandsIn};
 ghost use Rattle.laws_stands.specs.Told.{Told, telling};
-ghost use Rattle.laws_stands_after.specs.Disks.{AllowsDisk, AllowsNext, IsOnlyCall};
+ghost use Rattle.laws_stands_after.specs.Disks.{AllowsDisk};
+ghost use Rattle.laws_stands_on.specs.Allows.{AllowsNext, IsOnlyCall};
 ghost use Rattle.laws_stands_on.specs.Once.{IsOnce};
 
 /// It stands after a call of a disk began that may begin, as it was planned, where there is a place for the call.
@@ -36,7 +37,8 @@ pub fn what_is_recorded_stands_after_a_call_of_a_disk_begins()
 
 /// .. and after it ended, as it was planned, where no call and no such disk stands twice.
 pub fn what_is_recorded_stands_after_a_call_of_a_disk_ends()
-    ensures { (told : Told) (was : Records) (it : Recorded) (n number worker : ℕ) (call : Call) (answer : Answer) (d : ℕ)
+    ensures { (told : Told) (was : Records) (it : Recorded) (n number worker : ℕ) (call : Call) (answer : Answer)
+        (d : ℕ)
         → IsOnlyCall told (record { n = number; task = n; worker = worker; owner = Disk d; call = call })
         → AllowsDisk told n call d
         → IsOnce nat_cmp it.calls → IsOnce nat_cmp it.orphans → Stands told was → StandsIn told it

@@ -40,6 +40,7 @@ use Rattle.bosh_records.specs.Places.{part_of, places_in}
 use Rattle.bosh_records.specs.Recorded.{Recorded}
 use Rattle.bosh_records.specs.Table.{altered, found}
 use Rattle.bosh_records.specs.declared.instances.Instance as instances
+use Rattle.bosh_rows.proofs.SameLemmas.{itself}
 use Rattle.bosh_rows.specs.After.{bare, begun_row}
 use Rattle.bosh_rows.specs.Same.{same_inst, same_owner}
 use Rattle.bosh_work.specs.Line.{taken_line}
@@ -57,7 +58,7 @@ use Rattle.laws_stands.specs.GroupsStand.{change_place}
 use Rattle.laws_stands.specs.LineStands.{place_of}
 use Rattle.laws_stands.specs.Reading.{call_of as recorded_call, dep_of, instance_of, row_of, task_of, work_of}
 use Rattle.laws_stands.specs.Stands.{AreSwept, IsWork, StandsIn, arrivals_of, call_of, key_of_slot}
-use Rattle.laws_stands.specs.Told.{Told, idle_in, is_going, is_idle, telling}
+use Rattle.laws_stands.specs.Told.{TellsWell, Told, idle_in, is_going, is_idle, telling}
 use Rattle.laws_stands.specs.WorkStands.{StandsFor, end_of, is_task_call, places_of}
 use Rattle.laws_stands_on.proofs.FindLemmas.{compiling_begun, found_begun, none_is_found}
 use Rattle.laws_stands_on.proofs.KeyLemmas.{inst_at, inst_keys}
@@ -65,8 +66,9 @@ use Rattle.laws_stands_on.proofs.LinkLemmas.{ListsSame, changed_work, links_go_o
 use Rattle.laws_stands_on.proofs.ListedLemmas.{SameListed, listed_goes_on}
 use Rattle.laws_stands_on.proofs.TableLemmas.{found_altered, nat_at, nat_keys, thing_changed}
 use Rattle.laws_stands_on.proofs.CallLemmas.{count_within, idle_begun, inst_flip}
+use Rattle.laws_stands_on.proofs.NextCallLemmas as next_call
 use Rattle.laws_stands_on.proofs.WorkLemmas.{after_call_begun, compiles_itself}
-use Rattle.laws_stands_on.specs.Allows.{AllowsCall, HasPlaces}
+use Rattle.laws_stands_on.specs.Allows.{AllowsCall, AllowsNext, HasPlaces}
 
 -- taking its places changes no list of a work
 lines_same : {T : Type 0} (line : Line T) (o : Option ℕ) → (taken_line line o).items ≡ line.items
@@ -113,6 +115,17 @@ module _ (told : Told) (it : Recorded) (n number worker : ℕ) (call : Call) (i 
   -- what is said of the instance from now on
   abbrev said : instances.Instance → instances.Instance
   said known = record known { row = Some row; call = Some number }
+
+  -- what any call that begins needs
+  next : AllowsNext told b
+  next = record {
+    next = allows.next;
+    small = allows.small;
+    going = allows.going;
+    none_failed = allows.none_failed;
+    counted = allows.counted;
+    idle = allows.idle;
+  }
 
   -- ---- the instance
 
@@ -217,148 +230,31 @@ module _ (told : Told) (it : Recorded) (n number worker : ℕ) (call : Call) (i 
 
   -- ---- open calls
 
-  call_is : (owner : Owner) → call_of new owner ≡ option_or (call_of told owner) (if same_owner owner (Instance i)
-      then Some number else None)
-  call_is owner = found_begun told b allows.next owner
-
-  or_none : {X : Type 0} (o : Option X) → option_or o None ≡ o
-  or_none (Some x) = refl
-  or_none None = refl
-
   row_calls : (x : Inst) → option_and_then (λ known. known.call) (instance_of begun x) ≡ call_of new (Instance x)
   row_calls x = ap (option_and_then (λ known. known.call)) (instance_is x) ∙ by (same_inst i x) refl
-      ∙ sym (call_is (Instance x))
     where
       own : (o : Option instances.Instance) → is_some o ≡ true
           → option_and_then (λ (known : instances.Instance). known.call) (option_map said o) ≡ Some number
       own (Some known) is = refl
       own None is = absurd (false≢true is)
 
-      none_before : call_of told (Instance i) ≡ None
-      none_before = none_is_found (λ c. holds (λ (d : Begin). same_owner (Instance i) d.owner) (told.calls c))
-          (numbers_to k.last_call) allows.idle
-
       by : (t : Bool) → same_inst i x ≡ t
           → option_and_then (λ (known : instances.Instance). known.call)
-          (if same_inst i x then option_map said (instance_of it x) else instance_of it x)
-          ≡ option_or (call_of told (Instance x)) (if same_inst x i then Some number else None)
+          (if t then option_map said (instance_of it x) else instance_of it x) ≡ call_of new (Instance x)
       by true is =
-          (λ j. option_and_then (λ (known : instances.Instance). known.call)
-          (if is j then option_map said (instance_of it x) else instance_of it x))
-          ∙ own (instance_of it x) (there x (inst_is i x is))
-          ∙ (λ j. option_or (sym (ap (λ x. call_of told (Instance x)) (sym (inst_is i x is)) ∙ none_before) j)
-          (if sym (inst_flip i x ∙ is) j then Some number else None))
-      by false other =
-          (λ j. option_and_then (λ (known : instances.Instance). known.call)
-          (if other j then option_map said (instance_of it x) else instance_of it x))
-          ∙ stands.row_calls x ∙ sym (or_none (call_of told (Instance x)))
-          ∙ (λ j. option_or (call_of told (Instance x)) (if sym (inst_flip i x ∙ other) j then Some number
-          else None))
-
-  other_calls : (owner : Owner) → same_owner owner (Instance i) ≡ false → call_of new owner ≡ call_of told owner
-  other_calls owner other = call_is owner
-      ∙ (λ j. option_or (call_of told owner) (if other j then Some number else None)) ∙ or_none (call_of told owner)
-
-  calls : (c : ℕ) → recorded_call begun c ≡ at eqb number (Some b) told.calls c
-  calls c =
-      ap (option_and_then (λ place. place)) (found_altered nat_cmp nat_keys number (λ _. Some b) it.calls c)
-      ∙ (λ j. option_and_then (λ place. place) (if nat_at number c j then option_map (λ _. Some b)
-      (found nat_cmp it.calls c) else found nat_cmp it.calls c))
-      ∙ by (eqb number c) refl
-    where
-      own : (o : Option (Option Begin)) → is_some o ≡ true
-          → option_and_then (λ place. place) (option_map (λ _. Some b) o) ≡ Some b
-      own (Some place) is = refl
-      own None is = absurd (false≢true is)
-
-      by : (t : Bool) → eqb number c ≡ t
-          → option_and_then (λ place. place) (if t then option_map (λ _. Some b) (found nat_cmp it.calls c)
-          else found nat_cmp it.calls c) ≡ (if t then Some b else told.calls c)
-      by true is =
-          own (found nat_cmp it.calls c) (ap (λ c. is_some (found nat_cmp it.calls c)) (sym (eqb-true number c is))
-          ∙ room.call)
-      by false other = stands.calls c
+          own (instance_of it x) (there x (inst_is i x is))
+          ∙ sym (next_call.own_call told it b next stands (itself i))
+          ∙ ap (λ x. call_of new (Instance x)) (inst_is i x is)
+      by false other = stands.row_calls x
+          ∙ sym (next_call.other_calls told it b next stands (Instance x) (inst_flip i x ∙ other))
 
   -- ---- tasks
 
-  -- what the count of its calls does not change in a task
-  task_same : {X : Type 0} (f : Task → X) → ((t : Task) → f (task_with_call t) ≡ f t) → (t : ℕ)
-      → f (new.known.task t) ≡ f (k.task t)
-  task_same f same t = by (eqb n t) refl
-    where
-      by : (b : Bool) → eqb n t ≡ b → f (if b then task_with_call (k.task n) else k.task t) ≡ f (k.task t)
-      by true is = same (k.task n) ∙ ap (λ n. f (k.task n)) (eqb-true n t is)
-      by false is = refl
-
-  going_same : (t : ℕ) → is_going new.known t ≡ is_going k t
-  going_same t = task_same (λ it. nat_le 1 t && (nat_le t k.tasks && not (is_some it.end))) (λ it. refl) t
-
   swept_same : (t : ℕ) (swept : List MachineName) → AreSwept k t swept → AreSwept new.known t swept
   swept_same t swept are = are
-      ∙ sym (task_same (λ it. filter (λ (name : SlotName). not (name.task == t) && is_in_deployment k it.dep name)
+      ∙ sym (next_call.task_same told it b next stands (λ it. filter
+      (λ (name : SlotName). not (name.task == t) && is_in_deployment k it.dep name)
       k.machines) (λ it. refl) t)
-
-  task_is : (t : ℕ) → task_of begun t ≡ (if eqb n t then option_map with_one_call (task_of it t) else task_of it t)
-  task_is t =
-      thing_changed nat_cmp nat_keys n with_one_call it.tasks t
-      ∙ ap (λ b. if b then option_map with_one_call (task_of it t) else task_of it t) (nat_at n t)
-
-  tasks : (t : ℕ) → task_of begun t ≡ (if nat_le 1 t && nat_le t k.tasks then Some (task_row new.known t) else None)
-  tasks t = task_is t ∙ by (eqb n t) refl
-    where
-      one_more : (o : Option ℕ) → ((c : ℕ) → o ≡ Some c → c < 18446744073709551615)
-          → option_map (λ c. min (c + 1) 18446744073709551615) o ≡ option_map (λ c. c + 1) o
-      one_more None few = refl
-      one_more (Some c) few = ap Some (within c (few c refl))
-        where
-          within : (c : ℕ) → c < 18446744073709551615 → min (c + 1) 18446744073709551615 ≡ c + 1
-          within c few = omega arith
-
-      own_row_is : with_one_call (task_row k n)
-          ≡ record (task_row k n) { calls = option_map (λ c. c + 1) (k.task n).calls }
-      own_row_is = λ j. record (task_row k n) { calls = one_more (k.task n).calls allows.counted j }
-
-      mapped : (t : Bool) (row other : TaskRow) → with_one_call row ≡ other
-          → option_map with_one_call (if t then Some row else None) ≡ (if t then Some other else None)
-      mapped true row other same = ap Some same
-      mapped false row other same = refl
-
-      by : (t' : Bool) → eqb n t ≡ t' → (if t' then option_map with_one_call (task_of it t) else task_of it t)
-          ≡ (if nat_le 1 t && nat_le t k.tasks then Some (record {
-            task = t;
-            kind = (if t' then task_with_call (k.task n) else k.task t).kind;
-            dep = (if t' then task_with_call (k.task n) else k.task t).dep;
-            end = (if t' then task_with_call (k.task n) else k.task t).end;
-            source = (if t' then task_with_call (k.task n) else k.task t).source;
-            calls = (if t' then task_with_call (k.task n) else k.task t).calls;
-          }) else None)
-      by false other = stands.tasks t
-      by true is =
-          ap (option_map with_one_call) (stands.tasks t)
-          ∙ mapped (nat_le 1 t && nat_le t k.tasks) (task_row k t)
-          (record (task_row k n) { task = t; calls = option_map (λ c. c + 1) (k.task n).calls })
-          ((λ j. with_one_call (record {
-            task = t;
-            kind = (k.task (sym same j)).kind;
-            dep =
-                (k.task (sym same j)).dep;
-            end = (k.task (sym same j)).end;
-            source = (k.task (sym same j)).source;
-            calls = (k.task (sym same j)).calls;
-          }))
-          ∙ (λ j. record (own_row_is j) { task = t }))
-        where
-          same : n ≡ t
-          same = eqb-true n t is
-
-  dep_same : (t : ℕ) → dep_of begun t ≡ dep_of it t
-  dep_same t = ap (option_and_then (λ (row : TaskRow). row.dep)) (task_is t) ∙ by (eqb n t) (task_of it t)
-    where
-      by : (b : Bool) (o : Option TaskRow) → option_and_then (λ (row : TaskRow). row.dep)
-          (if b then option_map with_one_call o else o) ≡ option_and_then (λ (row : TaskRow). row.dep) o
-      by true (Some row) = refl
-      by true None = refl
-      by false o = refl
 
   dep_is : dep_of it n ≡ Some i.dep
   dep_is =
@@ -405,7 +301,7 @@ module _ (told : Told) (it : Recorded) (n number worker : ℕ) (call : Call) (i 
   own_work : (o : Option Work) → work_of it n ≡ o → IsWork told n o
       → IsWork new n (option_map (λ work. taken work (places_in noted (Instance i))) o)
   own_work (Some work) is (going, (swept, work_stands, are_swept)) = (
-    going_same n ∙ going,
+    next_call.going_same told it b next stands n ∙ going,
     (
       swept,
       after_call_begun told n number worker call swept work (taken work (places_in noted (Instance i))) i
@@ -414,46 +310,12 @@ module _ (told : Told) (it : Recorded) (n number worker : ℕ) (call : Call) (i 
       swept_same n swept are_swept,
     ),
   )
-  own_work None is gone = λ later. going_same n ∙ gone later
-
-  -- another owner is idle as before
-  idle_as : (owner : Owner) → same_owner owner (Instance i) ≡ false → is_idle new owner ≡ is_idle told owner
-  idle_as owner other = idle_begun told b owner allows.next ∙ ap (λ t. is_idle told owner && not t) other
-      ∙ by (is_idle told owner)
-    where
-      by : (d : Bool) → (d && true) ≡ d
-      by true = refl
-      by false = refl
+  own_work None is gone = λ later. next_call.going_same told it b next stands n ∙ gone later
 
   not_it : (xs : List Inst) → is_among same_inst i xs ≡ false → (j : ℕ) (x : Inst) → slice_get xs j ≡ Some x
       → idle_in new x ≡ idle_in told x
-  not_it xs none j x is = idle_as (Instance x) (inst_flip i x ∙ none_at (same_inst i) xs j x none is)
-
-  -- no call of another task is one more
-  same_calls : (t : ℕ) → eqb n t ≡ false → count_by (is_task_call new t) (numbers_to number)
-      ≡ count_by (is_task_call told t) (numbers_to k.last_call)
-  same_calls t other =
-      ap (λ m. count_by (is_task_call new t) (numbers_to m)) (allows.next ∙ add-one k.last_call)
-      ∙ sum_by_push (λ c. cond (is_task_call new t c) 1 0) (numbers_to k.last_call) (suc k.last_call)
-      ∙ (λ j. count_within (is_task_call new t) (is_task_call told t) k.last_call others j + cond (here j) 1 0)
-      ∙ plus_none (count_by (is_task_call told t) (numbers_to k.last_call))
-    where
-      others : (c : ℕ) → c ≤ k.last_call → is_task_call new t c ≡ is_task_call told t c
-      others c low = ap (λ u. holds (λ (d : Begin). d.task == t) (if u then Some b else told.calls c))
-          (ne_eqb number c (λ e. absurd (let next : number ≡ k.last_call + 1 = allows.next in omega arith)))
-
-      here : is_task_call new t (suc k.last_call) ≡ false
-      here = ap (λ u. holds (λ (d : Begin). d.task == t) (if u then Some b else told.calls (suc k.last_call)))
-          (eq-eqb number (suc k.last_call) (let next : number ≡ k.last_call + 1 = allows.next in omega arith))
-          ∙ other
-
-      plus_none : (c : ℕ) → c + 0 ≡ c
-      plus_none c = omega arith
-
-  -- a call that began before has a number up to the last
-  failed_past : {c : ℕ} (o : Option Begin) → k.begun c ≡ o → is_some o ≡ true → c ≤ k.last_call
-  failed_past {c} (Some d) is some = stands.tells_well.begun_past c d is
-  failed_past None is some = absurd (false≢true some)
+  not_it xs none j x is = next_call.other_idle told it b next stands (Instance x) (inst_flip i x
+      ∙ none_at (same_inst i) xs j x none is)
 
   same_for : (t : ℕ) (swept : List MachineName) → eqb n t ≡ false → is_going k t ≡ true
       → SameListed told new (k.task t) t swept
@@ -461,30 +323,20 @@ module _ (told : Told) (it : Recorded) (n number worker : ℕ) (call : Call) (i 
     pings = not_it (k.task t).to_ping (allows.not_asked t other going);
     obsolete = not_it (k.task t).obsolete (allows.not_leaving t other going);
     changed = not_it (k.task t).changed (allows.not_changing t other going);
-    disks = λ j d is. idle_as (Disk d) refl;
+    disks = λ j d is. next_call.other_idle told it b next stands (Disk d) refl;
     orphans = λ j d is. refl;
-    sweep = λ j name is. idle_as (Compile name.task name.slot) refl;
+    sweep = λ j name is. next_call.other_idle told it b next stands (Compile name.task name.slot) refl;
     slots = λ j name is. refl;
     compiled = λ key. refl;
     worked = λ key. refl;
     machines = refl;
-    failed = failed (k.task t).failed refl;
-    calls = same_calls t other;
+    failed = next_call.same_failed told it b next stands t;
+    calls = next_call.same_count told it b next stands t other;
   }
-    where
-      failed : (o : Option Failure) → (k.task t).failed ≡ o → option_map (end_of new.known) o
-          ≡ option_map (end_of k) o
-      failed None is = refl
-      failed (Some failure) is =
-          let low : number_of failure ≤ k.last_call = failed_past {c = number_of failure}
-          (k.begun (number_of failure)) refl (stands.tells_well.failed t failure is) in
-          ap (λ u. Some (end_by failure (if u then Some b else k.begun (number_of failure))))
-          (ne_eqb number (number_of failure)
-          (λ e. absurd (let next : number ≡ k.last_call + 1 = allows.next in omega arith)))
 
   other_work : (t : ℕ) → eqb n t ≡ false → (o : Option Work) → IsWork told t o → IsWork new t o
   other_work t other (Some work) (going, (swept, work_stands, are_swept)) = (
-    going_same t ∙ going,
+    next_call.going_same told it b next stands t ∙ going,
     (
       swept,
       subst (λ (it : Task). StandsFor new it t swept work)
@@ -493,7 +345,7 @@ module _ (told : Told) (it : Recorded) (n number worker : ℕ) (call : Call) (i 
       swept_same t swept are_swept,
     ),
   )
-  other_work t other None gone = λ later. going_same t ∙ gone later
+  other_work t other None gone = λ later. next_call.going_same told it b next stands t ∙ gone later
 
   works : (t : ℕ) → IsWork new t (work_of begun t)
   works t = subst (IsWork new t) (sym (work_is t)) (by (eqb n t) refl)
@@ -508,58 +360,6 @@ module _ (told : Told) (it : Recorded) (n number worker : ℕ) (call : Call) (i 
 
   -- ---- all
 
-  call_of_new : (c : ℕ) (d : Begin) → at eqb number (Some b) told.calls c ≡ Some d → (d.n ≡ c) × (c ≤ number)
-      × (is_going k d.task ≡ true)
-  call_of_new c d is = by (eqb number c) refl is
-    where
-      by : (t : Bool) → eqb number c ≡ t → (if t then Some b else told.calls c) ≡ Some d → (d.n ≡ c) × (c ≤ number)
-          × (is_going k d.task ≡ true)
-      by true same is =
-          let e : b ≡ d = cc in let eq : number ≡ c = eqb-true number c same in (
-            ap (λ (d : Begin). d.n) (sym e) ∙ eq,
-            omega arith,
-            ap (λ (d : Begin). is_going k d.task) (sym e)
-                ∙ allows.going,
-          )
-      by false other is =
-          let low : c ≤ k.last_call = stands.tells_well.past c d is in let next : number ≡ k.last_call + 1 =
-          allows.next in
-          (stands.tells_well.number c d is, omega arith, stands.tells_well.going c d is)
-
-  call_low : (c : ℕ) (d : Begin) → at eqb number (Some b) told.calls c ≡ Some d → 1 ≤ c
-  call_low c d is = by (eqb number c) refl is
-    where
-      by : (t : Bool) → eqb number c ≡ t → (if t then Some b else told.calls c) ≡ Some d → 1 ≤ c
-      by true same is =
-          let eq : number ≡ c = eqb-true number c same in let next : number ≡ k.last_call + 1 =
-          allows.next in omega arith
-      by false other is = stands.tells_well.low c d is
-
-  call_began : (c : ℕ) (d : Begin) → at eqb number (Some b) told.calls c ≡ Some d
-      → at eqb number (Some b) k.begun c ≡ Some d
-  call_began c d is = by (eqb number c) is
-    where
-      by : (t : Bool) → (if t then Some b else told.calls c) ≡ Some d → (if t then Some b else k.begun c) ≡ Some d
-      by true is = is
-      by false is = stands.tells_well.begun c d is
-
-  began_past : (c : ℕ) (d : Begin) → at eqb number (Some b) k.begun c ≡ Some d → c ≤ number
-  began_past c d is = by (eqb number c) refl is
-    where
-      by : (t : Bool) → eqb number c ≡ t → (if t then Some b else k.begun c) ≡ Some d → c ≤ number
-      by true same is = let eq : number ≡ c = eqb-true number c same in omega arith
-      by false other is =
-          let low : c ≤ k.last_call = stands.tells_well.begun_past c d is in
-          let next : number ≡ k.last_call + 1 = allows.next in omega arith
-
-  failed_began : (failure : Failure) → is_some (k.begun (number_of failure)) ≡ true
-      → is_some (at eqb number (Some b) k.begun (number_of failure)) ≡ true
-  failed_began failure was = by (eqb number (number_of failure))
-    where
-      by : (t : Bool) → is_some (if t then Some b else k.begun (number_of failure)) ≡ true
-      by true = refl
-      by false = was
-
   came : begun.came ≡ arrivals_of new.known
   came = λ j. record (stands.uploads j) { last_call = number }
 
@@ -571,40 +371,39 @@ module _ (told : Told) (it : Recorded) (n number worker : ℕ) (call : Call) (i 
     row_calls = row_calls;
     machines = stands.machines;
     machine_keys = λ name. stands.machine_keys name
-        ∙ sym (task_same
+        ∙ sym (next_call.task_same told it b next stands
         (λ (it : Task). option_and_then
         (λ key. first_marked (map (λ work. same_key work.key key) (keys_of it.goal)))
         (key_of_slot (k.slot name.task name.slot))) (λ it. refl) name.task);
-    machine_calls = λ name. stands.machine_calls name ∙ sym (other_calls (Compile name.task name.slot) refl);
+    machine_calls = λ name. stands.machine_calls name
+        ∙ sym (next_call.other_calls told it b next stands (Compile name.task name.slot) refl);
     orphans = stands.orphans;
-    orphan_calls = λ d. stands.orphan_calls d ∙ sym (other_calls (Disk d) refl);
+    orphan_calls = λ d. stands.orphan_calls d ∙ sym (next_call.other_calls told it b next stands (Disk d) refl);
     digests = stands.digests;
     compiling = λ key. stands.compiling key
         ∙ sym (compiling_begun told b allows.next key (allows.compiles_none key));
-    tasks = tasks;
-    calls = calls;
+    tasks = next_call.tasks_next told it b next stands;
+    calls = next_call.calls_next told it b next stands room.call;
     works = works;
     linked = links_go_on it begun (record {
       wants = kept_of (λ known. known.want) (λ known. refl);
       goals = λ dep. refl;
       parts = part_is;
-      deps = dep_same;
+      deps = next_call.dep_same told it b next stands;
       works = changed_work it begun n (λ work. taken work (places_in noted (Instance i)))
           (λ w. takes_same w (places_in noted (Instance i))) work_is;
       machines = λ name. refl;
       orphans = λ d. refl;
     }) stands.linked;
-    tells_well = record {
-      number = λ c d is. (call_of_new c d is).0;
-      low = call_low;
-      past = λ c d is. (call_of_new c d is).1;
-      begun = call_began;
-      begun_past = began_past;
-      failed = λ t failure is. failed_began failure
-          (stands.tells_well.failed t failure (sym (task_same (λ it. it.failed) (λ it. refl) t) ∙ is));
-      going = λ c d is. going_same d.task ∙ (call_of_new c d is).2;
-      updates = λ t x. task_same (λ it. is_finished (it.upd x)) (λ it. refl) t ∙ stands.tells_well.updates t x
-          ∙ sym (task_same (λ it. not (is_waiting (it.upd x)) && not (is_busy (it.upd x))) (λ it. refl) t);
+    tells_well = let tells : TellsWell _ = next_call.tells_next told it b next stands in record {
+      number = tells.number;
+      low = tells.low;
+      past = tells.past;
+      begun = tells.begun;
+      begun_past = tells.begun_past;
+      failed = tells.failed;
+      going = tells.going;
+      updates = tells.updates;
     };
   }
 

@@ -64,7 +64,7 @@ use Rattle.laws_stands.specs.GroupsStand.{change_place}
 use Rattle.laws_stands.specs.LineStands.{place_of}
 use Rattle.laws_stands.specs.Reading.{call_of as recorded_call, dep_of, instance_of, row_of, work_of}
 use Rattle.laws_stands.specs.Stands.{AreSwept, IsWork, Stands, StandsIn, call_of, key_of_slot}
-use Rattle.laws_stands.specs.Told.{Told, idle_in, is_going, is_idle, telling}
+use Rattle.laws_stands.specs.Told.{TellsWell, Told, idle_in, is_going, is_idle, telling}
 use Rattle.laws_stands.specs.WorkStands.{StandsFor, asked_line, asks, end_of, is_task_call, places_of}
 use Rattle.laws_stands_on.proofs.BegunLemmas.{none_compiled}
 use Rattle.laws_stands_on.proofs.FindLemmas.{any_within, find_within, none_is_found}
@@ -73,8 +73,9 @@ use Rattle.laws_stands_on.proofs.LinkLemmas.{changed_work, links_go_on}
 use Rattle.laws_stands_on.proofs.ListedLemmas.{SameListed, listed_goes_on}
 use Rattle.laws_stands_on.proofs.TableLemmas.{found_altered, found_without, nat_at, nat_keys, thing_changed}
 use Rattle.laws_stands_on.proofs.CallLemmas.{count_within, idle_ended, inst_flip}
+use Rattle.laws_stands_on.proofs.OnlyCallLemmas as only_call
 use Rattle.laws_stands_on.proofs.WorkLemmas.{after_call_ended, after_ping}
-use Rattle.laws_stands_on.specs.Allows.{AllowsEnd}
+use Rattle.laws_stands_on.specs.Allows.{AllowsEnd, IsOnlyCall}
 use Rattle.laws_stands_on.specs.Once.{IsOnce}
 use Rattle.laws_stands_on.proofs.AnsweredLemmas.{ended_as, ended_work, ends_same, failed_as, least_is, none_built}
 use Rattle.laws_stands_on.proofs.AnsweredLemmas.{none_known, pinged_as, takes_as, takes_ping}
@@ -93,8 +94,9 @@ module _ (told : Told) (was : Records) (it : Recorded) (n number worker : ℕ) (
   abbrev k : Known
   k = told.known
 
-  has_begun : k.begun number ≡ Some b
-  has_begun = stands.tells_well.begun number b allows.is_open
+  -- what the end of any call needs
+  only : IsOnlyCall told b
+  only = record { is_open = allows.is_open; only = allows.only }
 
   -- its row
   abbrev row : Row
@@ -124,7 +126,7 @@ module _ (told : Told) (was : Records) (it : Recorded) (n number worker : ℕ) (
     where
       known_is : call_ended answer (k.begun number) k ≡ new.known
       known_is =
-          ap (λ o. call_ended answer o k) has_begun
+          ap (λ o. call_ended answer o k) (only_call.has_begun told it b answer pinged only stands)
           ∙ (λ j. record (none_known call answer (record k { row = at same_inst i row k.row }) allows.compiles_none
           j) { task = at eqb n (task_told k b answer (k.task n)) k.task })
           ∙ (λ j. record k {
@@ -142,32 +144,6 @@ module _ (told : Told) (was : Records) (it : Recorded) (n number worker : ℕ) (
 
   abbrev fail : Option TaskEnd
   fail = planned.failure_of was answer b
-
-  fail_is : fail ≡ option_map (end_of k) (known_calls.failure_of k b answer)
-  fail_is = by answer
-    where
-      ends : {X : Type 0} (f : Option Begin → X) → f (Some b) ≡ f (k.begun number)
-      ends f = ap f (sym has_begun)
-
-      same_lost : option_map_or (λ (row : Row). row.lost) (row_at was i) false ≡ (k.row i).lost
-      same_lost = ap (λ o. option_map_or (λ (row : Row). row.lost) o false) row_there
-
-      fails : (call : Call) → planned.fails_gone was (record b { call = call }) ≡ known_calls.fails_gone k b call
-      fails (Ping vm) = refl
-      fails (DeleteVm vm) = ap not same_lost
-      fails call = refl
-
-      gone : (g : Bool) → (if g then Some (planned.gone_of b) else None)
-          ≡ option_map (end_of k) (if g then Some (failures.Gone number) else None)
-      gone true = ends (λ o. Some (end_by (failures.Gone number) o))
-      gone false = refl
-
-      by : (answer : Answer) → planned.failure_of was answer b
-          ≡ option_map (end_of k) (known_calls.failure_of k b answer)
-      by answers.Failed = ends (λ o. Some (end_by (failures.Call number) o))
-      by answers.Gone = (λ j. if fails call j then Some (planned.gone_of b) else None)
-          ∙ gone (known_calls.fails_gone k b call)
-      by answer = refl
 
   abbrev plan : Ended
   plan = record {
@@ -323,25 +299,6 @@ module _ (told : Told) (was : Records) (it : Recorded) (n number worker : ℕ) (
 
   -- ---- open calls
 
-  -- the other calls are open as before
-  still : {X : Type 0} (f : Option Begin → X) → f None ≡ f (Some b) → (c : ℕ) → f (at eqb number None told.calls c)
-      ≡ f (told.calls c)
-  still f same c = by (eqb number c) refl
-    where
-      by : (t : Bool) → eqb number c ≡ t → f (if t then None else told.calls c) ≡ f (told.calls c)
-      by true is = same ∙ sym (ap f (ap told.calls (sym (eqb-true number c is)) ∙ allows.is_open))
-      by false other = refl
-
-  other_calls : (owner : Owner) → same_owner owner (Instance i) ≡ false → call_of new owner ≡ call_of told owner
-  other_calls owner other =
-      find_within (λ c. holds (λ (d : Begin). same_owner owner d.owner) (at eqb number None told.calls c))
-      (λ c. holds (λ (d : Begin). same_owner owner d.owner) (told.calls c)) k.last_call
-      (λ c low. still (λ o. holds (λ (d : Begin). same_owner owner d.owner) o) (sym other) c)
-
-  idle_as : (owner : Owner) → is_idle new owner
-      ≡ (if same_owner owner (Instance i) then true else is_idle told owner)
-  idle_as owner = idle_ended told number b owner allows.is_open allows.only
-
   row_calls : (x : Inst) → option_and_then (λ known. known.call) (instance_of ended x) ≡ call_of new (Instance x)
   row_calls x = ap (option_and_then (λ known. known.call)) (instance_is x) ∙ by (same_inst i x) refl
     where
@@ -360,39 +317,20 @@ module _ (told : Told) (was : Records) (it : Recorded) (n number worker : ℕ) (
           ∙ none (instance_of it x)
           ∙ sym (none_is_found (λ c. holds (λ (d : Begin). same_owner (Instance x) d.owner)
           (at eqb number None told.calls c)) (numbers_to k.last_call)
-          (idle_as (Instance x) ∙ (λ j. if (inst_flip i x ∙ is) j then true else is_idle told (Instance x))))
+          (only_call.idle_as told it b answer pinged only stands (Instance x) ∙ (λ j. if (inst_flip i x
+          ∙ is) j then true else is_idle told (Instance x))))
       by false other =
           (λ j. option_and_then (λ (known : instances.Instance). known.call)
           (if other j then option_map said (instance_of it x) else instance_of it x))
-          ∙ stands.row_calls x ∙ sym (other_calls (Instance x) (inst_flip i x ∙ other))
-
-  calls : (c : ℕ) → recorded_call ended c ≡ at eqb number None told.calls c
-  calls c =
-      ap (option_and_then (λ place. place)) (found_without nat_cmp nat_keys number it.calls once c)
-      ∙ (λ j. option_and_then (λ place. place) (if nat_at number c j then None else found nat_cmp it.calls c))
-      ∙ by (eqb number c)
-    where
-      by : (t : Bool) → option_and_then (λ place. place) (if t then None else found nat_cmp it.calls c)
-          ≡ (if t then None else told.calls c)
-      by true = refl
-      by false = stands.calls c
+          ∙ stands.row_calls x ∙ sym (only_call.other_calls told it b answer pinged only stands (Instance x)
+          (inst_flip i x ∙ other))
 
   -- ---- tasks and works
 
-  task_same : {X : Type 0} (f : Task → X) → f task_now ≡ f (k.task n) → (t : ℕ) → f (new.known.task t)
-      ≡ f (k.task t)
-  task_same f same t = by (eqb n t) refl
-    where
-      by : (b : Bool) → eqb n t ≡ b → f (if b then task_now else k.task t) ≡ f (k.task t)
-      by true is = same ∙ ap (λ n. f (k.task n)) (eqb-true n t is)
-      by false is = refl
-
-  going_same : (t : ℕ) → is_going new.known t ≡ is_going k t
-  going_same t = task_same (λ it. nat_le 1 t && (nat_le t k.tasks && not (is_some it.end))) refl t
-
   swept_same : (t : ℕ) (swept : List MachineName) → AreSwept k t swept → AreSwept new.known t swept
   swept_same t swept are = are
-      ∙ sym (task_same (λ it. filter (λ (name : SlotName). not (name.task == t) && is_in_deployment k it.dep name)
+      ∙ sym (only_call.task_same told it b answer pinged only stands (λ it. filter
+      (λ (name : SlotName). not (name.task == t) && is_in_deployment k it.dep name)
       k.machines) refl t)
 
   -- what is recorded of a task
@@ -409,45 +347,7 @@ module _ (told : Told) (was : Records) (it : Recorded) (n number worker : ℕ) (
 
   work_is : (t : ℕ) → work_of ended t ≡ (if eqb n t then option_map (ended_work asked places fail) (work_of it t)
       else work_of it t)
-  work_is t = by asked
-    where
-      first : work_of (record it { works = changed nat_cmp n (λ work. given work places) it.works }) t
-          ≡ (if eqb n t then option_map (λ work. given work places) (work_of it t) else work_of it t)
-      first =
-          thing_changed nat_cmp nat_keys n (λ work. given work places) it.works t
-          ∙ ap (λ b. if b then option_map (λ work. given work places) (work_of it t) else work_of it t) (nat_at n t)
-
-      twice : (f g : Work → Work) (b : Bool) (o : Option Work)
-          → (if b then option_map g (if b then option_map f o else o) else (if b then option_map f o else o))
-          ≡ (if b then option_map (λ w. g (f w)) o else o)
-      twice f g true (Some w) = refl
-      twice f g true None = refl
-      twice f g false o = refl
-
-      then_one : (f g : Work → Work) (works : List (ℕ × Option Work)) → work_of (record it { works = works }) t
-          ≡ (if eqb n t then option_map f (work_of it t) else work_of it t)
-          → work_of (record it { works = changed nat_cmp n g works }) t
-          ≡ (if eqb n t then option_map (λ w. g (f w)) (work_of it t) else work_of it t)
-      then_one f g works is =
-          thing_changed nat_cmp nat_keys n g works t
-          ∙ (λ j. if nat_at n t j then option_map g (is j) else is j)
-          ∙ twice f g (eqb n t) (work_of it t)
-
-      by : (p : Bool) → work_of (record it {
-        works = changed nat_cmp n (λ work. failed_by work fail)
-            (if p then changed nat_cmp n (with_pinged places.part.ping)
-            (changed nat_cmp n (λ work. given work places) it.works) else changed nat_cmp n
-            (λ work. given work places) it.works);
-      }) t
-          ≡ (if eqb n t then option_map (ended_work p places fail) (work_of it t) else work_of it t)
-      by true =
-          then_one (λ w. with_pinged places.part.ping (given w places)) (λ work. failed_by work fail)
-          (changed nat_cmp n (with_pinged places.part.ping)
-          (changed nat_cmp n (λ work. given work places) it.works))
-          (then_one (λ work. given work places) (with_pinged places.part.ping)
-          (changed nat_cmp n (λ work. given work places) it.works) first)
-      by false = then_one (λ work. given work places) (λ work. failed_by work fail)
-          (changed nat_cmp n (λ work. given work places) it.works) first
+  work_is t = only_call.ended_works_are n asked places fail it.works t
 
   going : is_going k n ≡ true
   going = stands.tells_well.going number b allows.is_open
@@ -487,61 +387,21 @@ module _ (told : Told) (was : Records) (it : Recorded) (n number worker : ℕ) (
             ∙ ap (λ changed. change_place changed i) work_stands.changed_are) j;
       }
 
-  own_begun : is_some (k.begun number) ≡ true
-  own_begun = ap is_some has_begun
-
-  gone_begun : (g : Bool) (failure : Failure) → (if g then Some (failures.Gone number) else None) ≡ Some failure
-      → is_some (k.begun (number_of failure)) ≡ true
-  gone_begun true failure is = let e : failures.Gone number ≡ failure =
-      cc in ap (λ f. is_some (k.begun (number_of f))) (sym e) ∙ own_begun
-  gone_begun false failure is = absurd cc
-
-  -- the call that failed now began
-  new_begun : (answer : Answer) (failure : Failure) → known_calls.failure_of k b answer ≡ Some failure
-      → is_some (k.begun (number_of failure)) ≡ true
-  new_begun answers.Failed failure is = let e : failures.Call number ≡ failure =
-      cc in ap (λ f. is_some (k.begun (number_of f))) (sym e) ∙ own_begun
-  new_begun answers.Gone failure is = gone_begun (known_calls.fails_gone k b call) failure is
-  new_begun answer failure is = absurd cc
-
-  -- .. as did the least that failed
-  failed_began : (t : ℕ) (failure : Failure) → (new.known.task t).failed ≡ Some failure
-      → is_some (k.begun (number_of failure)) ≡ true
-  failed_began t failure is = by (eqb n t) is
-    where
-      least : (old new : Option Failure) → least_failure old new ≡ Some failure
-          → ((f : Failure) → old ≡ Some f → is_some (k.begun (number_of f)) ≡ true)
-          → ((f : Failure) → new ≡ Some f → is_some (k.begun (number_of f)) ≡ true)
-          → is_some (k.begun (number_of failure)) ≡ true
-      least None new is old_begun new_begun = new_begun failure is
-      least (Some old) None is old_begun new_begun = old_begun failure is
-      least (Some old) (Some new) is old_begun new_begun = of (nat_lt (number_of new) (number_of old)) is
-        where
-          of : (b : Bool) → (if b then Some new else Some old) ≡ Some failure → is_some (k.begun (number_of failure))
-              ≡ true
-          of true is = new_begun failure is
-          of false is = old_begun failure is
-
-      by : (u : Bool) → (if u then task_now else k.task t).failed ≡ Some failure
-          → is_some (k.begun (number_of failure)) ≡ true
-      by true is = least (k.task n).failed (known_calls.failure_of k b answer) is (stands.tells_well.failed n)
-          (new_begun answer)
-      by false is = stands.tells_well.failed t failure is
-
   failed_is : (work : Work) → work.failed ≡ option_map (end_of k) (k.task n).failed
       → (ended_work asked places fail work).failed ≡ option_map (end_of new.known) (new.known.task n).failed
   failed_is work is =
-      failed_as asked places fail work
-      ∙ (λ j. if work_specs.is_less (fail_is j) (is j) then fail_is j else is j)
-      ∙ least_is k (k.task n).failed (known_calls.failure_of k b answer) (stands.tells_well.failed n)
-      (new_begun answer)
+      only_call.failed_is told it b answer pinged only stands asked places fail work
+      (only_call.failure_is told it b answer pinged only stands was same_lost) is
       ∙ ap (λ (t : Task). option_map (end_of k) t.failed)
       (sym (λ j. if eq-eqb n n refl j then task_now else k.task n))
+    where
+      same_lost : option_map_or (λ (row : Row). row.lost) (row_at was i) false ≡ (k.row i).lost
+      same_lost = ap (λ o. option_map_or (λ (row : Row). row.lost) o false) row_there
 
   own_work : (o : Option Work) → work_of it n ≡ o → IsWork told n o
       → IsWork new n (option_map (ended_work asked places fail) o)
   own_work (Some work) is (open_, (swept, work_stands, are_swept)) = (
-    going_same n ∙ open_,
+    only_call.going_same told it b answer pinged only stands n ∙ open_,
     (
       swept,
       subst (λ (it : Told). StandsFor it (it.known.task n) n swept (ended_work asked places fail work)) told_is
@@ -549,7 +409,7 @@ module _ (told : Told) (was : Records) (it : Recorded) (n number worker : ℕ) (
           work_stands allows.changed_apart allows.pings_apart allows.obsolete_apart
           allows.compiles_none (stands.tells_well.low number b allows.is_open)
           (stands.tells_well.past number b allows.is_open)
-          has_begun allows.is_open
+          (only_call.has_begun told it b answer pinged only stands) allows.is_open
           allows.only
           (ended_as asked places fail work
           ∙ (λ j. record (given work (places_are work swept is work_stands j)) {
@@ -563,11 +423,12 @@ module _ (told : Told) (was : Records) (it : Recorded) (n number worker : ℕ) (
       swept_same n swept are_swept,
     ),
   )
-  own_work None is gone = λ later. going_same n ∙ gone later
+  own_work None is gone = λ later. only_call.going_same told it b answer pinged only stands n ∙ gone later
 
   not_it : (xs : List Inst) → is_among same_inst i xs ≡ false → (j : ℕ) (x : Inst) → slice_get xs j ≡ Some x
       → idle_in new x ≡ idle_in told x
-  not_it xs none j x is = idle_as (Instance x) ∙ (λ l. if (inst_flip i x ∙ none_at (same_inst i) xs j x none is) l
+  not_it xs none j x is = only_call.idle_as told it b answer pinged only stands (Instance x)
+      ∙ (λ l. if (inst_flip i x ∙ none_at (same_inst i) xs j x none is) l
       then true else is_idle told (Instance x))
 
   same_for : (t : ℕ) (swept : List MachineName) → eqb n t ≡ false → is_going k t ≡ true
@@ -576,21 +437,20 @@ module _ (told : Told) (was : Records) (it : Recorded) (n number worker : ℕ) (
     pings = not_it (k.task t).to_ping (allows.not_asked t other open_);
     obsolete = not_it (k.task t).obsolete (allows.not_leaving t other open_);
     changed = not_it (k.task t).changed (allows.not_changing t other open_);
-    disks = λ j d is. idle_as (Disk d);
+    disks = λ j d is. only_call.idle_as told it b answer pinged only stands (Disk d);
     orphans = λ j d is. refl;
-    sweep = λ j name is. idle_as (Compile name.task name.slot);
+    sweep = λ j name is. only_call.idle_as told it b answer pinged only stands (Compile name.task name.slot);
     slots = λ j name is. refl;
     compiled = λ key. refl;
     worked = λ key. refl;
     machines = refl;
     failed = refl;
-    calls = count_within (is_task_call new t) (is_task_call told t) k.last_call
-        (λ c low. still (λ o. holds (λ (d : Begin). d.task == t) o) (sym other) c);
+    calls = only_call.same_count told it b answer pinged only stands t other;
   }
 
   other_work : (t : ℕ) → eqb n t ≡ false → (o : Option Work) → IsWork told t o → IsWork new t o
   other_work t other (Some work) (open_, (swept, work_stands, are_swept)) = (
-    going_same t ∙ open_,
+    only_call.going_same told it b answer pinged only stands t ∙ open_,
     (
       swept,
       subst (λ (it : Task). StandsFor new it t swept work) (sym (λ j. if other j then task_now else k.task t))
@@ -598,7 +458,7 @@ module _ (told : Told) (was : Records) (it : Recorded) (n number worker : ℕ) (
       swept_same t swept are_swept,
     ),
   )
-  other_work t other None gone = λ later. going_same t ∙ gone later
+  other_work t other None gone = λ later. only_call.going_same told it b answer pinged only stands t ∙ gone later
 
   works : (t : ℕ) → IsWork new t (work_of ended t)
   works t = subst (IsWork new t) (sym (work_is t)) (by (eqb n t) refl)
@@ -611,13 +471,6 @@ module _ (told : Told) (was : Records) (it : Recorded) (n number worker : ℕ) (
 
   -- ---- all
 
-  was_open : (c : ℕ) (d : Begin) → at eqb number None told.calls c ≡ Some d → told.calls c ≡ Some d
-  was_open c d is = by (eqb number c) is
-    where
-      by : (t : Bool) → (if t then None else told.calls c) ≡ Some d → told.calls c ≡ Some d
-      by true is = absurd cc
-      by false is = is
-
   ended_stands : StandsIn new ended
   ended_stands = record {
     uploads = stands.uploads;
@@ -626,22 +479,26 @@ module _ (told : Told) (was : Records) (it : Recorded) (n number worker : ℕ) (
     row_calls = row_calls;
     machines = stands.machines;
     machine_keys = λ name. stands.machine_keys name
-        ∙ sym (task_same
+        ∙ sym (only_call.task_same told it b answer pinged only stands
         (λ (it : Task). option_and_then
         (λ key. first_marked (map (λ work. same_key work.key key) (keys_of it.goal)))
         (key_of_slot (k.slot name.task name.slot))) refl name.task);
-    machine_calls = λ name. stands.machine_calls name ∙ sym (other_calls (Compile name.task name.slot) refl);
+    machine_calls = λ name. stands.machine_calls name
+        ∙ sym (only_call.other_calls told it b answer pinged only stands (Compile name.task name.slot) refl);
     orphans = stands.orphans;
-    orphan_calls = λ d. stands.orphan_calls d ∙ sym (other_calls (Disk d) refl);
+    orphan_calls = λ d. stands.orphan_calls d
+        ∙ sym (only_call.other_calls told it b answer pinged only stands (Disk d) refl);
     digests = stands.digests;
     compiling = λ key. stands.compiling key
         ∙ sym (any_within (λ c. holds (λ (d : Begin). compiles key d.call) (at eqb number None told.calls c))
         (λ c. holds (λ (d : Begin). compiles key d.call) (told.calls c)) k.last_call
-        (λ c low. still (λ o. holds (λ (d : Begin). compiles key d.call) o) (sym (allows.compiles_none key)) c));
+        (λ c low. only_call.still told it b answer pinged only stands (λ o. holds
+        (λ (d : Begin). compiles key d.call) o) (sym (allows.compiles_none key)) c));
     tasks = λ t. stands.tasks t
-        ∙ sym (task_same (λ (it : Task). if nat_le 1 t && nat_le t k.tasks then Some (row_by t it) else None) refl
+        ∙ sym (only_call.task_same told it b answer pinged only stands
+        (λ (it : Task). if nat_le 1 t && nat_le t k.tasks then Some (row_by t it) else None) refl
         t);
-    calls = calls;
+    calls = only_call.calls_last told it b answer pinged only stands once;
     works = works;
     linked = links_go_on it ended (record {
       wants = kept_of (λ known. known.want) (λ known. refl);
@@ -652,16 +509,15 @@ module _ (told : Told) (was : Records) (it : Recorded) (n number worker : ℕ) (
       machines = λ name. refl;
       orphans = λ d. refl;
     }) stands.linked;
-    tells_well = record {
-      number = λ c d is. stands.tells_well.number c d (was_open c d is);
-      low = λ c d is. stands.tells_well.low c d (was_open c d is);
-      past = λ c d is. stands.tells_well.past c d (was_open c d is);
-      begun = λ c d is. stands.tells_well.begun c d (was_open c d is);
-      begun_past = stands.tells_well.begun_past;
-      failed = λ t failure is. failed_began t failure is;
-      going = λ c d is. going_same d.task ∙ stands.tells_well.going c d (was_open c d is);
-      updates = λ t x. task_same (λ it. is_finished (it.upd x)) refl t ∙ stands.tells_well.updates t x
-          ∙ sym (task_same (λ it. not (is_waiting (it.upd x)) && not (is_busy (it.upd x))) refl t);
+    tells_well = let tells : TellsWell _ = only_call.tells_last told it b answer pinged only stands in record {
+      number = tells.number;
+      low = tells.low;
+      past = tells.past;
+      begun = tells.begun;
+      begun_past = tells.begun_past;
+      failed = tells.failed;
+      going = tells.going;
+      updates = tells.updates;
     };
   }
 

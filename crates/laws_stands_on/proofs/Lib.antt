@@ -2,12 +2,15 @@ pub mod AlikeLemmas
 pub mod AnsweredLemmas
 pub mod BegunLemmas
 pub mod CallLemmas
+pub mod ChangedLemmas
 pub mod EndedLemmas
 pub mod FindLemmas
 pub mod KeptLemmas
 pub mod KeyLemmas
 pub mod LinkLemmas
 pub mod ListedLemmas
+pub mod NextCallLemmas
+pub mod OnlyCallLemmas
 pub mod TableLemmas
 pub mod UpdateBegunLemmas
 pub mod UploadLemmas

@@ -16,7 +16,7 @@ use Rattle.bosh_rows.specs.After.{after, bare}
 use Rattle.bosh_rows.specs.Same.{same_inst, same_owner}
 use Rattle.bosh_rows.specs.SoundSnapshot.{are_distinct}
 use Rattle.laws_stands.specs.Reading.{instance_of}
-use Rattle.laws_stands.specs.Told.{Told, idle_in, is_going}
+use Rattle.laws_stands.specs.Told.{Told, idle_in, is_going, is_idle}
 
 -- an update of an open task may begin: the instance is of its deployment and has no open call, and none changes twice
 pub record AllowsUpdate (told : Told) (update : Update) : Type 0 where
@@ -24,6 +24,20 @@ pub record AllowsUpdate (told : Told) (update : Update) : Type 0 where
   pub dep : (told.known.task update.task).dep ≡ Some update.inst.dep
   pub apart : are_distinct same_inst (told.known.task update.task).changed ≡ true
   pub idle : idle_in told update.inst ≡ true
+
+-- a call may begin for an open task of which none failed: it has the next number, and its owner has no open call
+pub record AllowsNext (told : Told) (begin : Begin) : Type 0 where
+  pub next : begin.n ≡ told.known.last_call + 1
+  pub small : begin.n ≤ 18446744073709551615
+  pub going : is_going told.known begin.task ≡ true
+  pub none_failed : (told.known.task begin.task).failed ≡ None
+  pub counted : (c : ℕ) → (told.known.task begin.task).calls ≡ Some c → c < 18446744073709551615
+  pub idle : is_idle told begin.owner ≡ true
+
+-- an open call is the only one of its owner
+pub record IsOnlyCall (told : Told) (begin : Begin) : Type 0 where
+  pub is_open : told.calls begin.n ≡ Some begin
+  pub only : (c : ℕ) (d : Begin) → told.calls c ≡ Some d → same_owner d.owner begin.owner ≡ true → c ≡ begin.n
 
 -- a call of an instance may begin for an open task: it has the next number, the instance is of the task's deployment, and no
 -- other open task lists it

@@ -30,7 +30,7 @@ use Rattle.laws_stands.specs.WorkStands.{end_of, is_task_call}
 use Rattle.laws_stands_on.proofs.CallLemmas.{count_within, idle_begun}
 use Rattle.laws_stands_on.proofs.FindLemmas.{found_begun, none_is_found}
 use Rattle.laws_stands_on.proofs.TableLemmas.{found_altered, nat_at, nat_keys, thing_changed}
-use Rattle.laws_stands_after.specs.Disks.{AllowsNext}
+use Rattle.laws_stands_on.specs.Allows.{AllowsNext}
 
 -- what a task row says of a task
 abbrev pub row_by : ℕ → Task → TaskRow

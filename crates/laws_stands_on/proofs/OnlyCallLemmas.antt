@@ -13,6 +13,7 @@ use Rattle.bosh_base.specs.declared.call.Call.TheVariants.{DeleteVm, Ping}
 use Rattle.bosh_base.specs.declared.entry.Begin.{Begin}
 use Rattle.bosh_base.specs.declared.failure.Failure.{Failure}
 use Rattle.bosh_base.specs.declared.failure.Failure.TheVariants as failures
+use Rattle.bosh_base.specs.declared.inst.Inst.{Inst}
 use Rattle.bosh_base.specs.declared.owner.Owner.{Owner}
 use Rattle.bosh_base.specs.declared.task.TaskEnd.{TaskEnd}
 use Rattle.bosh_history.specs.Calls as known_calls
@@ -41,14 +42,15 @@ use Rattle.laws_stands_on.proofs.CallLemmas.{count_within, idle_ended, one_less}
 use Rattle.laws_stands_on.proofs.FindLemmas.{find_within, none_is_found}
 use Rattle.laws_stands_on.proofs.TableLemmas.{found_without, nat_at, nat_keys}
 use Rattle.laws_stands_on.specs.Once.{IsOnce}
-use Rattle.laws_stands_after.proofs.ChangedLemmas.{things_changed, thing_at_key}
-use Rattle.laws_stands_after.specs.Disks.{IsOnlyCall}
+use Rattle.laws_stands_on.proofs.ChangedLemmas.{things_changed, thing_at_key}
+use Rattle.laws_stands_on.specs.Allows.{IsOnlyCall}
 
 -- ---- the works of a task once its call ended
 
 abbrev pub ended_works : ℕ → Bool → Places → Option TaskEnd → List (ℕ × Option Work) → List (ℕ × Option Work)
 ended_works n asked places fail works = changed nat_cmp n (λ work. failed_by work fail)
-    (if asked then changed nat_cmp n (with_pinged places.part.ping) (changed nat_cmp n (λ work. given work places) works)
+    (if asked then changed nat_cmp n (with_pinged places.part.ping) (changed nat_cmp n
+    (λ work. given work places) works)
     else changed nat_cmp n (λ work. given work places) works)
 
 pub ended_works_are : (n : ℕ) (asked : Bool) (places : Places) (fail : Option TaskEnd)
@@ -74,8 +76,9 @@ ended_works_are n true places fail works t =
     by true None = refl
     by false o = refl
 
-module _ (told : Told) (it : Recorded) (b : Begin) (answer : Answer) (only : IsOnlyCall told b)
-    (stands : StandsIn told it) where
+-- .. of which it is told who answered a ping
+module _ (told : Told) (it : Recorded) (b : Begin) (answer : Answer) (pinged : Inst → Bool)
+    (only : IsOnlyCall told b) (stands : StandsIn told it) where
   abbrev k : Known
   k = told.known
 
@@ -87,7 +90,7 @@ module _ (told : Told) (it : Recorded) (b : Begin) (answer : Answer) (only : IsO
   failure = known_calls.failure_of k b answer
 
   abbrev pub task_last : Task
-  task_last = record (k.task b.task) { failed = least_failure (k.task b.task).failed failure }
+  task_last = record (k.task b.task) { pinged = pinged; failed = least_failure (k.task b.task).failed failure }
 
   abbrev pub told_last : Told
   told_last = record {
