@@ -1,48 +1,40 @@
 -- A call of an instance begins.
-use Rattle.std.proofs.Common.{◌≡◌, ◌∙◌, ℕ, ◌+◌, ◌<◌, ◌≤◌, suc, Bool, true, false, ◌&&◌, ◌||◌, not, List}
-use Rattle.std.proofs.Common.{◌==◌, filter, map, Option, Some, None, add-one, ap, refl, sym, subst, arith}
-use Rattle.std.specs.Prelude.{cond, count_by, eqb, is_some, min, nat_le, slice_get, if◌then◌else◌}
-use Rattle.std.specs.Option.{option_and_then, option_map, option_map_or, option_or, unwrap_or}
+use Rattle.std.proofs.Common.{◌≡◌, ◌∙◌, ℕ, Bool, true, false, ◌&&◌, ◌||◌, not, List}
+use Rattle.std.proofs.Common.{◌==◌, filter, map, Option, Some, None, ap, refl, sym, subst}
+use Rattle.std.specs.Prelude.{eqb, is_some, nat_le, slice_get, if◌then◌else◌}
+use Rattle.std.specs.Option.{option_and_then, option_map, option_map_or, unwrap_or}
 use Rattle.std.specs.Ordering.{nat_cmp}
-use Rattle.std.proofs.lemmas.Bool.{eq-eqb, eqb-true, false≢true, ne_eqb}
-use Rattle.std.proofs.lemmas.List.Sums.{sum_by_push}
-use Rattle.bosh_base.specs.Cloud.{numbers_to}
+use Rattle.std.proofs.lemmas.Bool.{eqb-true, false≢true}
 use Rattle.bosh_base.specs.Inst.{inst_cmp}
 use Rattle.bosh_base.specs.declared.call.Call.{Call}
 use Rattle.bosh_base.specs.declared.call.Call.TheVariants.{CompilePackage}
 use Rattle.bosh_base.specs.declared.entry.Begin.{Begin}
 use Rattle.bosh_base.specs.declared.entry.Entry.TheVariants as entries
-use Rattle.bosh_base.specs.declared.failure.Failure.{Failure}
 use Rattle.bosh_base.specs.declared.inst.Inst.{Inst}
 use Rattle.bosh_base.specs.declared.key.Key.{Key}
-use Rattle.bosh_base.specs.declared.owner.Owner.{Owner}
 use Rattle.bosh_base.specs.declared.owner.Owner.TheVariants.{Compile, Disk, Instance}
 use Rattle.bosh_base.specs.declared.row.Row.{Row}
 use Rattle.bosh_base.specs.declared.task.TaskRow.{TaskRow}
 use Rattle.bosh_compile.specs.Readiness.{same_key}
 use Rattle.bosh_fold.specs.Calls.{counted, noted_call, opened_call, taken_by, with_call, with_compiling, with_row}
 use Rattle.bosh_fold.specs.Calls.{with_subject}
-use Rattle.bosh_history.specs.Calls.{number_of, task_with_call}
+use Rattle.bosh_history.specs.Calls.{task_with_call}
 use Rattle.bosh_history.specs.Held.{is_open}
-use Rattle.bosh_history.specs.Goals.{is_waiting}
-use Rattle.bosh_history.specs.Items.{is_finished, is_in_deployment}
-use Rattle.bosh_roll.specs.Upd.{is_busy}
+use Rattle.bosh_history.specs.Items.{is_in_deployment}
 use Rattle.bosh_history.specs.Known.{Known, SlotName, Task}
 use Rattle.bosh_history.specs.Slots.{keys_of}
 use Rattle.bosh_history.specs.Snapshots.{task_row}
 use Rattle.bosh_history.specs.Steps.{compiles}
-use Rattle.bosh_history.specs.Tasks.{end_by}
-use Rattle.bosh_history.specs.Words.{at, holds, inserted, is_among}
+use Rattle.bosh_history.specs.Words.{at, inserted, is_among}
 use Rattle.bosh_plan.specs.declared.beginning.Subject.TheVariants as subjects
 use Rattle.bosh_progress.specs.Tree.{first_marked}
-use Rattle.bosh_records.specs.Changes.{with_one_call}
 use Rattle.bosh_records.specs.Places.{part_of, places_in}
 use Rattle.bosh_records.specs.Recorded.{Recorded}
 use Rattle.bosh_records.specs.Table.{altered, found}
 use Rattle.bosh_records.specs.declared.instances.Instance as instances
 use Rattle.bosh_rows.proofs.SameLemmas.{itself}
 use Rattle.bosh_rows.specs.After.{bare, begun_row}
-use Rattle.bosh_rows.specs.Same.{same_inst, same_owner}
+use Rattle.bosh_rows.specs.Same.{same_inst}
 use Rattle.bosh_work.specs.Line.{taken_line}
 use Rattle.bosh_work.specs.Part.{no_part}
 use Rattle.bosh_work.specs.declared.line.Line.{Line}
@@ -56,16 +48,16 @@ use Rattle.laws_stands.proofs.MemberLemmas.{inst_is}
 use Rattle.laws_stands.proofs.PremiseLemmas.{none_at}
 use Rattle.laws_stands.specs.GroupsStand.{change_place}
 use Rattle.laws_stands.specs.LineStands.{place_of}
-use Rattle.laws_stands.specs.Reading.{call_of as recorded_call, dep_of, instance_of, row_of, task_of, work_of}
+use Rattle.laws_stands.specs.Reading.{dep_of, instance_of, row_of, work_of}
 use Rattle.laws_stands.specs.Stands.{AreSwept, IsWork, StandsIn, arrivals_of, call_of, key_of_slot}
-use Rattle.laws_stands.specs.Told.{TellsWell, Told, idle_in, is_going, is_idle, telling}
-use Rattle.laws_stands.specs.WorkStands.{StandsFor, end_of, is_task_call, places_of}
-use Rattle.laws_stands_on.proofs.FindLemmas.{compiling_begun, found_begun, none_is_found}
+use Rattle.laws_stands.specs.Told.{TellsWell, Told, idle_in, is_going, telling}
+use Rattle.laws_stands.specs.WorkStands.{StandsFor, places_of}
+use Rattle.laws_stands_on.proofs.FindLemmas.{compiling_begun}
 use Rattle.laws_stands_on.proofs.KeyLemmas.{inst_at, inst_keys}
 use Rattle.laws_stands_on.proofs.LinkLemmas.{ListsSame, changed_work, links_go_on}
 use Rattle.laws_stands_on.proofs.ListedLemmas.{SameListed, listed_goes_on}
 use Rattle.laws_stands_on.proofs.TableLemmas.{found_altered, nat_at, nat_keys, thing_changed}
-use Rattle.laws_stands_on.proofs.CallLemmas.{count_within, idle_begun, inst_flip}
+use Rattle.laws_stands_on.proofs.CallLemmas.{inst_flip}
 use Rattle.laws_stands_on.proofs.NextCallLemmas as next_call
 use Rattle.laws_stands_on.proofs.WorkLemmas.{after_call_begun, compiles_itself}
 use Rattle.laws_stands_on.specs.Allows.{AllowsCall, AllowsNext, HasPlaces}

@@ -1,23 +1,18 @@
 -- A call of an instance ends.
 use Rattle.std.proofs.Common.{◌≡◌, ◌∙◌, ℕ, Bool, true, false, ◌&&◌, not, List, ◌==◌}
 use Rattle.std.proofs.Common.{filter, map, Option, Some, None, ap, refl, sym, subst}
-use Rattle.std.specs.Prelude.{eqb, is_some, nat_le, nat_lt, slice_get, if◌then◌else◌}
+use Rattle.std.specs.Prelude.{eqb, nat_le, slice_get, if◌then◌else◌}
 use Rattle.std.specs.Option.{option_and_then, option_map, option_map_or}
 use Rattle.std.specs.Ordering.{nat_cmp}
 use Rattle.std.proofs.lemmas.Bool.{eq-eqb, eqb-true}
 use Rattle.bosh_base.specs.Cloud.{numbers_to}
 use Rattle.bosh_base.specs.Inst.{inst_cmp}
 use Rattle.bosh_base.specs.declared.answer.Answer.{Answer}
-use Rattle.bosh_base.specs.declared.answer.Answer.TheVariants as answers
 use Rattle.bosh_base.specs.declared.call.Call.{Call}
-use Rattle.bosh_base.specs.declared.call.Call.TheVariants.{DeleteVm, Ping}
 use Rattle.bosh_base.specs.declared.entry.Begin.{Begin}
 use Rattle.bosh_base.specs.declared.entry.End.{End}
 use Rattle.bosh_base.specs.declared.entry.Entry.TheVariants as entries
-use Rattle.bosh_base.specs.declared.failure.Failure.{Failure}
-use Rattle.bosh_base.specs.declared.failure.Failure.TheVariants as failures
 use Rattle.bosh_base.specs.declared.inst.Inst.{Inst}
-use Rattle.bosh_base.specs.declared.owner.Owner.{Owner}
 use Rattle.bosh_base.specs.declared.owner.Owner.TheVariants.{Compile, Disk, Instance}
 use Rattle.bosh_base.specs.declared.row.Row.{Row}
 use Rattle.bosh_base.specs.declared.task.TaskEnd.{TaskEnd}
@@ -27,14 +22,12 @@ use Rattle.bosh_fold.specs.Calls.{closed_call, ended_by, ended_in, failed_in, gi
 use Rattle.bosh_fold.specs.Calls.{pinged_by, with_call, with_row}
 use Rattle.bosh_history.specs.Calls as known_calls
 use Rattle.bosh_history.specs.Calls.{call_ended, least_failure, number_of, task_told}
-use Rattle.bosh_history.specs.Goals.{is_waiting}
 use Rattle.bosh_history.specs.Held.{is_open}
-use Rattle.bosh_history.specs.Items.{is_finished, is_in_deployment}
+use Rattle.bosh_history.specs.Items.{is_in_deployment}
 use Rattle.bosh_history.specs.Known.{Known, SlotName, Task}
 use Rattle.bosh_history.specs.Slots.{keys_of}
 use Rattle.bosh_history.specs.Snapshots.{task_row}
 use Rattle.bosh_history.specs.Steps.{compiles}
-use Rattle.bosh_history.specs.Tasks.{end_by}
 use Rattle.bosh_history.specs.Words.{at, holds, is_among}
 use Rattle.bosh_plan.specs.Ended as planned
 use Rattle.bosh_plan.specs.Ended.{ended_of, is_told}
@@ -48,12 +41,10 @@ use Rattle.bosh_records.specs.Recorded.{Recorded}
 use Rattle.bosh_records.specs.Table.{altered, changed, found, without}
 use Rattle.bosh_records.specs.declared.instances.Instance as instances
 use Rattle.bosh_records.specs.declared.records.Records.{Records}
-use Rattle.bosh_roll.specs.Upd.{is_busy}
 use Rattle.bosh_rows.specs.After.{after}
 use Rattle.bosh_rows.specs.Same.{same_inst, same_owner}
 use Rattle.bosh_work.specs.Line.{given_line}
 use Rattle.bosh_work.specs.Part.{no_part}
-use Rattle.bosh_work.specs.Work as work_specs
 use Rattle.bosh_work.specs.Work.{failed_by, given}
 use Rattle.bosh_work.specs.declared.part.MachineName.{MachineName}
 use Rattle.bosh_work.specs.declared.part.Places.{Places}
@@ -62,22 +53,23 @@ use Rattle.laws_stands.proofs.MemberLemmas.{inst_is}
 use Rattle.laws_stands.proofs.PremiseLemmas.{none_at}
 use Rattle.laws_stands.specs.GroupsStand.{change_place}
 use Rattle.laws_stands.specs.LineStands.{place_of}
-use Rattle.laws_stands.specs.Reading.{call_of as recorded_call, dep_of, instance_of, row_of, work_of}
+use Rattle.laws_stands.specs.Reading.{dep_of, instance_of, row_of, work_of}
 use Rattle.laws_stands.specs.Stands.{AreSwept, IsWork, Stands, StandsIn, call_of, key_of_slot}
 use Rattle.laws_stands.specs.Told.{TellsWell, Told, idle_in, is_going, is_idle, telling}
-use Rattle.laws_stands.specs.WorkStands.{StandsFor, asked_line, asks, end_of, is_task_call, places_of}
+use Rattle.laws_stands.specs.WorkStands.{StandsFor, asked_line, asks, end_of, places_of}
 use Rattle.laws_stands_on.proofs.BegunLemmas.{none_compiled}
-use Rattle.laws_stands_on.proofs.FindLemmas.{any_within, find_within, none_is_found}
+use Rattle.laws_stands_on.proofs.FindLemmas.{any_within, none_is_found}
 use Rattle.laws_stands_on.proofs.KeyLemmas.{inst_at, inst_keys}
 use Rattle.laws_stands_on.proofs.LinkLemmas.{changed_work, links_go_on}
 use Rattle.laws_stands_on.proofs.ListedLemmas.{SameListed, listed_goes_on}
-use Rattle.laws_stands_on.proofs.TableLemmas.{found_altered, found_without, nat_at, nat_keys, thing_changed}
-use Rattle.laws_stands_on.proofs.CallLemmas.{count_within, idle_ended, inst_flip}
+use Rattle.laws_stands_on.proofs.TableLemmas.{found_altered}
+use Rattle.laws_stands_on.proofs.CallLemmas.{inst_flip}
+use Rattle.laws_stands_on.proofs.NextCallLemmas.{row_by}
 use Rattle.laws_stands_on.proofs.OnlyCallLemmas as only_call
 use Rattle.laws_stands_on.proofs.WorkLemmas.{after_call_ended, after_ping}
 use Rattle.laws_stands_on.specs.Allows.{AllowsEnd, IsOnlyCall}
 use Rattle.laws_stands_on.specs.Once.{IsOnce}
-use Rattle.laws_stands_on.proofs.AnsweredLemmas.{ended_as, ended_work, ends_same, failed_as, least_is, none_built}
+use Rattle.laws_stands_on.proofs.AnsweredLemmas.{ended_as, ended_work, ends_same, none_built}
 use Rattle.laws_stands_on.proofs.AnsweredLemmas.{none_known, pinged_as, takes_as, takes_ping}
 
 module _ (told : Told) (was : Records) (it : Recorded) (n number worker : ℕ) (call : Call) (answer : Answer)
@@ -332,18 +324,6 @@ module _ (told : Told) (was : Records) (it : Recorded) (n number worker : ℕ) (
       ∙ sym (only_call.task_same told it b answer pinged only stands (λ it. filter
       (λ (name : SlotName). not (name.task == t) && is_in_deployment k it.dep name)
       k.machines) refl t)
-
-  -- what is recorded of a task
-  abbrev row_by : ℕ → Task → TaskRow
-  row_by t it = record {
-    task = t;
-    kind = it.kind;
-    dep = it.dep;
-    end = it.end;
-    source = it.source;
-    calls =
-        it.calls;
-  }
 
   work_is : (t : ℕ) → work_of ended t ≡ (if eqb n t then option_map (ended_work asked places fail) (work_of it t)
       else work_of it t)
