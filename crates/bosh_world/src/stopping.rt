@@ -52,9 +52,9 @@ impl<K: Keeper, L: Keeper> Site<K, L> {
     }
 }
 
-// Open calls that were not performed have their effects, in the order in which they began: the call in which the director stops, and with it the
-// others, as the trap says; as far as there is memory. Why the director stops; nothing, where there was no memory for the
-// first of them.
+// Open calls that were not performed have their effects, in the order in which they began: the call in which the director
+// stops, and with it the others, as the trap says; as far as there is memory. Why the director stops; nothing, where there
+// was no memory for the first of them.
 fn take_effects<K: Keeper, L: Keeper>(
     book: &Book<K>,
     cloud: &mut SimCloud<L>,
