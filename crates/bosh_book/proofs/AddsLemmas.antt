@@ -13,7 +13,7 @@ use Rattle.bosh_fold.specs.ArrivalsWith.{arrivals_with}
 use Rattle.bosh_fold.proofs.LearnsLemmas.{all_of_one, learned_comes, learned_on, one_learned}
 use Rattle.bosh_fold.specs.Learned.{learned}
 use Rattle.bosh_fold.specs.Learns.{IsAlike, Learns, LearnsAll}
-use Rattle.bosh_fold.specs.Planned.{IsPlanned}
+use Rattle.bosh_fold.specs.Planned.{IsPlanned, roomy_for}
 use Rattle.bosh_fold.specs.declared.change.Change.{Change}
 use Rattle.bosh_records.specs.Recorded.{recorded}
 use Rattle.bosh_records.specs.declared.records.Records.{Records}
@@ -115,13 +115,14 @@ more_added bodies faults first mid last one other was now = record {
 
 -- an entry that was planned and stored is learned
 pub note_added : {K : Type 0} (bodies : K → Option (List (List ℕ))) (faults : K → ℕ) (was now : Book K) (entry : Entry)
-    (roomy : Records) (change kept : Change) → IsPlanned was.records roomy entry change → IsAlike was.records roomy →
-    kept ≡ change → recorded now.records ≡ learned entry kept (recorded roomy) →
+    (roomy : Records) (change kept : Change) → IsPlanned was.records roomy entry change →
+    recorded roomy ≡ roomy_for was.records entry (recorded was.records) → IsAlike was.records roomy → kept ≡ change →
+    recorded now.records ≡ learned entry kept (recorded roomy) →
     Appends {T = Change} bodies faults (Ok kept) was.journal entry now.journal →
     now.standing ≡ was.standing → now.read ≡ was.read → now.mended ≡ was.mended → Adds bodies faults was (entry ∷ []) now
-note_added bodies faults was now entry roomy change kept planned alike same is appends standing read mended =
+note_added bodies faults was now entry roomy change kept planned room alike same is appends standing read mended =
     let learns : Learns was.records entry now.records =
-    one_learned was.records roomy now.records entry change planned alike
+    one_learned was.records roomy now.records entry change planned room alike
     (is ∙ ap (λ it. learned entry it (recorded roomy)) same) in
     record {
       entries = appends.entries;
