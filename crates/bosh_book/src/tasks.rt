@@ -177,6 +177,7 @@ impl<K: Keeper> Book<K> {
     ) -> Result<Option<Claim>, BookFault>
         requires begins { entry.now ≡ entries.Begin begin.now }
         requires for_begin { IsFor begin.now granted }
+        requires of_dep { dep_of self.old.records begin.now.owner ≡ Some granted.dep }
         requires whole { self.old.journal.is_broken ≡ false }
         ensures noted { Noted K.bodies K.faults entry.now (Some (claims.Work granted)) self.old result self.new }
         ensures notes { Notes K.bodies K.faults self.old result self.new }
