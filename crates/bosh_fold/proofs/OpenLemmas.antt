@@ -2,7 +2,7 @@
 use Rattle.std.proofs.Common.{◌≡◌, ◌∙◌, ℕ, Bool, true, false, List, [], ◌∷◌, Option, Some, None, refl, sym, ap, subst, arith}
 use Rattle.std.specs.Prelude.{cond, is_some, if◌then◌else◌}
 use Rattle.std.specs.BTreeMap.{insert_entry, is_at}
-use Rattle.std.specs.Map.{lookup, set_value}
+use Rattle.std.specs.Map.{set_value}
 use Rattle.std.specs.Option.{option_and_then, option_map, option_map_or}
 use Rattle.std.specs.Ordering.{is_eq, match_ordering, nat_cmp}
 use Rattle.std.specs.declared.cmp.Ordering.{Ordering}
@@ -21,7 +21,7 @@ use Rattle.bosh_plan.specs.declared.beginning.Subject.TheVariants as subjects
 use Rattle.bosh_records.specs.Changes.{with_disk_call, with_disk_doubt, with_one_call}
 use Rattle.bosh_records.specs.Readers.{call_at, orphan_at, task_at}
 use Rattle.bosh_records.specs.Recorded.{Recorded, recorded}
-use Rattle.bosh_records.specs.Table.{altered, changed, found, put_at, thing_in, with_room}
+use Rattle.bosh_records.specs.Table.{changed, found, put_at, thing_in, with_room}
 use Rattle.bosh_records.specs.declared.orphans.LooseDisk.{LooseDisk}
 use Rattle.bosh_records.specs.declared.records.Records.{Records}
 use Rattle.bosh_fold.specs.Calls.{with_call, with_compiling, with_subject}
@@ -265,7 +265,7 @@ module _ (was now : Records) (begin : Begin) where
       → option_and_then (λ (row : TaskRow). row.dep) (task_at now t) ≡ option_and_then (λ (row : TaskRow). row.dep) (task_at was t)
   tasks_stay it t = by it.change it.planned it.is_learned
     where
-      abbrev dep_in : List (ℕ × Option TaskRow) → Option (List ℕ)
+      dep_in : List (ℕ × Option TaskRow) → Option (List ℕ)
       dep_in places = option_and_then (λ (row : TaskRow). row.dep) (thing_in nat_cmp places t)
 
       by : (change : Change) → IsPlanned was it.roomy (entries.Begin begin) change
@@ -286,7 +286,7 @@ module _ (was now : Records) (begin : Begin) where
       ≡ option_map (λ (loose : LooseDisk). loose.orphan.inst.dep) (orphan_at was d)
   orphans_stay it d = by it.change it.planned it.is_learned
     where
-      abbrev read : Option LooseDisk → Option (List ℕ)
+      read : Option LooseDisk → Option (List ℕ)
       read loose = option_map (λ (it : LooseDisk). it.orphan.inst.dep) loose
 
       by : (change : Change) → IsPlanned was it.roomy (entries.Begin begin) change

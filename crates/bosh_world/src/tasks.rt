@@ -4,6 +4,7 @@ ghost use Rattle.bosh_book.specs.Faults.{IsClaimFault, IsEndFault, IsOpenFault};
 ghost use Rattle.bosh_world.specs.Refuses.{IsBooks, RefusesClaim, Refuses};
 ghost use Rattle.bosh_world.specs.Steps.{Claims, EndsTask, OpensTask, calls_claimed};
 ghost use Rattle.bosh_world.specs.Silent.{IsSilent, moves_of};
+ghost use Rattle.bosh_world.specs.Told.{IsGiven};
 
 use crate::halting::told;
 use crate::{Site, SiteFault};
@@ -39,6 +40,7 @@ impl<K: Keeper, L: Keeper> Site<K, L> {
     pub fn claim(&mut self, task: u64, worker: u8) -> Result<Claim, SiteFault>
         ensures claims { IfOk result (λ claim. Claims K.bodies K.faults self.old task worker claim self.new) }
         ensures calls { self.new.calls.unsettled ≡ calls_claimed result self.old.calls.unsettled }
+        ensures performable { IfOk result (IsGiven self.new) }
         ensures refused { IfErr result (λ fault. RefusesClaim K.bodies K.faults self.old fault self.new) }
         ensures fault { IfErr result (IsBooks (IsClaimFault self.old.book self.new.book)) }
         ensures grows { Extends (moves_of self.old) (moves_of self.new) }
@@ -55,6 +57,7 @@ impl<K: Keeper, L: Keeper> Site<K, L> {
         requires free { 1 ≤ self.old.calls.free }
         ensures claims { IfOk result (λ claim. Claims K.bodies K.faults self.old task worker claim self.new) }
         ensures calls { self.new.calls.unsettled ≡ calls_claimed result self.old.calls.unsettled }
+        ensures performable { IfOk result (IsGiven self.new) }
         ensures refused { IfErr result (λ fault. RefusesClaim K.bodies K.faults self.old fault self.new) }
         ensures fault { IfErr result (IsBooks (IsClaimFault self.old.book self.new.book)) }
         ensures grows { Extends (moves_of self.old) (moves_of self.new) }

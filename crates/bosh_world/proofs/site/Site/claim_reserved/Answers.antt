@@ -1,6 +1,6 @@
 use Rattle.bosh_book.specs.Faults.{IsClaimFault}
 use Rattle.bosh_ports.specs.Rigged.{faults_of}
-use Rattle.bosh_world.proofs.CallLemmas.{books_told, claim_refused, claims_told, follows_at, not_stopped, site_stays}
+use Rattle.bosh_world.proofs.CallLemmas.{books_told, claim_refused, claims_told, follows_at, given_told, not_stopped, site_stays}
 use Rattle.bosh_world.specs.Faults.{halt_of}
 use Rattle.bosh_world.proofs.site.Site.claim_reserved.Goals as goal
 
@@ -30,6 +30,12 @@ returns-clause-claims g c =
     (follows_at c.args.self.now.history c.told.new.history c.claim-claimed.new.self.journal.entries c.entries.result.now
     c.args.self.now.cloud.effects c.effects.result.now (halt_of c.sprung.result c.claim-claimed.result) c.entries.ensures
     c.effects.ensures c.told.ensures.follows)
+
+pub returns-clause-performable : goal.returns-clause-performable
+returns-clause-performable g c =
+    given_told g.K.Keeper.bodies g.K.Keeper.faults c.args.self.now _ c.told.result c.claim-claimed.result c.sprung.result
+    c.told.ensures.answer (c.args.self.now.is_site.book_runs c.requires.running) c.claim-claimed.ensures.notes
+    c.begin_given.ensures
 
 pub returns-clause-refused : goal.returns-clause-refused
 returns-clause-refused g c =

@@ -30,12 +30,12 @@ returns-in-Ok-clause-settled g c =
     })
     c.in-Ok.ensures.ok
     (follows_at c.args.self.now.history c.follow.new.self c.settle.new.self.journal.entries c.entries.result.now
-    c.args.self.now.cloud.effects c.effects.result.now None c.entries.ensures c.effects.ensures c.follow.ensures)
+    c.args.self.now.cloud.effects c.effects.result.now None c.entries.ensures c.effects.ensures c.follow.ensures.follows)
 
 pub returns-in-Ok-clause-silent : goal.returns-in-Ok-clause-silent
 returns-in-Ok-clause-silent g c =
     follows_silent c.args.self.now.history c.follow.new.self c.entries.result.now c.effects.result.now None
-    c.follow.ensures
+    c.follow.ensures.follows
 
 pub returns-in-Err-clause-refused : goal.returns-in-Err-clause-refused
 returns-in-Err-clause-refused g c = (
