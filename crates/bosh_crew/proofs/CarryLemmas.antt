@@ -1,71 +1,87 @@
 -- Steps of a worker, one after the other.
 use Rattle.std.proofs.Common.{◌≡◌, ◌<◌, ℕ, zero, suc, Option, List, [], ◌∷◌, Result, Ok, Err, arith, inl, inr, length, refl, slice_index_or, subst, sym}
 use Rattle.std.specs.Prelude.{◌⊎◌, Contains}
-use Rattle.bosh_crew.specs.Carried.{GoesRound, IsLeft, IsStopped, Reaches, Steps, Stops}
+use Rattle.bosh_crew.specs.Carried.{Advances, GoesRound, IsLeft, IsStopped, Reaches, Steps, Stops}
 use Rattle.bosh_crew.specs.Carried.Reaches.{stays, steps}
 use Rattle.bosh_crew.specs.declared.driver.Round.{Round}
 use Rattle.bosh_crew.specs.declared.driver.Round.TheVariants as rounds
+use Rattle.bosh_crew.specs.declared.step.Step.{Step}
+use Rattle.bosh_crew.specs.declared.step.Step.TheVariants as step
 use Rattle.bosh_ports.specs.declared.keeper.Keeper as keeper
 use Rattle.bosh_world.specs.declared.fault.SiteFault.{SiteFault}
 use Rattle.bosh_world.specs.declared.site.Site.{Site}
 
 -- one step
 pub reached_one : {K L : Type 0} {k : keeper.Ghosts K} {l : keeper.Ghosts L} (bodies : K → Option (List (List ℕ)))
-    (faults : K → ℕ) (cloud_bodies : L → Option (List (List ℕ))) (cloud_faults : L → ℕ) (tasks : List ℕ)
-    (was now : Site K L k l) → Steps bodies faults cloud_bodies cloud_faults tasks was now →
-    Reaches bodies faults cloud_bodies cloud_faults tasks was now
-reached_one bodies faults cloud_bodies cloud_faults tasks was now step =
+    (faults : K → ℕ) (cloud_bodies : L → Option (List (List ℕ))) (cloud_faults : L → ℕ) (tasks : List ℕ) (worker : ℕ)
+    (was now : Site K L k l) → Steps bodies faults cloud_bodies cloud_faults tasks worker was now →
+    Reaches bodies faults cloud_bodies cloud_faults tasks worker was now
+reached_one bodies faults cloud_bodies cloud_faults tasks worker was now step =
     steps was now now step (stays now)
 
 -- steps after steps
 pub reached_then : {K L : Type 0} {k : keeper.Ghosts K} {l : keeper.Ghosts L} (bodies : K → Option (List (List ℕ)))
-    (faults : K → ℕ) (cloud_bodies : L → Option (List (List ℕ))) (cloud_faults : L → ℕ) (tasks : List ℕ)
-    (was mid now : Site K L k l) → Reaches bodies faults cloud_bodies cloud_faults tasks was mid →
-    Reaches bodies faults cloud_bodies cloud_faults tasks mid now →
-    Reaches bodies faults cloud_bodies cloud_faults tasks was now
-reached_then bodies faults cloud_bodies cloud_faults tasks was mid now (stays site) rest = rest
-reached_then bodies faults cloud_bodies cloud_faults tasks was mid now (steps first next last step more) rest =
-    steps first next now step (reached_then bodies faults cloud_bodies cloud_faults tasks next last now more rest)
+    (faults : K → ℕ) (cloud_bodies : L → Option (List (List ℕ))) (cloud_faults : L → ℕ) (tasks : List ℕ) (worker : ℕ)
+    (was mid now : Site K L k l) → Reaches bodies faults cloud_bodies cloud_faults tasks worker was mid →
+    Reaches bodies faults cloud_bodies cloud_faults tasks worker mid now →
+    Reaches bodies faults cloud_bodies cloud_faults tasks worker was now
+reached_then bodies faults cloud_bodies cloud_faults tasks worker was mid now (stays site) rest = rest
+reached_then bodies faults cloud_bodies cloud_faults tasks worker was mid now (steps first next last step more) rest =
+    steps first next now step (reached_then bodies faults cloud_bodies cloud_faults tasks worker next last now more rest)
 
 -- a round after steps
 pub round_then : {K L : Type 0} {k : keeper.Ghosts K} {l : keeper.Ghosts L} (bodies : K → Option (List (List ℕ)))
-    (faults : K → ℕ) (cloud_bodies : L → Option (List (List ℕ))) (cloud_faults : L → ℕ) (tasks : List ℕ)
+    (faults : K → ℕ) (cloud_bodies : L → Option (List (List ℕ))) (cloud_faults : L → ℕ) (tasks : List ℕ) (worker : ℕ)
     (was mid now : Site K L k l) (result : Result Round SiteFault) →
-    Reaches bodies faults cloud_bodies cloud_faults tasks was mid →
-    GoesRound bodies faults cloud_bodies cloud_faults tasks mid result now →
-    GoesRound bodies faults cloud_bodies cloud_faults tasks was result now
-round_then bodies faults cloud_bodies cloud_faults tasks was mid now (Ok round) before goes =
-    (reached_then bodies faults cloud_bodies cloud_faults tasks was mid now before goes.0, goes.1)
-round_then bodies faults cloud_bodies cloud_faults tasks was mid now (Err fault) before goes =
-    (goes.0, reached_then bodies faults cloud_bodies cloud_faults tasks was mid goes.0 before goes.1, goes.2)
+    Reaches bodies faults cloud_bodies cloud_faults tasks worker was mid →
+    GoesRound bodies faults cloud_bodies cloud_faults tasks worker mid result now →
+    GoesRound bodies faults cloud_bodies cloud_faults tasks worker was result now
+round_then bodies faults cloud_bodies cloud_faults tasks worker was mid now (Ok round) before goes =
+    (reached_then bodies faults cloud_bodies cloud_faults tasks worker was mid now before goes.0, goes.1)
+round_then bodies faults cloud_bodies cloud_faults tasks worker was mid now (Err fault) before goes =
+    (goes.0, reached_then bodies faults cloud_bodies cloud_faults tasks worker was mid goes.0 before goes.1, goes.2)
+
+-- what a worker does after one step
+pub advance_after : {K L : Type 0} {k : keeper.Ghosts K} {l : keeper.Ghosts L} (bodies : K → Option (List (List ℕ)))
+    (faults : K → ℕ) (cloud_bodies : L → Option (List (List ℕ))) (cloud_faults : L → ℕ) (tasks : List ℕ) (worker : ℕ)
+    (task : ℕ) (was mid now : Site K L k l) (result : Result Step SiteFault) →
+    Steps bodies faults cloud_bodies cloud_faults tasks worker was mid →
+    Advances bodies faults cloud_bodies cloud_faults tasks worker task mid result now →
+    Advances bodies faults cloud_bodies cloud_faults tasks worker task was result now
+advance_after bodies faults cloud_bodies cloud_faults tasks worker task was mid now (Ok (step.Moved place)) taken goes =
+    steps was mid now taken goes
+advance_after bodies faults cloud_bodies cloud_faults tasks worker task was mid now (Ok step.Waits) taken goes =
+    (steps was mid now taken goes.0, goes.1)
+advance_after bodies faults cloud_bodies cloud_faults tasks worker task was mid now (Err fault) taken goes =
+    (goes.0, steps was mid goes.0 taken goes.1, goes.2)
 
 -- a round after one step
 pub round_after : {K L : Type 0} {k : keeper.Ghosts K} {l : keeper.Ghosts L} (bodies : K → Option (List (List ℕ)))
-    (faults : K → ℕ) (cloud_bodies : L → Option (List (List ℕ))) (cloud_faults : L → ℕ) (tasks : List ℕ)
+    (faults : K → ℕ) (cloud_bodies : L → Option (List (List ℕ))) (cloud_faults : L → ℕ) (tasks : List ℕ) (worker : ℕ)
     (was mid now : Site K L k l) (result : Result Round SiteFault) →
-    Steps bodies faults cloud_bodies cloud_faults tasks was mid →
-    GoesRound bodies faults cloud_bodies cloud_faults tasks mid result now →
-    GoesRound bodies faults cloud_bodies cloud_faults tasks was result now
-round_after bodies faults cloud_bodies cloud_faults tasks was mid now result step goes =
-    round_then bodies faults cloud_bodies cloud_faults tasks was mid now result
-    (reached_one bodies faults cloud_bodies cloud_faults tasks was mid step) goes
+    Steps bodies faults cloud_bodies cloud_faults tasks worker was mid →
+    GoesRound bodies faults cloud_bodies cloud_faults tasks worker mid result now →
+    GoesRound bodies faults cloud_bodies cloud_faults tasks worker was result now
+round_after bodies faults cloud_bodies cloud_faults tasks worker was mid now result step goes =
+    round_then bodies faults cloud_bodies cloud_faults tasks worker was mid now result
+    (reached_one bodies faults cloud_bodies cloud_faults tasks worker was mid step) goes
 
 -- the worker is stopped at once
 pub stopped_at_once : {K L : Type 0} {k : keeper.Ghosts K} {l : keeper.Ghosts L} (bodies : K → Option (List (List ℕ)))
-    (faults : K → ℕ) (cloud_bodies : L → Option (List (List ℕ))) (cloud_faults : L → ℕ) (tasks : List ℕ)
+    (faults : K → ℕ) (cloud_bodies : L → Option (List (List ℕ))) (cloud_faults : L → ℕ) (tasks : List ℕ) (worker : ℕ)
     (was : Site K L k l) (fault : SiteFault) (now : Site K L k l) →
-    Stops bodies faults cloud_bodies cloud_faults tasks was fault now →
-    IsStopped bodies faults cloud_bodies cloud_faults tasks was fault now
-stopped_at_once bodies faults cloud_bodies cloud_faults tasks was fault now stops = (was, stays was, stops)
+    Stops bodies faults cloud_bodies cloud_faults tasks worker was fault now →
+    IsStopped bodies faults cloud_bodies cloud_faults tasks worker was fault now
+stopped_at_once bodies faults cloud_bodies cloud_faults tasks worker was fault now stops = (was, stays was, stops)
 
 -- after a step for one task a round waits only where that step does
 pub left_by : {K L : Type 0} {k : keeper.Ghosts K} {l : keeper.Ghosts L} (bodies : K → Option (List (List ℕ)))
-    (faults : K → ℕ) (tasks : List ℕ) (round step : Round) (now : Site K L k l) →
-    (round ≡ rounds.Moved) ⊎ (round ≡ step) → IsLeft bodies faults tasks step now → IsLeft bodies faults tasks round now
-left_by bodies faults tasks round step now (inl moved) left =
-    subst (λ (r : Round). IsLeft bodies faults tasks r now) (sym moved) tt
-left_by bodies faults tasks round step now (inr same) left =
-    subst (λ (r : Round). IsLeft bodies faults tasks r now) (sym same) left
+    (faults : K → ℕ) (tasks : List ℕ) (worker : ℕ) (round step : Round) (now : Site K L k l) →
+    (round ≡ rounds.Moved) ⊎ (round ≡ step) → IsLeft bodies faults tasks worker step now → IsLeft bodies faults tasks worker round now
+left_by bodies faults tasks worker round step now (inl moved) left =
+    subst (λ (r : Round). IsLeft bodies faults tasks worker r now) (sym moved) tt
+left_by bodies faults tasks worker round step now (inr same) left =
+    subst (λ (r : Round). IsLeft bodies faults tasks worker r now) (sym same) left
 
 -- what stands at a place, whatever would be there past the end
 same_at : (xs : List ℕ) (place a b : ℕ) → place < length xs → slice_index_or xs place a ≡ slice_index_or xs place b
