@@ -6,12 +6,14 @@ use Rattle.bosh_base.specs.declared.answer.Answer.{Answer}
 use Rattle.bosh_base.specs.declared.task.TaskEnd.{TaskEnd}
 use Rattle.bosh_book.specs.Faults.{IsClaimFault, IsEndFault, MayEnd}
 use Rattle.bosh_book.specs.declared.claim.Claim.{Claim}
-use Rattle.bosh_book.specs.declared.claim.Claim.TheVariants.{Wait}
+use Rattle.bosh_book.specs.declared.claim.Claim.TheVariants.{Over, Wait, Work}
 use Rattle.bosh_book.specs.declared.granted.Granted.{Granted}
 use Rattle.bosh_calls.specs.Calls.{without}
 use Rattle.bosh_crew.specs.Driven.{AreEnded}
 use Rattle.bosh_crew.specs.declared.driver.Round.{Round}
 use Rattle.bosh_crew.specs.declared.driver.Round.TheVariants as rounds
+use Rattle.bosh_crew.specs.declared.place.Place.{Place}
+use Rattle.bosh_crew.specs.declared.place.Place.TheVariants as places
 use Rattle.bosh_crew.specs.declared.step.Step.{Step}
 use Rattle.bosh_crew.specs.declared.step.Step.TheVariants as step
 use Rattle.bosh_ports.specs.declared.keeper.Keeper as keeper
@@ -97,16 +99,45 @@ abbrev pub IsLeft : {K L : Type 0} {k : keeper.Ghosts K} {l : keeper.Ghosts L} �
 IsLeft bodies faults tasks worker (rounds.Waits task) now = IsWaiting bodies faults tasks worker task now
 IsLeft bodies faults tasks worker round now = Unit {0}
 
--- a step of a worker for a task: it comes to something, waits, or is stopped
+-- work of the task was claimed, and this was answered
+abbrev pub HasClaimed : {K L : Type 0} {k : keeper.Ghosts K} {l : keeper.Ghosts L} → (K → Option (List (List ℕ))) →
+    (K → ℕ) → ℕ → ℕ → Site K L k l → Claim → Site K L k l → Type 0
+HasClaimed bodies faults task worker was claim now =
+    Claims bodies faults was task worker claim now
+    × (now.calls.unsettled ≡ calls_claimed {F = SiteFault} (Ok claim) was.calls.unsettled)
+
+-- a task that is over ends, and nothing is at hand then; or that is refused
+abbrev pub Ends : {K L : Type 0} {k : keeper.Ghosts K} {l : keeper.Ghosts L} → (K → Option (List (List ℕ))) → (K → ℕ) →
+    (L → Option (List (List ℕ))) → (L → ℕ) → ℕ → Site K L k l → Result Step SiteFault → Site K L k l → Type 0
+Ends bodies faults cloud_bodies cloud_faults task was (Ok (step.Moved places.Empty)) now =
+    (end : TaskEnd) × EndsTask bodies faults was task end now × (now.calls ≡ was.calls)
+Ends bodies faults cloud_bodies cloud_faults task was (Ok step) now = ⊥
+Ends bodies faults cloud_bodies cloud_faults task was (Err fault) now =
+    (tasks : List ℕ) (worker : ℕ) → Contains tasks task →
+    Stops bodies faults cloud_bodies cloud_faults tasks worker was fault now
+
+-- The next step of a worker for a task. With nothing at hand it claims: it is given a call, has to wait, or ends the task,
+-- which is over. With a call that it was given it performs that one, and holds it; with one that it holds it settles that
+-- one. Else it is stopped in one of these.
 abbrev pub Advances : {K L : Type 0} {k : keeper.Ghosts K} {l : keeper.Ghosts L} → (K → Option (List (List ℕ))) → (K → ℕ) →
-    (L → Option (List (List ℕ))) → (L → ℕ) → List ℕ → ℕ → ℕ → Site K L k l → Result Step SiteFault → Site K L k l → Type 0
-Advances bodies faults cloud_bodies cloud_faults tasks worker task was (Ok (step.Moved place)) now =
-    Reaches bodies faults cloud_bodies cloud_faults tasks worker was now
-Advances bodies faults cloud_bodies cloud_faults tasks worker task was (Ok step.Waits) now =
-    Reaches bodies faults cloud_bodies cloud_faults tasks worker was now
-    × IsWaiting bodies faults tasks worker task now
-Advances bodies faults cloud_bodies cloud_faults tasks worker task was (Err fault) now =
+    (L → Option (List (List ℕ))) → (L → ℕ) → ℕ → ℕ → Site K L k l → Place → Result Step SiteFault → Site K L k l → Type 0
+Advances bodies faults cloud_bodies cloud_faults task worker was places.Empty (Ok (step.Moved (places.Granted permit))) now =
+    HasClaimed bodies faults task worker was (Work permit) now
+Advances bodies faults cloud_bodies cloud_faults task worker was places.Empty (Ok step.Waits) now =
+    HasClaimed bodies faults task worker was Wait now
+Advances {K} {L} {k} {l} bodies faults cloud_bodies cloud_faults task worker was places.Empty (Ok (step.Moved places.Empty)) now =
+    (mid : Site K L k l) × HasClaimed bodies faults task worker was Over mid
+    × ((end : TaskEnd) × EndsTask bodies faults mid task end now × (now.calls ≡ mid.calls))
+Advances bodies faults cloud_bodies cloud_faults task worker was (places.Granted permit) (Ok (step.Moved (places.Held call))) now =
+    (call.permit ≡ permit) × Performs cloud_bodies cloud_faults was permit call.answer now
+Advances bodies faults cloud_bodies cloud_faults task worker was (places.Held call) (Ok (step.Moved places.Empty)) now =
+    MayEnd was.book call.permit call.answer
+    × Notes bodies faults was (entries.End (record { n = call.permit.n; answer = call.answer }) ∷ []) None now
+    × (now.calls.unsettled ≡ without call.permit.n was.calls.unsettled)
+Advances bodies faults cloud_bodies cloud_faults task worker was place (Err fault) now =
+    (tasks : List ℕ) → Contains tasks task →
     IsStopped bodies faults cloud_bodies cloud_faults tasks worker was fault now
+Advances bodies faults cloud_bodies cloud_faults task worker was place (Ok step) now = ⊥
 
 -- a round of steps for tasks
 abbrev pub GoesRound : {K L : Type 0} {k : keeper.Ghosts K} {l : keeper.Ghosts L} → (K → Option (List (List ℕ))) → (K → ℕ) →

@@ -1,5 +1,5 @@
 -- What a worker has at hand.
-use Rattle.std.specs.Prelude.{◌≡◌, ◌⊎◌, ◌<◌, ℕ}
+use Rattle.std.specs.Prelude.{ℕ}
 use Rattle.bosh_crew.specs.declared.place.Place.{Place}
 use Rattle.bosh_crew.specs.declared.place.Place.TheVariants.{Empty, Granted, Held}
 use Rattle.bosh_crew.specs.declared.step.Step.{Step}
@@ -25,8 +25,3 @@ abbrev pub steps_left : Place → ℕ
 steps_left Empty = 3
 steps_left (Granted permit) = 2
 steps_left (Held call) = 1
-
--- after a step nothing is at hand, or fewer steps are left
-abbrev pub IsNearer : Place → Step → Type 0
-IsNearer place (Moved next) = (next ≡ Empty) ⊎ (steps_left next < steps_left place)
-IsNearer place Waits = Unit {0}

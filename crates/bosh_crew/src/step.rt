@@ -1,7 +1,7 @@
-ghost use Rattle.std.specs.Prelude.{◌≡◌, ℕ, Contains, IfErr, IfOk, List};
-ghost use Rattle.bosh_crew.specs.Carried.{Advances};
+ghost use Rattle.std.specs.Prelude.{ℕ, IfErr, IfOk};
+ghost use Rattle.bosh_crew.specs.Carried.{Advances, Ends};
 ghost use Rattle.bosh_crew.specs.Driven.{Goes, IsStuck};
-ghost use Rattle.bosh_crew.specs.Places.{IsAt, IsAtAfter, IsNearer};
+ghost use Rattle.bosh_crew.specs.Places.{IsAt, IsAtAfter};
 ghost use Rattle.bosh_crew.specs.declared.place.Place.TheVariants.{Empty, Granted, Held};
 ghost use Rattle.bosh_world.specs.Holds.{IsHeld};
 ghost use Rattle.bosh_world.specs.Silent.{IsSilent};
@@ -30,10 +30,8 @@ pub fn advance<K: Keeper, L: Keeper>(
     worker: u8,
 ) -> Result<Step, SiteFault>
     requires { IsAt site.old place }
-    ensures advances { (tasks : List ℕ) → Contains tasks task → Advances K.bodies K.faults L.bodies L.faults
-        tasks worker task site.old result site.new }
+    ensures advances { Advances K.bodies K.faults L.bodies L.faults task worker site.old place result site.new }
     ensures at { IfOk result (IsAtAfter site.new) }
-    ensures nearer { IfOk result (IsNearer place) }
     ensures goes { Goes site.old site.new }
     ensures silent { IsSilent site.old site.new }
     ensures stuck { IfErr result (IsStuck site.new) }
@@ -51,10 +49,8 @@ fn claim<K: Keeper, L: Keeper>(
     task: u64,
     worker: u8,
 ) -> Result<Step, SiteFault>
-    ensures advances { (tasks : List ℕ) → Contains tasks task → Advances K.bodies K.faults L.bodies L.faults
-        tasks worker task site.old result site.new }
+    ensures advances { Advances K.bodies K.faults L.bodies L.faults task worker site.old Empty result site.new }
     ensures at { IfOk result (IsAtAfter site.new) }
-    ensures nearer { IfOk result (IsNearer Empty) }
     ensures goes { Goes site.old site.new }
     ensures silent { IsSilent site.old site.new }
     ensures stuck { IfErr result (IsStuck site.new) }
@@ -68,10 +64,8 @@ fn claim<K: Keeper, L: Keeper>(
 }
 
 fn end<K: Keeper, L: Keeper>(site: &mut Site<K, L>, task: u64) -> Result<Step, SiteFault>
-    ensures advances { (tasks : List ℕ) (worker : ℕ) → Contains tasks task
-        → Advances K.bodies K.faults L.bodies L.faults tasks worker task site.old result site.new }
+    ensures ends { Ends K.bodies K.faults L.bodies L.faults task site.old result site.new }
     ensures at { IfOk result (IsAtAfter site.new) }
-    ensures nearer { IfOk result (IsNearer Empty) }
     ensures goes { Goes site.old site.new }
     ensures silent { IsSilent site.old site.new }
     ensures stuck { IfErr result (IsStuck site.new) }
@@ -88,10 +82,9 @@ fn perform<K: Keeper, L: Keeper>(
     permit: Permit,
 ) -> Result<Step, SiteFault>
     requires { IsPerformable site.old permit }
-    ensures advances { (tasks : List ℕ) (worker task : ℕ) → Advances K.bodies K.faults L.bodies L.faults
-        tasks worker task site.old result site.new }
+    ensures advances { (task worker : ℕ) → Advances K.bodies K.faults L.bodies L.faults
+        task worker site.old (Granted permit) result site.new }
     ensures at { IfOk result (IsAtAfter site.new) }
-    ensures nearer { IfOk result (IsNearer (Granted permit)) }
     ensures goes { Goes site.old site.new }
     ensures silent { IsSilent site.old site.new }
     ensures stuck { IfErr result (IsStuck site.new) }
@@ -108,10 +101,9 @@ fn perform<K: Keeper, L: Keeper>(
 // Notes the answer of a call. Where that is refused, the call is given up.
 fn settle<K: Keeper, L: Keeper>(site: &mut Site<K, L>, call: HeldCall) -> Result<Step, SiteFault>
     requires { IsHeld site.old call }
-    ensures advances { (tasks : List ℕ) (worker task : ℕ) → Advances K.bodies K.faults L.bodies L.faults
-        tasks worker task site.old result site.new }
+    ensures advances { (task worker : ℕ) → Advances K.bodies K.faults L.bodies L.faults
+        task worker site.old (Held call) result site.new }
     ensures at { IfOk result (IsAtAfter site.new) }
-    ensures nearer { IfOk result (IsNearer (Held call)) }
     ensures goes { Goes site.old site.new }
     ensures silent { IsSilent site.old site.new }
     ensures stuck { IfErr result (IsStuck site.new) }

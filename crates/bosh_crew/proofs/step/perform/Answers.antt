@@ -1,23 +1,16 @@
-use Rattle.std.proofs.Common.{arith, inr, subst, sym}
+use Rattle.std.proofs.Common.{subst, sym}
 use Rattle.bosh_book.specs.declared.granted.Granted.{Granted}
-use Rattle.bosh_crew.proofs.CarryLemmas.{reached_one, stopped_at_once}
-use Rattle.bosh_crew.specs.Carried.Steps.{performs}
+use Rattle.bosh_crew.proofs.CarryLemmas.{stopped_at_once}
 use Rattle.bosh_crew.specs.Carried.Stops.{in_call}
 use Rattle.bosh_world.specs.Performing.{RefusesToPerform}
 use Rattle.bosh_world.specs.Told.{IsPerformable}
 use Rattle.bosh_crew.proofs.step.perform.Goals as goal
 
 pub returns-in-Ok-clause-advances : goal.returns-in-Ok-clause-advances
-returns-in-Ok-clause-advances g c = λ tasks worker task.
-    reached_one g.K.Keeper.bodies g.K.Keeper.faults g.L.Keeper.bodies g.L.Keeper.faults tasks worker c.args.site.now
-    c.perform.new.self
-    (performs c.args.permit c.in-Ok.call.answer c.in-Ok.ensures.performable c.in-Ok.ensures.performed.1)
-
-pub returns-in-Ok-clause-nearer : goal.returns-in-Ok-clause-nearer
-returns-in-Ok-clause-nearer g c = inr (omega arith)
+returns-in-Ok-clause-advances g c = λ task worker. c.in-Ok.ensures.performed
 
 pub returns-in-Err-clause-advances : goal.returns-in-Err-clause-advances
-returns-in-Err-clause-advances g c = λ tasks worker task.
+returns-in-Err-clause-advances g c = λ task worker tasks there.
     stopped_at_once g.K.Keeper.bodies g.K.Keeper.faults g.L.Keeper.bodies g.L.Keeper.faults tasks worker c.args.site.now
     c.in-Err.fault c.abandon.new.self
     (in_call c.in-Err.permit c.perform.new.self

@@ -1,6 +1,5 @@
 use Rattle.std.proofs.Common.{subst, sym}
-use Rattle.bosh_crew.proofs.CarryLemmas.{reached_one, stopped_at_once}
-use Rattle.bosh_crew.specs.Carried.Steps.{settles}
+use Rattle.bosh_crew.proofs.CarryLemmas.{stopped_at_once}
 use Rattle.bosh_crew.specs.Carried.Stops.{in_settling}
 use Rattle.bosh_world.specs.Holds.{IsHeld}
 use Rattle.bosh_world.specs.Refuses.{IsUnheld}
@@ -8,13 +7,11 @@ use Rattle.bosh_world.specs.declared.held.HeldCall.{HeldCall}
 use Rattle.bosh_crew.proofs.step.settle.Goals as goal
 
 pub returns-in-Ok-clause-advances : goal.returns-in-Ok-clause-advances
-returns-in-Ok-clause-advances g c = λ tasks worker task.
-    reached_one g.K.Keeper.bodies g.K.Keeper.faults g.L.Keeper.bodies g.L.Keeper.faults tasks worker c.args.site.now
-    c.settle.new.self
-    (settles c.args.call c.in-Ok.ensures.held c.in-Ok.ensures.may_end c.in-Ok.ensures.settled c.in-Ok.ensures.calls)
+returns-in-Ok-clause-advances g c = λ task worker.
+    (c.in-Ok.ensures.may_end, c.in-Ok.ensures.settled, c.in-Ok.ensures.calls)
 
 pub returns-in-Err-clause-advances : goal.returns-in-Err-clause-advances
-returns-in-Err-clause-advances g c = λ tasks worker task.
+returns-in-Err-clause-advances g c = λ task worker tasks there.
     stopped_at_once g.K.Keeper.bodies g.K.Keeper.faults g.L.Keeper.bodies g.L.Keeper.faults tasks worker c.args.site.now
     c.in-Err.fault c.abandon_held.new.self
     (in_settling c.in-Err.call c.settle.new.self
