@@ -77,10 +77,7 @@ fn end<K: Keeper, L: Keeper>(site: &mut Site<K, L>, task: u64) -> Result<Step, S
 }
 
 // Makes the call of a permit. Where that is refused, the call is given up.
-fn perform<K: Keeper, L: Keeper>(
-    site: &mut Site<K, L>,
-    permit: Permit,
-) -> Result<Step, SiteFault>
+fn perform<K: Keeper, L: Keeper>(site: &mut Site<K, L>, permit: Permit) -> Result<Step, SiteFault>
     requires { IsPerformable site.old permit }
     ensures advances { (task worker : ℕ) → Advances K.bodies K.faults L.bodies L.faults
         task worker site.old (Granted permit) result site.new }
