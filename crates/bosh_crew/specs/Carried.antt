@@ -19,6 +19,7 @@ use Rattle.bosh_crew.specs.declared.step.Step.TheVariants as step
 use Rattle.bosh_ports.specs.declared.keeper.Keeper as keeper
 use Rattle.bosh_world.specs.Abandons.{Abandons}
 use Rattle.bosh_world.specs.Holds.{IsHeld}
+use Rattle.bosh_world.specs.Pending.{IsAllowed, IsClaimed, IsClosing, Pends}
 use Rattle.bosh_world.specs.Performing.{Performs, RefusesToPerform}
 use Rattle.bosh_world.specs.Refuses.{IsBooks, IsUnheld, Refuses, RefusesClaim}
 use Rattle.bosh_world.specs.Steps.{Claims, EndsTask, Notes, calls_claimed}
@@ -73,14 +74,18 @@ pub data Stops {K L : Type 0} {k : keeper.Ghosts K} {l : keeper.Ghosts L}
   where
     in_claim : (task : ℕ) → Contains tasks task → RefusesClaim bodies faults was fault now →
         IsBooks (IsClaimFault was.book now.book) fault → now.calls.unsettled ≡ was.calls.unsettled →
+        Pends was (IsClaimed bodies faults task worker was) now →
         Stops bodies faults cloud_bodies cloud_faults tasks worker was fault now
     in_call : (permit : Granted) (mid : Site K L k l) → IsPerformable was permit → RefusesToPerform cloud_bodies cloud_faults was permit fault mid →
         Abandons mid permit now → Stops bodies faults cloud_bodies cloud_faults tasks worker was fault now
     in_settling : (call : HeldCall) (mid : Site K L k l) → IsHeld was call → Refuses bodies faults was [] fault mid →
-        IsUnheld was call fault → mid.calls.unsettled ≡ was.calls.unsettled → Abandons mid call.permit now →
+        IsUnheld was call fault → mid.calls.unsettled ≡ was.calls.unsettled →
+        Pends was (IsAllowed (MayEnd was.book call.permit call.answer)
+        (entries.End (record { n = call.permit.n; answer = call.answer }))) mid → Abandons mid call.permit now →
         Stops bodies faults cloud_bodies cloud_faults tasks worker was fault now
     in_end : (task : ℕ) → Contains tasks task → Refuses bodies faults was [] fault now →
         IsBooks (IsEndFault was.book task) fault → now.calls ≡ was.calls →
+        Pends was (IsClosing was.book.records task) now →
         Stops bodies faults cloud_bodies cloud_faults tasks worker was fault now
     waits : (task : ℕ) → IsWaiting bodies faults tasks worker task was → fault ≡ Book (book.Locked task) → now ≡ was →
         Stops bodies faults cloud_bodies cloud_faults tasks worker was fault now

@@ -32,4 +32,5 @@ pub returns-in-Err-clause-advances : goal.returns-in-Err-clause-advances
 returns-in-Err-clause-advances g c = λ tasks there.
     stopped_at_once g.K.Keeper.bodies g.K.Keeper.faults g.L.Keeper.bodies g.L.Keeper.faults tasks c.args.worker
     c.args.site.now c.in-Err.fault c.claim.new.self
-    (in_claim c.args.task there c.in-Err.ensures.refused c.in-Err.ensures.fault c.in-Err.ensures.calls)
+    (in_claim c.args.task there c.in-Err.ensures.refused c.in-Err.ensures.fault c.in-Err.ensures.calls
+    c.in-Err.ensures.pending)

@@ -7,3 +7,4 @@ returns-in-Ok-clause-ends g c = (c.in-Ok.field-0, c.in-Ok.ensures.ends, c.in-Ok.
 pub returns-clause-ends : goal.returns-clause-ends
 returns-clause-ends g c = λ tasks worker there.
     in_end c.args.task there c.in-Err.ensures.refused c.in-Err.ensures.fault c.in-Err.ensures.calls
+    c.in-Err.ensures.pending

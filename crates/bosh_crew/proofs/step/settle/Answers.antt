@@ -1,7 +1,10 @@
 use Rattle.std.proofs.Common.{subst, sym}
+use Rattle.bosh_base.specs.declared.entry.Entry.TheVariants as entries
+use Rattle.bosh_book.specs.Faults.{MayEnd}
 use Rattle.bosh_crew.proofs.CarryLemmas.{stopped_at_once}
 use Rattle.bosh_crew.specs.Carried.Stops.{in_settling}
 use Rattle.bosh_world.specs.Holds.{IsHeld}
+use Rattle.bosh_world.specs.Pending.{IsAllowed, Pends}
 use Rattle.bosh_world.specs.Refuses.{IsUnheld}
 use Rattle.bosh_world.specs.declared.held.HeldCall.{HeldCall}
 use Rattle.bosh_crew.proofs.step.settle.Goals as goal
@@ -19,4 +22,8 @@ returns-in-Err-clause-advances g c = λ task worker tasks there.
     c.in-Err.ensures.refused.1
     (subst (λ (call : HeldCall). IsUnheld c.args.site.now call c.in-Err.fault) (sym c.in-Err.ensures.refused.0)
     c.in-Err.ensures.fault) c.in-Err.ensures.calls
+    (subst (λ (call : HeldCall). Pends c.args.site.now (IsAllowed
+    (MayEnd c.args.site.now.book call.permit call.answer)
+    (entries.End (record { n = call.permit.n; answer = call.answer }))) c.settle.new.self)
+    (sym c.in-Err.ensures.refused.0) c.in-Err.ensures.pending)
     c.abandon_held.ensures.abandons)
