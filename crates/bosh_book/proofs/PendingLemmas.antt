@@ -125,14 +125,12 @@ turns_pending {K} bodies faults task worker (suc room) was now (turned, mid, tur
     more : (entry : Entry) → IsUpdate entry → Adds bodies faults was (entry ∷ []) mid →
         (next : Entry) × IsNext bodies faults task worker mid next × (now.journal.pending ≡ Some (added next)) →
         (next : Entry) × IsNext bodies faults task worker was next × (now.journal.pending ≡ Some (added next))
-    more entry is adds (next, (others, are, last, after, chosen), pending) = (
+    more entry is adds (next, (others, are, (last, after, chosen)), pending) = (
       next,
       (
         entry ∷ others,
         All-cons IsUpdate entry others is are,
-        last,
-        more_added bodies faults was mid last (entry ∷ []) others adds after,
-        chosen,
+        (last, more_added bodies faults was mid last (entry ∷ []) others adds after, chosen),
       ),
       pending,
     )
@@ -155,7 +153,7 @@ turns_pending {K} bodies faults task worker (suc room) was now (turned, mid, tur
         last book.StoreFault (inr turn) is same =
             let it = turn_pending bodies faults was mid (choice_of was.records task worker) turn in (
               it.0,
-              ([], All-nil IsUpdate, was, nothing_added bodies faults was, it.1),
+              ([], All-nil IsUpdate, (was, nothing_added bodies faults was, it.1)),
               subst (λ (b : Book K). b.journal.pending ≡ Some (added it.0)) (sym same) it.2,
             )
         last fault turn is same = absurd (let no = is in cc)
