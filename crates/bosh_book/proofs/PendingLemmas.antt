@@ -147,7 +147,8 @@ turns_pending {K} bodies faults task worker (suc room) was now (turned, mid, tur
         more went.0 went.1 went.2 (again rest)
     by (Err fault) turn rest again = last fault turn rest.0 rest.1
       where
-        last : (fault : BookFault) → Turn bodies faults task worker was (Err fault) mid → (Err book.StoreFault ≡ Err fault) → now ≡ mid →
+        last : (fault : BookFault) → Turn bodies faults task worker was (Err fault) mid →
+            ◌≡◌ {A = Result Claim BookFault} (Err book.StoreFault) (Err fault) → now ≡ mid →
             (entry : Entry) × IsNext bodies faults task worker was entry × (now.journal.pending ≡ Some (added entry))
         last book.StoreFault (inl turn) is same = absurd (let no = turn.0 in cc)
         last book.StoreFault (inr turn) is same =
