@@ -4,7 +4,7 @@ ghost use Rattle.bosh_base.specs.declared.call.Call.TheVariants as calls;
 ghost use Rattle.bosh_base.specs.declared.entry.Entry.TheVariants as entries;
 ghost use Rattle.bosh_base.specs.declared.owner.Owner.TheVariants.{Instance, Compile, Disk};
 ghost use Rattle.bosh_base.specs.declared.task.TaskEnd.TheVariants as ends;
-ghost use Rattle.laws_facts.specs.Courses.{call_made};
+ghost use Rattle.laws_counts.specs.Courses.{call_made};
 ghost use Rattle.examples_facts.specs.Broken.{Breaks, BreaksAlone, nothing_else};
 ghost use Rattle.examples_facts.specs.Changes.{account_is, and_then, as_active, call_is, disks_are, done_by, done_for, done_for_another};
 ghost use Rattle.examples_facts.specs.Changes.{doubt_is, exchanged, goal_is, goals_are, in_known, in_moment, is_lost, is_unclean};

@@ -1,0 +1,10 @@
+pub mod AnsweredLemmas
+pub mod CallFrames
+pub mod OwnLemmas
+pub mod SlotEnds
+pub mod SlotFacts
+pub mod SlotMoves
+pub mod StepFrames
+pub mod StepMoves
+pub mod SumLemmas
+pub mod SweepLemmas

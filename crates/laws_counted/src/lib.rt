@@ -1,0 +1,2 @@
+//! Clean deploys make no more calls than their budgets have.
+#![tactic(auto)]
