@@ -1,7 +1,7 @@
 -- Which open calls of an owner a move leaves as they were.
 use Rattle.std.proofs.Common.{◌≡◌, ◌≢◌, ◌∙◌, ℕ, ◌≤◌, Bool, true, false, Option, Some, None, List}
-use Rattle.std.proofs.Common.{arith, refl, sym}
-use Rattle.std.specs.Prelude.{eqb, if◌then◌else◌, not}
+use Rattle.std.proofs.Common.{ap, arith, refl, sym}
+use Rattle.std.specs.Prelude.{eqb, if◌then◌else◌, is_some, not}
 use Rattle.std.proofs.lemmas.Bool.{eq-eqb, eqb-true, false≢true}
 use Rattle.bosh_base.specs.Cloud.{numbers_to}
 use Rattle.bosh_base.specs.declared.entry.Begin.{Begin}
@@ -19,7 +19,13 @@ use Rattle.laws_facts.specs.Kept.{AreNumbersPast}
 use Rattle.laws_facts.specs.KnownFacts.{KnownFacts}
 use Rattle.laws_items.proofs.ListLemmas.{all_from}
 use Rattle.laws_items.proofs.OwnerLemmas.{same_owner_is}
-use Rattle.laws_machines.proofs.OnceLemmas.{number_of}
+
+-- an open call has a number from 1 to the last one
+pub number_of : (m : Moment) → KnownFacts m → (n : ℕ) (call : OpenCall) → m.calls n ≡ Some call
+    → (1 ≤ n) × (n ≤ m.known.last_call)
+number_of m h n call is =
+    let some : is_some (m.calls n) ≡ true = ap is_some is in
+    (grind (arith, h.numbers.past n, some), grind (arith, h.numbers.past n, some))
 
 -- the same calls of the owner are open at both moments
 pub record SameCalls (m n : Moment) (owner : Owner) : Type 0 where

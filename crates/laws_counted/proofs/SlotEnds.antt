@@ -231,6 +231,12 @@ module _ (m : Moment) (h : KnownFacts m) (e : End) (that : OpenCall) (open_now :
                     ((λ j. holds (is_for (Some work.key)) (there j))
                     ∙ ((λ j. option_eq same_key (Some work.key) (keyed j)) ∙ (same_key_decides work.key key).1 same))
 
+                alone : (k : ℕ) → (s == k) ≡ false → not (holds (is_for it.key) (m.known.slot t k)) ≡ true
+                alone k other =
+                    sym (λ j. where_any (λ it. not (holds (is_for it.key) (m.known.slot t k))) (there j))
+                    ∙ implied (works m t && not (s == k)) _ ((h.slots_work t s).alone k)
+                    (and_from (works m t) (not (s == k)) working (λ j. not (other j)))
+
                 free : is_key_held n.known t task work.key ≡ false
                 free =
                     none_from (λ s. holds (is_for (Some work.key)) (n.known.slot t s))
@@ -241,14 +247,8 @@ module _ (m : Moment) (h : KnownFacts m) (e : End) (that : OpenCall) (open_now :
                     each k true one = λ j. holds (is_for (Some work.key)) ((at_none k one) j)
                     each k false other =
                         (λ j. holds (is_for (Some work.key)) (slot_other k other j))
-                        ∙ ((λ j. holds (is_for ((λ l. Some (same l)) j)) (m.known.slot t k))
+                        ∙ ((λ j. holds (is_for (Some (same j))) (m.known.slot t k))
                         ∙ ((λ j. holds (is_for (sym keyed j)) (m.known.slot t k)) ∙ not-true _ (alone k other)))
-
-                    alone : (k : ℕ) → (s == k) ≡ false → not (holds (is_for it.key) (m.known.slot t k)) ≡ true
-                    alone k other =
-                        sym (λ j. where_any (λ it. not (holds (is_for it.key) (m.known.slot t k))) (there j))
-                        ∙ implied (works m t && not (s == k)) _ ((h.slots_work t s).alone k)
-                        (and_from (works m t) (not (s == k)) working (λ j. not (other j)))
 
                 passed : is_past n.known t task work ≡ true
                 passed =
@@ -257,22 +257,22 @@ module _ (m : Moment) (h : KnownFacts m) (e : End) (that : OpenCall) (open_now :
 
   -- ---- by its call
 
-  pub slots_ended : makes_or_deletes b.call ≡ true → are_slots_few m t task a ≡ true
+  pub few_ended : makes_or_deletes b.call ≡ true → are_slots_few m t task a ≡ true
       → are_slots_few n t task after ≡ true
-  slots_ended makes is = by b.call refl e.answer refl
+  few_ended makes is = by b.call refl e.answer refl
     where
       call_now_is : (c : Call) → b.call ≡ c → (answer : Answer) → e.answer ≡ answer
           → n.known.slot t s ≡ slot_after b.n c answer (Some it)
-      call_now_is c calls answer says = slot_now ∙ (λ j. slot_after b.n (calls j) (says j) (Some it))
+      call_now_is c asks answer says = slot_now ∙ (λ j. slot_after b.n (asks j) (says j) (Some it))
 
       fits_as : (c : Call) → b.call ≡ c → fits_slot b.n c it ≡ true
-      fits_as c calls = sym (λ j. fits_slot b.n (calls j) it) ∙ fits
+      fits_as c asks = sym (λ j. fits_slot b.n (asks j) it) ∙ fits
 
       kind_as : (c : Call) → b.call ≡ c → (answer : Answer) → e.answer ≡ answer → is_kind (method_of c) answer ≡ true
-      kind_as c calls answer says = sym (λ j. is_kind (method_of (calls j)) (says j)) ∙ kind
+      kind_as c asks answer says = sym (λ j. is_kind (method_of (asks j)) (says j)) ∙ kind
 
       makes_as : (c : Call) → b.call ≡ c → makes_or_deletes c ≡ true
-      makes_as c calls = sym (λ j. makes_or_deletes (calls j)) ∙ makes
+      makes_as c asks = sym (λ j. makes_or_deletes (asks j)) ∙ makes
 
       failed : e.answer ≡ answers.Failed → ⊥
       failed says = false≢true (sym well ∙ (λ j. is_failed (says j)))
@@ -282,21 +282,21 @@ module _ (m : Moment) (h : KnownFacts m) (e : End) (that : OpenCall) (open_now :
 
       doubt_made : (make : Make) (disks : List ℕ) → b.call ≡ calls.CreateVm make disks
           → it.doubt ≡ Some (record { n = b.n; call = calls.CreateVm make disks })
-      doubt_made make disks calls =
+      doubt_made make disks asks =
           doubt_is b.n (calls.CreateVm make disks) it.doubt
-          (and_parts (not (is_some it.vm)) _ (fits_as (calls.CreateVm make disks) calls)).1
+          (and_parts (not (is_some it.vm)) _ (fits_as (calls.CreateVm make disks) asks)).1
 
       doubt_deleted : (v : ℕ) → b.call ≡ calls.DeleteVm v
           → it.doubt ≡ Some (record { n = b.n; call = calls.DeleteVm v })
-      doubt_deleted v calls =
+      doubt_deleted v asks =
           doubt_is b.n (calls.DeleteVm v) it.doubt
-          (and_parts (is_machine it.vm v) _ (fits_as (calls.DeleteVm v) calls)).1
+          (and_parts (is_machine it.vm v) _ (fits_as (calls.DeleteVm v) asks)).1
 
       -- a key that is compiled
       compiled_most : (v : ℕ) (work : KeyWork) (deps : List Digest) → b.call ≡ calls.CompilePackage v work deps
           → (digest : Digest) → e.answer ≡ answers.Built digest → most m t s (Some it) ≤ most n t s (Some it)
-      compiled_most v work deps calls digest says =
-          let (machine, rest) = and_parts (is_machine it.vm v) _ (fits_as (calls.CompilePackage v work deps) calls) in
+      compiled_most v work deps asks digest says =
+          let (machine, rest) = and_parts (is_machine it.vm v) _ (fits_as (calls.CompilePackage v work deps) asks) in
           let (settled, keyed) = and_parts (not (is_some it.doubt)) (holds (same_key work.key) it.key) rest in
           let kept : is_being_deleted it ≡ false = undoubted it.doubt refl settled in
           let low : most m t s (Some it) ≤ 2 = most_kept m t s it kept in
@@ -313,32 +313,32 @@ module _ (m : Moment) (h : KnownFacts m) (e : End) (that : OpenCall) (open_now :
           of_key None same = same
           of_key (Some key) same =
               (λ j. is_some ((call_ended e.answer (begun j) m.known).digest key))
-              ∙ ((λ j. is_some ((compiles (calls j) (says j) (ends_of b e.answer b.owner m.known)).digest key))
+              ∙ ((λ j. is_some ((compiles (asks j) (says j) (ends_of b e.answer b.owner m.known)).digest key))
               ∙ (λ j. is_some (if same j then Some digest
               else (ends_of b e.answer b.owner m.known).digest key)))
 
       by : (c : Call) → b.call ≡ c → (answer : Answer) → e.answer ≡ answer → are_slots_few n t task after ≡ true
-      by c calls answers.Failed says = absurd (failed says)
-      by c calls answers.Gone says = absurd (gone says)
-      by (calls.CreateVm make disks) calls (answers.Cid v) says =
+      by c asks answers.Failed says = absurd (failed says)
+      by c asks answers.Gone says = absurd (gone says)
+      by (calls.CreateVm make disks) asks (answers.Cid v) says =
           stayed (record it { vm = Some (record { vm = v; agent = b.n }); doubt = None })
-          (call_now_is (calls.CreateVm make disks) calls (answers.Cid v) says) refl
+          (call_now_is (calls.CreateVm make disks) asks (answers.Cid v) says) refl
           (most_same m n t s it (record it { vm = Some (record { vm = v; agent = b.n }); doubt = None }) grows refl
-          (compiles_on m n later (Compile t s) (keeps (λ j. compiles_package (calls j)) (Compile t s)))
+          (compiles_on m n later (Compile t s) (keeps (λ j. compiles_package (asks j)) (Compile t s)))
           (λ deleted.
           absurd (false≢true
-          (sym (λ j. is_being_deleted (record it { doubt = doubt_made make disks calls j })) ∙ deleted))))
+          (sym (λ j. is_being_deleted (record it { doubt = doubt_made make disks asks j })) ∙ deleted))))
           is
-      by (calls.CreateVm make disks) calls answer says =
-          absurd (false≢true (kind_as (calls.CreateVm make disks) calls answer says))
-      by (calls.DeleteVm v) calls answers.Done says =
-          slot_gone (λ j. is_being_deleted (record it { doubt = doubt_deleted v calls j }))
-          (call_now_is (calls.DeleteVm v) calls answers.Done says) is
-      by (calls.DeleteVm v) calls answer says =
-          absurd (false≢true (kind_as (calls.DeleteVm v) calls answer says))
-      by (calls.CompilePackage v work deps) calls (answers.Built digest) says =
-          stayed it (call_now_is (calls.CompilePackage v work deps) calls (answers.Built digest) says) refl
-          (compiled_most v work deps calls digest says) is
-      by (calls.CompilePackage v work deps) calls answer says =
-          absurd (false≢true (kind_as (calls.CompilePackage v work deps) calls answer says))
-      by c calls answer says = absurd (false≢true (makes_as c calls))
+      by (calls.CreateVm make disks) asks answer says =
+          absurd (false≢true (kind_as (calls.CreateVm make disks) asks answer says))
+      by (calls.DeleteVm v) asks answers.Done says =
+          slot_gone (λ j. is_being_deleted (record it { doubt = doubt_deleted v asks j }))
+          (call_now_is (calls.DeleteVm v) asks answers.Done says) is
+      by (calls.DeleteVm v) asks answer says =
+          absurd (false≢true (kind_as (calls.DeleteVm v) asks answer says))
+      by (calls.CompilePackage v work deps) asks (answers.Built digest) says =
+          stayed it (call_now_is (calls.CompilePackage v work deps) asks (answers.Built digest) says) refl
+          (compiled_most v work deps asks digest says) is
+      by (calls.CompilePackage v work deps) asks answer says =
+          absurd (false≢true (kind_as (calls.CompilePackage v work deps) asks answer says))
+      by c asks answer says = absurd (false≢true (makes_as c asks))

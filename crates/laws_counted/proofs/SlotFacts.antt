@@ -16,7 +16,7 @@ use Rattle.bosh_history.specs.Known.{Known, Slot, Task}
 use Rattle.bosh_history.specs.Moments.{Moment, OpenCall}
 use Rattle.bosh_history.specs.Slots.{is_compiled, keys_of}
 use Rattle.bosh_history.specs.Words.{holds, numbers_below}
-use Rattle.laws_counted.proofs.CallFrames.{IsOpenAs}
+use Rattle.laws_counted.proofs.CallFrames.{IsOpenAs, number_of}
 use Rattle.laws_counted.proofs.SumLemmas.{below_low, below_step, count_low, sum_mapped}
 use Rattle.laws_counts.specs.Counts.{are_slots_few, compiles_now, is_compilation_of, is_compiled_for, is_key_held}
 use Rattle.laws_counts.specs.Counts.{is_past, most_of_slot, own_slots}
@@ -26,7 +26,6 @@ use Rattle.laws_facts.specs.KnownFacts.{KnownFacts}
 use Rattle.laws_items.proofs.ListLemmas.{Meets, any_in, holds_some, some_meets}
 use Rattle.laws_items.proofs.ListedLemmas.{numbered_in}
 use Rattle.laws_items.specs.Lists.{IsIn}
-use Rattle.laws_machines.proofs.OnceLemmas.{number_of}
 
 -- ---- compilations that are open
 
@@ -175,7 +174,7 @@ past_grows m n t task grows held work is = by (is_key_held n.known t task work.k
 
     by : (b : Bool) → is_key_held n.known t task work.key ≡ b → is_past n.known t task work ≡ true
     by true now =
-        absurd (false≢true ((λ j. not (held work.key parts.0 now (sym j))) ∙ parts.1))
+        absurd (false≢true (sym (λ j. not (held work.key parts.0 now j)) ∙ parts.1))
     by false free =
         and_from (is_compiled n.known work.key) (not (is_key_held n.known t task work.key)) (grows work.key parts.0)
         (λ j. not (free j))

@@ -1,10 +1,10 @@
 -- The slots of a task have few calls: when one begins, and when one is answered.
-use Rattle.std.proofs.Common.{◌≡◌, ◌≢◌, ◌∙◌, ℕ, ◌+◌, ◌≤◌, ◌<◌, Bool, true, false, Option, Some, None, List}
+use Rattle.std.proofs.Common.{◌≡◌, ◌≢◌, ◌∙◌, ℕ, ◌+◌, ◌≤◌, ◌<◌, Bool, true, false, Option, Some, None, List, []}
 use Rattle.std.proofs.Common.{ap, arith, refl, subst, sym}
 use Rattle.std.specs.Prelude.{◌*◌, ◌&&◌, ◌||◌, ◌==◌, count_by, eqb, if◌then◌else◌, is_some, length, nat_lt, not}
 use Rattle.std.specs.List.{list_any}
 use Rattle.std.specs.Option.{option_map}
-use Rattle.std.proofs.lemmas.Bool.{and_from, and_parts, eq-eqb, eqb-true, false≢true, ltb-lt, not-true, or_left, or_right}
+use Rattle.std.proofs.lemmas.Bool.{and_from, and_parts, eq-eqb, eqb-true, false≢true, ltb-true, or_right}
 use Rattle.std.proofs.lemmas.Bool.Decides.{eqb_tells}
 use Rattle.bosh_base.specs.Answer.{is_kind}
 use Rattle.bosh_base.specs.Call.{method_of}
@@ -27,7 +27,7 @@ use Rattle.bosh_base.specs.declared.row.Vm.{Vm}
 use Rattle.bosh_compile.proofs.KeyLemmas.{same_key_decides}
 use Rattle.bosh_compile.specs.Readiness.{same_key}
 use Rattle.bosh_history.specs.Calls.{begins, key_for}
-use Rattle.bosh_history.specs.Items.{is_item, is_slot_left, phase_of, slots_of}
+use Rattle.bosh_history.specs.Items.{is_item, is_leftover, is_slot_left, phase_of, slots_of}
 use Rattle.bosh_history.specs.Known.{Known, Slot, Task, dep_of_task}
 use Rattle.bosh_history.specs.Moments.{Moment, OpenCall, noting}
 use Rattle.bosh_history.specs.Notes.{Begins, Outside}
@@ -60,14 +60,13 @@ slot_below k t s item = by (is_slot_left k t s) refl (of_item k t (Compile t s) 
   where
     by : (left : Bool) → is_slot_left k t s ≡ left → (p : ℕ) × IsLeft k t (Compile t s) p
         → s < length (slots_of (k.task t).goal)
-    by true left it = ltb-lt s (length (slots_of (k.task t).goal)) (and_parts (nat_lt s _) _ left).0
+    by true left it = ltb-true s (length (slots_of (k.task t).goal)) (and_parts (nat_lt s _) _ left).0
     by false none it =
         let nothing : phase_of k t (Compile t s) ≡ None =
-        (λ j. if eq-eqb t t refl j then (if is_slot_left k t s then Some 2 else None) else slot_by false false false)
-        ∙ (λ j. if none j then Some 2 else None) in
+        λ j. slot_by (eq-eqb t t refl j) (none j) (is_leftover k t (record { task = t; slot = s })) in
         let some : phase_of k t (Compile t s) ≡ Some it.0 = it.1.phase in absurd cc
 
-other_slot : (t s k : ℕ) → (s == k) ≡ false → Compile t s ≢ Compile t k
+pub other_slot : (t s k : ℕ) → (s == k) ≡ false → Compile t s ≢ Compile t k
 other_slot t s k other same = let one : s ≡ k = cc in false≢true (sym other ∙ eq-eqb s k one)
 
 -- ---- a call of a slot begins
@@ -84,7 +83,7 @@ module _ (m : Moment) (h : KnownFacts m) (b : Begin) (may : Begins m b)
   task = m.known.task t
 
   keeps : (owner : Owner) → KeepsCompilations m n owner
-  keeps owner k call is compiles = (call, begun_forth m h b may k call is, refl)
+  keeps owner k call is busy = (call, begun_forth m h b may k call is, refl)
 
   slot_now : n.known.slot t s ≡ slot_begun b.n b.call (dep_of_task m.known t) (key_for m.known t s) (m.known.slot t s)
   slot_now = (λ j. (begins b (own j) m.known).slot t s) ∙ begun_own b m.known t s
@@ -134,10 +133,10 @@ module _ (m : Moment) (h : KnownFacts m) (b : Begin) (may : Begins m b)
     where
       by : (busy : Bool) → compiles_now m (Compile t s) ≡ busy → busy ≡ false
       by true busy =
-          let (k, call, at, compiles) = compiles_is m (Compile t s) busy in
+          let (k, call, at, making) = compiles_is m (Compile t s) busy in
           absurd (none_open m (Compile t s) h.numbers.past ((λ j. is_idle m (sym own j)) ∙ may.is_idle) k call at
           (sym (same_owner_is (Compile t s) call.begin.owner
-          (and_parts (is_owners (Compile t s) call) (compiles_package call.begin.call) compiles).0)))
+          (and_parts (is_owners (Compile t s) call) (compiles_package call.begin.call) making).0)))
       by false none = refl
 
   pub slots_begun : are_slots_few m t task a ≡ true → are_slots_few n t task after ≡ true

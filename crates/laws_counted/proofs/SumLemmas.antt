@@ -77,11 +77,13 @@ below_low f g (suc n) each =
 pub below_step : (f g : ℕ → ℕ) (s a b n : ℕ) → ((k : ℕ) → (s == k) ≡ false → f k ≤ g k) → f s + a ≤ g s + b → s < n
     → sum_by f (numbers_below n) + a ≤ sum_by g (numbers_below n) + b
 below_step f g s a b zero others one low = absurd (omega (arith, low))
-below_step f g s a b (suc n) others one low = by (s == n) refl
+below_step f g s a b (suc n) others one low =
+    by (s == n) refl (λ less. below_step f g s a b n others one less)
   where
     by : (same : Bool) → (s == n) ≡ same
+        → (s < n → sum_by f (numbers_below n) + a ≤ sum_by g (numbers_below n) + b)
         → sum_by f (numbers_below (suc n)) + a ≤ sum_by g (numbers_below (suc n)) + b
-    by true same =
+    by true same more =
         let here : f n + a ≤ g n + b = subst (λ (k : ℕ). f k + a ≤ g k + b) (eqb-true s n same) one in
         let rest : sum_by f (numbers_below n) ≤ sum_by g (numbers_below n) =
         below_low f g n (λ k less. others k (apart k less)) in
@@ -89,9 +91,8 @@ below_step f g s a b (suc n) others one low = by (s == n) refl
       where
         apart : (k : ℕ) → k < n → (s == k) ≡ false
         apart k less = grind (arith, eqb_tells s k, eqb-true s n same, less)
-    by false other =
+    by false other more =
         let here : f n ≤ g n = others n other in
         let less : s < n = grind (arith, low, eqb_tells s n, other) in
-        let rest : sum_by f (numbers_below n) + a ≤ sum_by g (numbers_below n) + b =
-        below_step f g s a b n others one less in
+        let rest : sum_by f (numbers_below n) + a ≤ sum_by g (numbers_below n) + b = more less in
         omega (arith, here, rest, sum_by_push f (numbers_below n) n, sum_by_push g (numbers_below n) n)
