@@ -1,5 +1,6 @@
 pub mod AnsweredLemmas
 pub mod CallFrames
+pub mod CountLemmas
 pub mod OwnLemmas
 pub mod SlotEnds
 pub mod SlotFacts
