@@ -1,11 +1,15 @@
 pub mod AnsweredLemmas
+pub mod BeginMoves
 pub mod CallFrames
 pub mod CountLemmas
+pub mod EndMoves
+pub mod NoteMoves
 pub mod OwnLemmas
 pub mod SlotEnds
 pub mod SlotFacts
 pub mod SlotMoves
 pub mod StepFrames
 pub mod StepMoves
+pub mod StillLemmas
 pub mod SumLemmas
 pub mod SweepLemmas

@@ -63,7 +63,7 @@ ended_slot k b answer t s own =
     now : Option Slot
     now = slot_after b.n b.call answer (k.slot t s)
 
-and_no : (b c : Bool) → c ≡ false → (b && c) ≡ false
+pub and_no : (b c : Bool) → c ≡ false → (b && c) ≡ false
 and_no true c none = none
 and_no false c none = refl
 

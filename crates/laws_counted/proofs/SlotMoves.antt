@@ -92,7 +92,7 @@ module _ (m : Moment) (h : KnownFacts m) (b : Begin) (may : Begins m b)
   slot_other k other =
       begun_apart b b.owner m.known t k (λ same. other_slot t s k other (sym own ∙ same))
 
-  pub the_call : SlotCall m t t s b.call
+  the_call : SlotCall m t t s b.call
   the_call = slot_call m t t s b.call (sym (λ j. call_now m (mine j) (own j)) ∙ may.is_call)
 
   below : s < length (slots_of task.goal)
