@@ -143,6 +143,11 @@ module _ (m : Moment) (h : KnownFacts m) (t : ℕ) (working : works m t ≡ true
 
 -- ---- the list
 
+pub same_name : (a b : SlotName) → same_slot a b ≡ true → a ≡ b
+same_name a b same =
+    let (task, slot) = and_parts (a.task == b.task) (a.slot == b.slot) same in
+    λ j. record { task = eqb-true a.task b.task task j; slot = eqb-true a.slot b.slot slot j }
+
 in_instances : (i : Inst) (xs : List Inst) → is_among same_inst i xs ≡ true → IsIn i xs
 in_instances i xs is = among_is same_inst (λ a b. (same_inst_decides a b).0) i xs is
 
@@ -182,11 +187,6 @@ module _ (t : ℕ) (task : Task) (it : Account) where
       (map Instance (instances_of task.goal) ++ map Instance task.obsolete ++ own_slots t task)
       (map owner_of it.left_over)
       (in_mapped owner_of name it.left_over (among_is same_slot same_name name it.left_over is))
-    where
-      same_name : (a b : SlotName) → same_slot a b ≡ true → a ≡ b
-      same_name a b same =
-          let (task, slot) = and_parts (a.task == b.task) (a.slot == b.slot) same in
-          λ j. record { task = eqb-true a.task b.task task j; slot = eqb-true a.slot b.slot slot j }
 
 -- an item of a deploy is one of the list
 pub item_counted : (m : Moment) → Holds m → (t : ℕ) → works m t ≡ true → deploys (m.known.task t).kind ≡ true

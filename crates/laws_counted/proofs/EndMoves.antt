@@ -40,7 +40,7 @@ use Rattle.laws_cloud.proofs.TellLemmas.{truth_is}
 use Rattle.laws_compiling.proofs.GrowthLemmas.{compiled_stays}
 use Rattle.laws_counted.proofs.CallFrames.{SameCalls, begins_of, ended_calls}
 use Rattle.laws_counted.proofs.CountLemmas.{budgeted_dep, counted_same}
-use Rattle.laws_counted.proofs.NoteMoves.{low_of, not_among}
+use Rattle.laws_counted.proofs.NoteMoves.{ended_count, low_of, not_among}
 use Rattle.laws_counted.proofs.OwnLemmas.{IsOwn, earlier_is, open_own, own_instance, own_slot, own_swept}
 use Rattle.laws_counted.proofs.SlotEnds.{and_no, ended_slot, few_ended}
 use Rattle.laws_counted.proofs.SlotFacts.{slots_left}
@@ -309,23 +309,9 @@ module _ (outside : Outside) (m : Moment) (h : Holds m) (e : End) (may : MayNote
 
   -- ---- all
 
-  same_count : new.calls ≡ old.calls
-  same_count =
-      (λ j. ((call_ended e.answer (begun j) m.known).task t).calls) ∙ by (eqb b.task t) refl
-    where
-      by : (same : Bool) → eqb b.task t ≡ same
-          → (if same then task_told m.known b e.answer (m.known.task b.task) else m.known.task t).calls ≡ old.calls
-      by true same =
-          kept b.call e.answer b.owner (m.known.task b.task) ∙ (λ j. (m.known.task (eqb-true b.task t same j)).calls)
-        where
-          kept : (call : Call) (answer : Answer) (owner : Owner) (task : Task)
-              → (task_after_ping call answer owner task).calls ≡ task.calls
-          kept call answer owner task = grind (arith)
-      by false other = refl
-
   pub clean_ended : CleanFacts outside.built n t a
   clean_ended = record {
-    all_counted = counted_same t old new a a same_count alike.goal alike.obsolete refl refl f.all_counted;
+    all_counted = counted_same t old new a a (ended_count e.answer (m.known.begun e.n) m.known t) alike.goal alike.obsolete refl refl f.all_counted;
     left_over = λ name.
     implied_by (is_leftover n.known t name) (is_among same_slot name a.left_over)
     (λ over.

@@ -1,9 +1,14 @@
 pub mod AnsweredLemmas
 pub mod BeginMoves
+pub mod BudgetLemmas
 pub mod CallFrames
 pub mod CountLemmas
+pub mod CourseLemmas
+pub mod DidMoves
 pub mod EndMoves
+pub mod HistoryLemmas
 pub mod NoteMoves
+pub mod OpenMoves
 pub mod OwnLemmas
 pub mod SlotEnds
 pub mod SlotFacts

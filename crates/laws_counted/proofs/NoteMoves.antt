@@ -2,14 +2,18 @@
 use Rattle.std.proofs.Common.{◌≡◌, ◌≢◌, ◌∙◌, ℕ, ◌+◌, ◌≤◌, Bool, true, false, Option, Some, None, List}
 use Rattle.std.proofs.Common.{ap, arith, refl, subst, sym}
 use Rattle.std.specs.Prelude.{◌&&◌, ◌||◌, ◌==◌, eqb, if◌then◌else◌, is_some, nat_le, nat_lt, not}
-use Rattle.std.proofs.lemmas.Bool.{and_parts, eq-eqb, false≢true, leb-true}
+use Rattle.std.proofs.lemmas.Bool.{and_parts, eq-eqb, eqb-true, false≢true, leb-true}
+use Rattle.bosh_base.specs.declared.answer.Answer.{Answer}
+use Rattle.bosh_base.specs.declared.call.Call.{Call}
+use Rattle.bosh_base.specs.declared.entry.Begin.{Begin}
 use Rattle.bosh_base.specs.declared.entry.Entry.{Entry}
 use Rattle.bosh_base.specs.declared.entry.Entry.TheVariants as entries
 use Rattle.bosh_base.specs.declared.entry.Update.{Update}
 use Rattle.bosh_base.specs.declared.inst.Inst.{Inst}
+use Rattle.bosh_base.specs.declared.owner.Owner.{Owner}
 use Rattle.bosh_base.specs.declared.owner.Owner.TheVariants.{Instance}
 use Rattle.bosh_base.specs.declared.task.TaskEnd.TheVariants as ends
-use Rattle.bosh_history.specs.Calls.{number_of}
+use Rattle.bosh_history.specs.Calls.{call_ended, number_of, task_after_ping, task_told}
 use Rattle.bosh_history.specs.Items.{is_finished, is_item, is_to_change, is_to_go, is_to_ping, stage_of}
 use Rattle.bosh_history.specs.Known.{Known, Task, dep_of_task, plan_in, want_in}
 use Rattle.bosh_history.specs.Learn.{learn}
@@ -61,7 +65,22 @@ SameCount a b = b.calls ≡ a.calls
 same_count : (a : Task) → SameCount a a
 same_count a = refl
 
-count_note : (outside : Outside) (m : Moment) (e : Entry) (t : ℕ) → MayNote outside m e → is_opening e ≡ false
+-- an answer begins no call
+after_ping : (call : Call) (answer : Answer) (owner : Owner) (task : Task)
+    → (task_after_ping call answer owner task).calls ≡ task.calls
+after_ping call answer owner task = grind (arith)
+
+pub ended_count : (answer : Answer) (b : Option Begin) (k : Known) (t : ℕ)
+    → ((call_ended answer b k).task t).calls ≡ (k.task t).calls
+ended_count answer None k t = refl
+ended_count answer (Some b) k t = by (eqb b.task t) refl
+  where
+    by : (same : Bool) → eqb b.task t ≡ same
+        → (if same then task_told k b answer (k.task b.task) else k.task t).calls ≡ (k.task t).calls
+    by true same = after_ping b.call answer b.owner (k.task b.task) ∙ (λ j. (k.task (eqb-true b.task t same j)).calls)
+    by false other = refl
+
+pub count_note : (outside : Outside) (m : Moment) (e : Entry) (t : ℕ) → MayNote outside m e → is_opening e ≡ false
     → is_of_call e ≡ false → SameCount (m.known.task t) ((learn m.known e).task t)
 count_note outside m (entries.TaskOpen o) t may none plain = absurd (false≢true (sym none))
 count_note outside m (entries.Begin b) t may none plain = absurd (false≢true (sym plain))

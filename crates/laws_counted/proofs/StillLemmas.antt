@@ -75,7 +75,7 @@ steps_settled built m n s t a i h calls idle over same f = record {
 
 -- ---- a machine of an earlier task
 
-lock_itself : (a : Option (List ℕ)) → option_eq bytes_eq a a ≡ true
+pub lock_itself : (a : Option (List ℕ)) → option_eq bytes_eq a a ≡ true
 lock_itself (Some dep) = bytes_self dep
 lock_itself None = refl
 
