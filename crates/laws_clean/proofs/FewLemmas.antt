@@ -1,9 +1,9 @@
 -- By the facts on a clean task, each of its instances and each machine that it sweeps has few calls.
 use Rattle.std.proofs.Common.{◌≡◌, ◌∙◌, ℕ, ◌+◌, ◌≤◌, Bool, true, false, Option, Some, None, List, [], ◌∷◌, ◌++◌}
 use Rattle.std.proofs.Common.{arith, inl, inr, refl, subst, sym}
-use Rattle.std.specs.Prelude.{◌*◌, ◌&&◌, ◌||◌, ◌==◌, find, if◌then◌else◌, is_some, length, map, nat_le}
+use Rattle.std.specs.Prelude.{◌*◌, find, if◌then◌else◌, is_some, length, map, nat_le}
 use Rattle.std.specs.Prelude.{not, sum_by}
-use Rattle.std.proofs.lemmas.Bool.{and_parts, eqb-true, false≢true, le-leb, leb-true, or_left, or_right}
+use Rattle.std.proofs.lemmas.Bool.{false≢true, le-leb, leb-true, or_left, or_right}
 use Rattle.std.proofs.lemmas.Bool.Decides.{eqb_tells}
 use Rattle.std.proofs.lemmas.List.Sums.{sum_by-append}
 use Rattle.bosh_base.specs.Cloud.{numbers_to}

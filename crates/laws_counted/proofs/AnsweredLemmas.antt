@@ -1,15 +1,14 @@
 -- A call of an instance in a clean task that the cloud performs is answered as it is asked: it is one of the steps that
 -- end.
 use Rattle.std.proofs.Common.{◌≡◌, ◌∙◌, ℕ, ◌<◌, Bool, true, false, Option, Some, None, List, [], ◌∷◌, ◌++◌}
-use Rattle.std.proofs.Common.{ap, arith, inl, inr, refl, subst, sym}
-use Rattle.std.specs.Prelude.{◌⊎◌, ◌&&◌, ◌||◌, fold, if◌then◌else◌, is_some, nat_lt, not}
+use Rattle.std.proofs.Common.{inl, inr, refl, subst, sym}
+use Rattle.std.specs.Prelude.{◌⊎◌, ◌&&◌, ◌||◌, fold, if◌then◌else◌, is_some, not}
 use Rattle.std.specs.Ordering.{nat_cmp}
 use Rattle.std.proofs.lemmas.Bool.{and_parts, false≢true, or_left}
 use Rattle.bosh_base.specs.CallStep.{is_gone}
 use Rattle.bosh_base.specs.declared.call.Call.{Call}
 use Rattle.bosh_base.specs.declared.call.Call.TheVariants as calls
 use Rattle.bosh_base.specs.declared.digest.Digest.{Digest}
-use Rattle.bosh_base.specs.declared.entry.Begin.{Begin}
 use Rattle.bosh_base.specs.declared.entry.Entry.{Entry}
 use Rattle.bosh_base.specs.declared.goal.GoalRow.{GoalRow}
 use Rattle.bosh_base.specs.declared.inst.Inst.{Inst}

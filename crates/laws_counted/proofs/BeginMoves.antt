@@ -1,32 +1,30 @@
 -- The calls of a clean task stay few, when a call begins.
-use Rattle.std.proofs.Common.{◌≡◌, ◌≢◌, ◌∙◌, ℕ, ◌+◌, ◌≤◌, ◌<◌, Bool, true, false, Option, Some, None, List}
-use Rattle.std.proofs.Common.{ap, arith, refl, subst, sym}
-use Rattle.std.specs.Prelude.{◌&&◌, ◌==◌, eqb, if◌then◌else◌, is_some, nat_le, nat_lt, not}
+use Rattle.std.proofs.Common.{◌≡◌, ◌≢◌, ◌∙◌, ℕ, ◌+◌, ◌≤◌, Bool, true, false, Option, Some, None}
+use Rattle.std.proofs.Common.{arith, refl, sym}
+use Rattle.std.specs.Prelude.{◌==◌, eqb, if◌then◌else◌, is_some, nat_le, nat_lt}
 use Rattle.std.specs.List.{list_all}
 use Rattle.std.specs.Option.{option_map}
-use Rattle.std.proofs.lemmas.Bool.{and_parts, eq-eqb, eqb-true, false≢true, le-leb, leb-true, lt-ltb}
+use Rattle.std.proofs.lemmas.Bool.{and_parts, eq-eqb, eqb-true, false≢true, leb-true, lt-ltb}
 use Rattle.bosh_base.specs.declared.call.Call.{Call}
 use Rattle.bosh_base.specs.declared.call.Call.TheVariants as calls
 use Rattle.bosh_base.specs.declared.entry.Begin.{Begin}
 use Rattle.bosh_base.specs.declared.entry.Entry.TheVariants as entries
-use Rattle.bosh_base.specs.declared.goal.Goal.{Goal}
 use Rattle.bosh_base.specs.declared.goal.GoalRow.{GoalRow}
 use Rattle.bosh_base.specs.declared.inst.Inst.{Inst}
 use Rattle.bosh_base.specs.declared.owner.Owner.{Owner}
 use Rattle.bosh_base.specs.declared.owner.Owner.TheVariants.{Compile, Disk, Instance}
 use Rattle.bosh_base.specs.declared.row.Vm.{Vm}
 use Rattle.bosh_history.specs.Calls.{task_with_call}
-use Rattle.bosh_history.specs.Goals.{is_in, rows_of}
-use Rattle.bosh_history.specs.Items.{instance_phase, is_item, is_leftover, is_to_go, is_to_ping}
+use Rattle.bosh_history.specs.Goals.{rows_of}
+use Rattle.bosh_history.specs.Items.{is_item, is_leftover, is_to_go, is_to_ping}
 use Rattle.bosh_history.specs.Known.{SlotName, Task, want_in}
 use Rattle.bosh_history.specs.Moments.{Moment, OpenCall, noting}
 use Rattle.bosh_history.specs.Notes.{Begins, Outside}
 use Rattle.bosh_history.specs.Openings.{deploys}
 use Rattle.bosh_history.specs.Orders.{same_slot}
 use Rattle.bosh_history.specs.Recovered.{may_follow}
-use Rattle.bosh_history.specs.Steps.{call_now, instance_call, is_idle, want_of}
+use Rattle.bosh_history.specs.Steps.{call_now, is_idle, want_of}
 use Rattle.bosh_history.specs.Words.{at, is_among}
-use Rattle.bosh_rows.specs.After.{begun_row}
 use Rattle.bosh_rows.specs.CallOf.{next_call}
 use Rattle.bosh_rows.specs.Same.{same_inst, same_owner}
 use Rattle.laws_cloud.proofs.TellLemmas.{same_owner_itself}
@@ -63,7 +61,7 @@ use Rattle.laws_items.proofs.SlotFrames as frames
 use Rattle.laws_kept_rows.proofs.BeginLemmas.{begun_is}
 use Rattle.laws_kept_rows.proofs.NotedLemmas.{Tells, is_other, is_owner, tells}
 use Rattle.laws_row_facts.specs.Calls.{is_ping}
-use Rattle.laws_row_facts.specs.Words.{implies, where_any}
+use Rattle.laws_row_facts.specs.Words.{where_any}
 use Rattle.laws_standing.proofs.ThroughLemmas.{gone_out}
 use Rattle.laws_tasks.proofs.TaskFrames.{OpenedAlike, opened_stays}
 
@@ -246,15 +244,15 @@ module _ (outside : Outside) (m : Moment) (h : Holds m) (b : Begin) (follows : m
         (λ j. (if apart_is b.task t apart j then task_with_call (m.known.task b.task) else m.known.task t).calls) alike.goal alike.obsolete refl refl f.all_counted;
     left_over = left_over a refl;
     steps = λ i is.
-    other_steps a (λ i other. kept_itself a i) (λ owner other. refl) i (was i is)
-    (λ own. apart (its_own (Instance i) (own_of i (was i is)) own));
+        other_steps a (λ i other. kept_itself a i) (λ owner other. refl) i (was i is)
+        (λ own. apart (its_own (Instance i) (own_of i (was i is)) own));
     slots_few =
         other_slots a (λ i other. kept_itself a i) (λ owner other. refl)
         (λ s own. apart (its_own (Compile t s) (own_slot m h.known t s working) own));
     slot_calls = slot_calls;
     sweep = λ name isin.
-    other_sweep a (λ i other. kept_itself a i) (λ owner other. refl) name
-    (λ own. apart (its_own (owner_of name) (own_earlier name (f.sweep name isin).earlier) own)) (f.sweep name isin);
+        other_sweep a (λ i other. kept_itself a i) (λ owner other. refl) name
+        (λ own. apart (its_own (owner_of name) (own_earlier name (f.sweep name isin).earlier) own)) (f.sweep name isin);
   }
     where
       was : (i : Inst) → is_budgeted new i ≡ true → is_budgeted old i ≡ true
@@ -311,8 +309,8 @@ module _ (outside : Outside) (m : Moment) (h : Holds m) (b : Begin) (follows : m
         one : OneCall n i (record { begin = b; did = None })
         one = record {
           busy = λ rests.
-          none_open n (Instance i) later.known.numbers.past rests b.n (record { begin = b; did = None }) (begun_now m b)
-          own;
+              none_open n (Instance i) later.known.numbers.past rests b.n (record { begin = b; did = None }) (begun_now m b)
+              own;
           is_it = λ k other at of_it. by k other of_it (eqb b.n k) at;
         }
           where
@@ -365,7 +363,7 @@ module _ (outside : Outside) (m : Moment) (h : Holds m) (b : Begin) (follows : m
       all_counted = counted;
       left_over = left_over it refl;
       steps = λ i is.
-      mine_steps i (sym (budgeted_as old new i alike) ∙ is) (tells b.owner (Instance i));
+          mine_steps i (sym (budgeted_as old new i alike) ∙ is) (tells b.owner (Instance i));
       slots_few = mine_slots b.owner refl;
       slot_calls = slot_calls;
       sweep = λ name isin. mine_sweep name (f.sweep name isin) (tells b.owner (owner_of name));

@@ -1,8 +1,8 @@
 -- The calls that a clean task may have had are within its budget: each slot works for a key of its own.
 use Prim.Native.Nat.{zero, suc}
-use Rattle.std.proofs.Common.{◌≡◌, ◌∙◌, ℕ, ◌+◌, ◌≤◌, ◌<◌, Bool, true, false, cond, Option, Some, None, List, [], ◌∷◌, ◌++◌}
-use Rattle.std.proofs.Common.{ap, arith, refl, subst, sym}
-use Rattle.std.specs.Prelude.{◌*◌, ◌&&◌, ◌||◌, ◌==◌, count_by, is_some, length, map, nat_le, not, sum_by}
+use Rattle.std.proofs.Common.{◌≡◌, ◌∙◌, ℕ, ◌+◌, ◌≤◌, Bool, true, false, cond, Option, Some, None, List, [], ◌∷◌, ◌++◌}
+use Rattle.std.proofs.Common.{arith, refl, sym}
+use Rattle.std.specs.Prelude.{◌*◌, ◌&&◌, ◌||◌, ◌==◌, count_by, is_some, length, map, not, sum_by}
 use Rattle.std.specs.List.{list_any}
 use Rattle.std.specs.Option.{option_eq}
 use Rattle.std.proofs.lemmas.Bool.{and_from, and_parts, false≢true, not-true, or_left, or_right}
@@ -16,14 +16,14 @@ use Rattle.bosh_compile.proofs.KeyLemmas.{same_key_decides}
 use Rattle.bosh_compile.specs.Readiness.{same_key}
 use Rattle.bosh_history.specs.Goals.{inst_of, instances_of, rows_of}
 use Rattle.bosh_history.specs.Items.{slots_of}
-use Rattle.bosh_history.specs.Known.{Known, Slot, Task}
+use Rattle.bosh_history.specs.Known.{Slot, Task}
 use Rattle.bosh_history.specs.Moments.{Moment}
 use Rattle.bosh_history.specs.Slots.{is_compiled, is_ready, keys_of}
 use Rattle.bosh_history.specs.Steps.{work_for}
 use Rattle.bosh_history.specs.Words.{holds, numbers_below}
 use Rattle.bosh_rows.specs.Tied.{one_if}
 use Rattle.laws_counted.proofs.SlotFacts.{most, most_any}
-use Rattle.laws_counted.proofs.SumLemmas.{below_low, count_grows, count_low, sum_low}
+use Rattle.laws_counted.proofs.SumLemmas.{below_low, count_grows, count_low}
 use Rattle.laws_counts.specs.Counts.{is_key_held, is_past, most_of_slots}
 use Rattle.laws_facts.specs.CompileMachines.{is_for, is_slot_of_goal}
 use Rattle.laws_facts.specs.KnownFacts.{KnownFacts}

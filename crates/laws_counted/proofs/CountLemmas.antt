@@ -1,27 +1,23 @@
 -- Each call of a clean task is of an owner that its budget counts.
-use Rattle.std.proofs.Common.{◌≡◌, ◌∙◌, ℕ, ◌+◌, ◌≤◌, ◌<◌, Bool, true, false, Option, Some, None, List, [], ◌∷◌, ◌++◌}
+use Rattle.std.proofs.Common.{◌≡◌, ◌∙◌, ℕ, ◌+◌, ◌≤◌, ◌<◌, Bool, true, false, Option, Some, None, List, ◌++◌}
 use Rattle.std.proofs.Common.{ap, arith, inl, inr, refl, subst, sym}
-use Rattle.std.specs.Prelude.{◌⊎◌, ◌&&◌, ◌||◌, ◌==◌, eqb, find, if◌then◌else◌, is_some, length, map, nat_le, not, sum_by}
-use Rattle.std.specs.List.{list_all}
+use Rattle.std.specs.Prelude.{◌⊎◌, ◌&&◌, ◌==◌, find, if◌then◌else◌, is_some, length, map, nat_le, not, sum_by}
 use Rattle.std.specs.Option.{option_map}
 use Rattle.std.specs.Str.{bytes_eq}
-use Rattle.std.proofs.lemmas.Bool.{and_from, and_parts, eq-eqb, eqb-true, false≢true, le-leb, leb-true, or_cases, or_left}
+use Rattle.std.proofs.lemmas.Bool.{and_from, and_parts, eqb-true, false≢true, le-leb, leb-true, or_cases, or_left}
 use Rattle.std.proofs.lemmas.Bool.{or_right}
 use Rattle.std.proofs.lemmas.Slice.Eq.{bytes_eq-Decides}
-use Rattle.bosh_base.specs.declared.goal.Goal.{Goal}
 use Rattle.bosh_base.specs.declared.goal.GoalRow.{GoalRow}
 use Rattle.bosh_base.specs.declared.inst.Inst.{Inst}
-use Rattle.bosh_base.specs.declared.make.Make.{Make}
 use Rattle.bosh_base.specs.declared.owner.Owner.{Owner}
 use Rattle.bosh_base.specs.declared.owner.Owner.TheVariants.{Compile, Disk, Instance}
-use Rattle.bosh_base.specs.declared.row.Vm.{Vm}
 use Rattle.bosh_base.specs.declared.task.TaskKind.{TaskKind}
 use Rattle.bosh_base.specs.declared.task.TaskKind.TheVariants as kinds
-use Rattle.bosh_history.specs.Goals.{inst_of, instances_of, is_in, named_instance}
+use Rattle.bosh_history.specs.Goals.{instances_of, is_in, named_instance}
 use Rattle.bosh_history.specs.Items.{instance_phase, is_item, is_leftover, is_slot_left, is_to_change, is_to_go, is_to_ping}
 use Rattle.bosh_history.specs.Items.{phase_of, slots_of, stage_of}
 use Rattle.bosh_history.specs.Known.{SlotName, Task, plan_in}
-use Rattle.bosh_history.specs.Moments.{Moment, OpenCall}
+use Rattle.bosh_history.specs.Moments.{Moment}
 use Rattle.bosh_history.specs.Openings.{deploys}
 use Rattle.bosh_history.specs.Orders.{same_slot}
 use Rattle.bosh_history.specs.Sound.{has_plan}
@@ -38,7 +34,7 @@ use Rattle.laws_counts.specs.RowSteps.{is_budgeted}
 use Rattle.laws_facts.specs.Facts.{Holds}
 use Rattle.laws_facts.specs.KnownFacts.{KnownFacts}
 use Rattle.laws_facts.specs.Owners.{works}
-use Rattle.laws_facts.specs.Tasks.{can_be_asked, has_place, is_of, is_recorded}
+use Rattle.laws_facts.specs.Tasks.{is_of, is_recorded}
 use Rattle.laws_items.proofs.AskedLemmas.{in_goal, item_dep}
 use Rattle.laws_items.proofs.ListLemmas.{all_in, among_is, below_in, find_in, in_back, in_front, in_mapped}
 use Rattle.laws_items.proofs.ListedLemmas.{Lists, ListsInstances, disks, goal_facts, implied, instances, lists}
@@ -47,7 +43,6 @@ use Rattle.laws_items.proofs.OnwardLemmas.{phase_by, slot_by}
 use Rattle.laws_items.proofs.OwnerLemmas.{same_owner_is}
 use Rattle.laws_items.proofs.PhaseLemmas.{IsLeft, of_item}
 use Rattle.laws_items.specs.Lists.{IsIn}
-use Rattle.laws_row_facts.specs.Words.{implies}
 use Rattle.laws_standing.proofs.ThroughLemmas.{changed_in}
 
 -- ---- an instance

@@ -1,12 +1,11 @@
 -- Each move keeps what the calls of clean tasks are counted by.
 use Rattle.std.proofs.Common.{◌≡◌, ◌≢◌, ◌∙◌, ℕ, ◌≤◌, Bool, true, false, Option, Some, None}
-use Rattle.std.proofs.Common.{ap, arith, refl, subst, sym}
+use Rattle.std.proofs.Common.{arith, refl, subst, sym}
 use Rattle.std.specs.Prelude.{eqb, if◌then◌else◌, nat_le, nat_lt}
 use Rattle.std.proofs.lemmas.Bool.{and_parts, eq-eqb, eqb-true, false≢true, leb-true}
 use Rattle.std.proofs.lemmas.Bool.Decides.{eqb_tells}
 use Rattle.bosh_base.specs.declared.entry.Begin.{Begin}
 use Rattle.bosh_base.specs.declared.entry.End.{End}
-use Rattle.bosh_base.specs.declared.entry.Entry.{Entry}
 use Rattle.bosh_base.specs.declared.entry.Entry.TheVariants as entries
 use Rattle.bosh_base.specs.declared.entry.TaskOpen.{TaskOpen}
 use Rattle.bosh_base.specs.declared.inst.Inst.{Inst}
@@ -34,7 +33,7 @@ use Rattle.laws_counted.proofs.EndMoves.{clean_ended}
 use Rattle.laws_counted.proofs.NoteMoves.{clean_plain, low_of}
 use Rattle.laws_counted.proofs.OpenMoves.{opened_beside, opened_clean}
 use Rattle.laws_counted.proofs.OwnLemmas.{open_own, own_instance}
-use Rattle.laws_counted.proofs.StepFrames.{SameKept, kept_itself, steps_same}
+use Rattle.laws_counted.proofs.StepFrames.{kept_itself, steps_same}
 use Rattle.laws_counted.proofs.StillLemmas.{clean_still}
 use Rattle.laws_counted.specs.Counted.{AreCounted}
 use Rattle.laws_counts.specs.Counts.{CleanFacts}

@@ -1,26 +1,25 @@
 -- The calls of a clean task stay few, when the cloud performs a call.
-use Rattle.std.proofs.Common.{◌≡◌, ◌≢◌, ◌∙◌, ℕ, ◌+◌, ◌≤◌, ◌<◌, Bool, true, false, Option, Some, None, List, [], ◌∷◌, ◌++◌}
-use Rattle.std.proofs.Common.{ap, arith, inl, inr, refl, subst, sym}
-use Rattle.std.specs.Prelude.{◌⊎◌, ◌&&◌, ◌||◌, ◌==◌, eqb, if◌then◌else◌, is_some, nat_lt, not}
+use Rattle.std.proofs.Common.{◌≡◌, ◌≢◌, ◌∙◌, ℕ, Bool, true, false, Option, Some, None, [], ◌∷◌, ◌++◌}
+use Rattle.std.proofs.Common.{inl, inr, refl, subst, sym}
+use Rattle.std.specs.Prelude.{◌⊎◌, ◌||◌, ◌==◌, eqb, if◌then◌else◌, is_some, nat_lt, not}
 use Rattle.std.specs.Str.{bytes_eq}
-use Rattle.std.proofs.lemmas.Bool.{and_parts, eq-eqb, eqb-true, false≢true, ltb-true, or_cases}
+use Rattle.std.proofs.lemmas.Bool.{and_parts, eq-eqb, false≢true, ltb-true, or_cases}
 use Rattle.bosh_base.specs.CallStep.{is_gone}
 use Rattle.bosh_base.specs.declared.entry.Begin.{Begin}
 use Rattle.bosh_base.specs.declared.goal.GoalRow.{GoalRow}
 use Rattle.bosh_base.specs.declared.inst.Inst.{Inst}
 use Rattle.bosh_base.specs.declared.moves.Did.{Did}
 use Rattle.bosh_base.specs.declared.owner.Owner.{Owner}
-use Rattle.bosh_base.specs.declared.owner.Owner.TheVariants.{Compile, Disk, Instance}
-use Rattle.bosh_base.specs.declared.row.Row.{Row}
+use Rattle.bosh_base.specs.declared.owner.Owner.TheVariants.{Compile, Instance}
 use Rattle.bosh_history.specs.Items.{is_item, is_leftover, is_to_ping}
-use Rattle.bosh_history.specs.Known.{SlotName, Task, want_in}
+use Rattle.bosh_history.specs.Known.{Task, want_in}
 use Rattle.bosh_history.specs.Moments.{Moment, OpenCall, performed_call, performing}
 use Rattle.bosh_history.specs.Notes.{Outside}
 use Rattle.bosh_history.specs.Orders.{same_slot}
 use Rattle.bosh_history.specs.Permitted.{Performs}
-use Rattle.bosh_history.specs.Steps.{is_idle, is_owners}
+use Rattle.bosh_history.specs.Steps.{is_owners}
 use Rattle.bosh_history.specs.Words.{at, holds, is_among}
-use Rattle.bosh_lawful.specs.Clean.{is_failed, is_silent_creation}
+use Rattle.bosh_lawful.specs.Clean.{is_failed}
 use Rattle.bosh_rows.proofs.SameLemmas.{same_inst_decides}
 use Rattle.bosh_rows.specs.After.{after}
 use Rattle.bosh_rows.specs.Same.{same_inst}
@@ -123,7 +122,7 @@ module _ (outside : Outside) (m : Moment) (h : Holds m) (d : Did) (call : OpenCa
   clean_done it made left others own = record {
     all_counted = counted_same t task task a it refl refl refl left made f.all_counted;
     left_over = λ name.
-    (λ j. implies (is_leftover m.known t name) (is_among same_slot name (left j))) ∙ f.left_over name;
+        (λ j. implies (is_leftover m.known t name) (is_among same_slot name (left j))) ∙ f.left_over name;
     steps = λ i budgeted. step i budgeted (noted.tells b.owner (Instance i));
     slots_few =
         slots_left m n t task a it later.known (λ key done. done) (λ k. refl)
@@ -134,9 +133,9 @@ module _ (outside : Outside) (m : Moment) (h : Holds m) (d : Did) (call : OpenCa
         (λ k j. made j (Compile t k)) f.slots_few;
     slot_calls = λ k. slot_call k (eqb d.n k);
     sweep = λ name isin.
-    let was : SweepFacts m t a name = f.sweep name ((λ j. is_among same_slot name (sym left j)) ∙ isin) in
-    sweep_same m n t a it name later.known.numbers.past was.earlier (done_begins m d call is (owner_of name)) refl
-    (λ j. made j (owner_of name)) was;
+        let was : SweepFacts m t a name = f.sweep name ((λ j. is_among same_slot name (sym left j)) ∙ isin) in
+        sweep_same m n t a it name later.known.numbers.past was.earlier (done_begins m d call is (owner_of name)) refl
+        (λ j. made j (owner_of name)) was;
   }
     where
       step : (i : Inst) → is_budgeted task i ≡ true → noted.Tells b.owner (Instance i)
@@ -182,7 +181,7 @@ module _ (outside : Outside) (m : Moment) (h : Holds m) (d : Did) (call : OpenCa
     one : OneCall n i (record { begin = b; did = Some d })
     one = record {
       busy = λ rests.
-      none_open n (Instance i) later.known.numbers.past rests d.n (record { begin = b; did = Some d }) now own;
+          none_open n (Instance i) later.known.numbers.past rests d.n (record { begin = b; did = Some d }) now own;
       is_it = λ k other at of_it. by k other of_it (eqb d.n k) refl at;
     }
       where

@@ -1,8 +1,8 @@
 -- The calls of a clean task stay few, when a call is answered.
-use Rattle.std.proofs.Common.{◌≡◌, ◌≢◌, ◌∙◌, ℕ, ◌+◌, ◌≤◌, ◌<◌, Bool, true, false, Option, Some, None, List}
-use Rattle.std.proofs.Common.{ap, arith, inl, inr, refl, subst, sym}
-use Rattle.std.specs.Prelude.{◌⊎◌, ◌&&◌, ◌||◌, ◌==◌, eqb, if◌then◌else◌, is_some, length, not}
-use Rattle.std.proofs.lemmas.Bool.{and_parts, eq-eqb, eqb-true, false≢true, not-true, or_cases}
+use Rattle.std.proofs.Common.{◌≡◌, ◌≢◌, ◌∙◌, ℕ, Bool, true, false, Some, None}
+use Rattle.std.proofs.Common.{refl, sym}
+use Rattle.std.specs.Prelude.{◌&&◌, ◌||◌, ◌==◌, eqb, if◌then◌else◌, not}
+use Rattle.std.proofs.lemmas.Bool.{and_parts, eq-eqb, eqb-true, false≢true, not-true}
 use Rattle.bosh_base.specs.Answer.{is_kind}
 use Rattle.bosh_base.specs.Call.{method_of}
 use Rattle.bosh_base.specs.CallStep.{is_gone}
@@ -19,9 +19,8 @@ use Rattle.bosh_base.specs.declared.moves.Did.{Did}
 use Rattle.bosh_base.specs.declared.owner.Owner.{Owner}
 use Rattle.bosh_base.specs.declared.owner.Owner.TheVariants.{Compile, Disk, Instance}
 use Rattle.bosh_history.specs.Calls.{call_ended, task_after_ping, task_told}
-use Rattle.bosh_history.specs.Items.{is_item, is_leftover, is_to_ping, slots_of}
+use Rattle.bosh_history.specs.Items.{is_item, is_leftover, is_to_ping}
 use Rattle.bosh_history.specs.Known.{Known, Slot, SlotName, Task, want_in}
-use Rattle.bosh_history.specs.Learn.{learn}
 use Rattle.bosh_history.specs.Moments.{Moment, OpenCall, noting}
 use Rattle.bosh_history.specs.Notes.{MayNote, Outside}
 use Rattle.bosh_history.specs.Orders.{same_slot}
@@ -38,7 +37,7 @@ use Rattle.laws_clean.specs.Unfailed.{UnfailedFacts}
 use Rattle.laws_cloud.proofs.CallLemmas.{slot_some}
 use Rattle.laws_cloud.proofs.TellLemmas.{truth_is}
 use Rattle.laws_compiling.proofs.GrowthLemmas.{compiled_stays}
-use Rattle.laws_counted.proofs.CallFrames.{SameCalls, begins_of, ended_calls}
+use Rattle.laws_counted.proofs.CallFrames.{begins_of, ended_calls}
 use Rattle.laws_counted.proofs.CountLemmas.{budgeted_dep, counted_same}
 use Rattle.laws_counted.proofs.NoteMoves.{ended_count, low_of, not_among}
 use Rattle.laws_counted.proofs.OwnLemmas.{IsOwn, earlier_is, open_own, own_instance, own_slot, own_swept}
@@ -50,7 +49,7 @@ use Rattle.laws_counted.proofs.StepMoves.{steps_ended}
 use Rattle.laws_counted.proofs.StillLemmas.{budgeted_as, earlier_kept, few_as, goes_on_as, same_for}
 use Rattle.laws_counted.proofs.SweepLemmas.{sweep_ended, sweep_same}
 use Rattle.laws_counts.specs.Counts.{CleanFacts, SweepFacts, are_slots_few, compiles_package, is_call_of_slot}
-use Rattle.laws_counts.specs.Counts.{is_left_over, is_of_earlier, is_slot_call, makes_or_deletes, owner_of}
+use Rattle.laws_counts.specs.Counts.{is_slot_call, makes_or_deletes, owner_of}
 use Rattle.laws_counts.specs.Courses.{Account}
 use Rattle.laws_counts.specs.RowSteps.{StepFacts, is_budgeted}
 use Rattle.laws_facts.proofs.MadeLemmas.{same_tasks}
@@ -313,10 +312,10 @@ module _ (outside : Outside) (m : Moment) (h : Holds m) (e : End) (may : MayNote
   clean_ended = record {
     all_counted = counted_same t old new a a (ended_count e.answer (m.known.begun e.n) m.known t) alike.goal alike.obsolete refl refl f.all_counted;
     left_over = λ name.
-    implied_by (is_leftover n.known t name) (is_among same_slot name a.left_over)
-    (λ over.
-    implied (is_leftover m.known t name) _ (f.left_over name)
-    ((onward outside m h.known (entries.End e) follows may t working).leftover name over));
+        implied_by (is_leftover n.known t name) (is_among same_slot name a.left_over)
+        (λ over.
+        implied (is_leftover m.known t name) _ (f.left_over name)
+        ((onward outside m h.known (entries.End e) follows may t working).leftover name over));
     steps = λ i is. either_steps i (sym (budgeted_as old new i alike) ∙ is) (tells b.owner (Instance i));
     slots_few = slots_by b.owner refl;
     slot_calls = λ k. by k (eqb e.n k);

@@ -1,9 +1,9 @@
 -- Each clean task keeps within its budget, at any moment of a permitted history.
-use Rattle.std.proofs.Common.{◌≡◌, ◌≢◌, ◌∙◌, ℕ, ◌+◌, ◌≤◌, Bool, true, false, Option, Some, None, List, [], ◌∷◌}
-use Rattle.std.proofs.Common.{ap, arith, inl, inr, refl, subst, sym}
+use Rattle.std.proofs.Common.{◌≡◌, ◌∙◌, ℕ, ◌≤◌, Bool, true, false, Option, Some, None, List, [], ◌∷◌}
+use Rattle.std.proofs.Common.{arith, inl, inr, refl, subst, sym}
 use Rattle.std.specs.Prelude.{◌*◌, ◌&&◌, eqb, filter, if◌then◌else◌, is_some, length, nat_le, nat_lt, not}
 use Rattle.std.specs.List.{list_all}
-use Rattle.std.proofs.lemmas.Bool.{and_from, and_parts, eq-eqb, eqb-true, false≢true, le-leb, leb-true, not-true}
+use Rattle.std.proofs.lemmas.Bool.{and_from, eq-eqb, eqb-true, false≢true, le-leb, leb-true}
 use Rattle.std.proofs.lemmas.Bool.Decides.{eqb_tells}
 use Rattle.bosh_base.specs.declared.digest.Digest.{Digest}
 use Rattle.bosh_base.specs.declared.entry.Begin.{Begin}
@@ -21,7 +21,7 @@ use Rattle.bosh_history.specs.Calls.{task_with_call}
 use Rattle.bosh_history.specs.Fit.{IsFit}
 use Rattle.bosh_history.specs.Goals.{instances_of, rows_of}
 use Rattle.bosh_history.specs.Items.{is_in_deployment}
-use Rattle.bosh_history.specs.Known.{SlotName, Task}
+use Rattle.bosh_history.specs.Known.{Task}
 use Rattle.bosh_history.specs.Learn.{learn}
 use Rattle.bosh_history.specs.Moments.{Moment, OpenCall, Opening, beginning, later, noting}
 use Rattle.bosh_history.specs.Notes.{MayNote, Outside}
@@ -57,7 +57,7 @@ use Rattle.laws_held.proofs.PartLemmas.{whole_moves}
 use Rattle.laws_held.specs.Whole.{Whole}
 use Rattle.laws_items.proofs.ListLemmas.{all_from, all_in}
 use Rattle.laws_items.specs.Lists.{IsIn}
-use Rattle.laws_tasks.proofs.TaskFrames.{OpenedAlike, opened_stays}
+use Rattle.laws_tasks.proofs.TaskFrames.{opened_stays}
 
 -- a task that was clean so far, within its budget
 record Within (c : Course) (it : CleanTask) : Type 0 where
@@ -357,8 +357,7 @@ bounded_along outside c [] run h unfailed counted tasks all none_failed = all_bo
 bounded_along outside c (move ∷ moves) run h unfailed counted tasks all none_failed =
     let after : Whole (later c.moment move) = whole_moves outside c.moment move run.0 h in
     let still : AreCounted outside.built (course_later c move) =
-    counted_course outside c move run.0 h.holds after.holds unfailed counted in
-    (
+    counted_course outside c move run.0 h.holds after.holds unfailed counted in (
       all_bounded c tasks all none_failed.0,
       bounded_along outside (course_later c move) moves run.1 after
           (unfailed_course outside c move run.0 h.holds unfailed) still (clean_after c.moment move tasks)

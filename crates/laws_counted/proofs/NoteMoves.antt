@@ -1,7 +1,7 @@
 -- The calls of a clean task stay few, when an entry is noted that opens no task and is of no call.
-use Rattle.std.proofs.Common.{◌≡◌, ◌≢◌, ◌∙◌, ℕ, ◌+◌, ◌≤◌, Bool, true, false, Option, Some, None, List}
-use Rattle.std.proofs.Common.{ap, arith, refl, subst, sym}
-use Rattle.std.specs.Prelude.{◌&&◌, ◌||◌, ◌==◌, eqb, if◌then◌else◌, is_some, nat_le, nat_lt, not}
+use Rattle.std.proofs.Common.{◌≡◌, ◌∙◌, ℕ, ◌+◌, ◌≤◌, Bool, true, false, Option, Some, None}
+use Rattle.std.proofs.Common.{arith, refl, subst, sym}
+use Rattle.std.specs.Prelude.{◌&&◌, eqb, if◌then◌else◌, is_some, nat_le, nat_lt, not}
 use Rattle.std.proofs.lemmas.Bool.{and_parts, eq-eqb, eqb-true, false≢true, leb-true}
 use Rattle.bosh_base.specs.declared.answer.Answer.{Answer}
 use Rattle.bosh_base.specs.declared.call.Call.{Call}
@@ -17,12 +17,12 @@ use Rattle.bosh_history.specs.Calls.{call_ended, number_of, task_after_ping, tas
 use Rattle.bosh_history.specs.Items.{is_finished, is_item, is_to_change, is_to_go, is_to_ping, stage_of}
 use Rattle.bosh_history.specs.Known.{Known, Task, dep_of_task, plan_in, want_in}
 use Rattle.bosh_history.specs.Learn.{learn}
-use Rattle.bosh_history.specs.Moments.{Moment, OpenCall, calls_after, noting}
+use Rattle.bosh_history.specs.Moments.{Moment, noting}
 use Rattle.bosh_history.specs.Notes.{EndsUpdate, Leaves, MayNote, Outside}
 use Rattle.bosh_history.specs.Recovered.{may_follow}
 use Rattle.bosh_history.specs.Steps.{is_idle}
 use Rattle.bosh_history.specs.Tasks.{end_by}
-use Rattle.bosh_history.specs.Updates.{instance_gone, update_at, update_done}
+use Rattle.bosh_history.specs.Updates.{update_at, update_done}
 use Rattle.bosh_history.specs.Words.{at, is_among}
 use Rattle.bosh_roll.specs.declared.upd.Upd.TheVariants.{Busy, Finished}
 use Rattle.bosh_rows.proofs.SameLemmas.{same_inst_decides}
@@ -33,11 +33,11 @@ use Rattle.laws_counted.proofs.CallFrames.{still_same}
 use Rattle.laws_counted.proofs.CountLemmas.{budgeted_dep}
 use Rattle.laws_counted.proofs.OwnLemmas.{own_instance}
 use Rattle.laws_counted.proofs.SlotEnds.{and_no}
-use Rattle.laws_counted.proofs.StepFrames.{SameFor, kept_itself, steps_same}
+use Rattle.laws_counted.proofs.StepFrames.{kept_itself, steps_same}
 use Rattle.laws_counted.proofs.StillLemmas.{Still, budgeted_as, clean_still, goes_on_as, same_for, steps_settled}
 use Rattle.laws_counts.specs.Counts.{CleanFacts}
 use Rattle.laws_counts.specs.Courses.{Account}
-use Rattle.laws_counts.specs.RowSteps.{StepFacts, is_budgeted, may_go_on}
+use Rattle.laws_counts.specs.RowSteps.{StepFacts, is_budgeted}
 use Rattle.laws_facts.proofs.CurrentLemmas.{done_works}
 use Rattle.laws_facts.proofs.DepLemmas.{dep_settled, dep_updated}
 use Rattle.laws_facts.proofs.LockLemmas.{is_opening}

@@ -1,10 +1,10 @@
 -- The calls of a clean task are few when it opens, and stay few when another opens.
-use Rattle.std.proofs.Common.{◌≡◌, ◌≢◌, ◌∙◌, ℕ, ◌+◌, ◌≤◌, Bool, true, false, Option, Some, None, List, [], ◌∷◌, ◌++◌}
-use Rattle.std.proofs.Common.{ap, arith, refl, subst, sym}
-use Rattle.std.specs.Prelude.{◌&&◌, ◌==◌, eqb, filter, if◌then◌else◌, is_some, length, nat_le, not, sum_by}
+use Rattle.std.proofs.Common.{◌≡◌, ◌∙◌, ℕ, ◌+◌, ◌≤◌, true, false, Option, Some, None, List, [], ◌∷◌}
+use Rattle.std.proofs.Common.{arith, refl, subst, sym}
+use Rattle.std.specs.Prelude.{◌==◌, if◌then◌else◌, is_some, nat_le, not, sum_by}
 use Rattle.std.specs.Option.{option_eq}
 use Rattle.std.specs.Str.{bytes_eq}
-use Rattle.std.proofs.lemmas.Bool.{and_from, and_parts, eq-eqb, eqb-true, false≢true, le-leb}
+use Rattle.std.proofs.lemmas.Bool.{and_from, and_parts, eq-eqb, eqb-true, le-leb}
 use Rattle.std.proofs.lemmas.Bool.Decides.{eqb_tells}
 use Rattle.std.proofs.lemmas.List.Sums.{sum_by-cons}
 use Rattle.bosh_base.specs.declared.entry.Entry.TheVariants as entries
@@ -13,7 +13,7 @@ use Rattle.bosh_base.specs.declared.inst.Inst.{Inst}
 use Rattle.bosh_base.specs.declared.owner.Owner.{Owner}
 use Rattle.bosh_base.specs.declared.owner.Owner.TheVariants.{Compile, Disk, Instance}
 use Rattle.bosh_history.specs.Items.{is_in_deployment, is_leftover, is_to_ping}
-use Rattle.bosh_history.specs.Known.{Slot, SlotName, Task, want_in}
+use Rattle.bosh_history.specs.Known.{Slot, SlotName, want_in}
 use Rattle.bosh_history.specs.Moments.{Moment, OpenCall, noting}
 use Rattle.bosh_history.specs.Notes.{MayNote, Outside}
 use Rattle.bosh_history.specs.Orders.{same_slot}
@@ -42,7 +42,7 @@ use Rattle.laws_heard.proofs.NoteLemmas.{implied_by}
 use Rattle.laws_items.proofs.ItemFrames.{are_listed, same_dep_is, slot_dep}
 use Rattle.laws_items.proofs.ListLemmas.{among_is, any_in, holds_some, in_filtered}
 use Rattle.laws_items.specs.Lists.{IsIn}
-use Rattle.laws_row_facts.specs.Words.{implies, where_any}
+use Rattle.laws_row_facts.specs.Words.{where_any}
 use Rattle.laws_tasks.proofs.TaskFrames.{OpenedAlike, opened_itself}
 
 none_summed : (xs : List Owner) → sum_by (λ (owner : Owner). 0) xs ≡ 0
@@ -113,9 +113,9 @@ module _ (outside : Outside) (m : Moment) (h : Holds m) (o : TaskOpen) (may : Ma
       few = λ idle. le-leb 0 (0 + one_if (not (is_to_ping (n.known.task t) i))) (omega arith);
       leads = λ idle going. refl;
       in_call = λ k call is own.
-      absurd (none_open (Instance i)
-      (own_instance n later.known t working i (budgeted_dep n later.known t working i budgeted)) k call is
-      (owner_is i call own));
+          absurd (none_open (Instance i)
+          (own_instance n later.known t working i (budgeted_dep n later.known t working i budgeted)) k call is
+          (owner_is i call own));
     }
 
     few : are_slots_few n t (n.known.task t) it ≡ true

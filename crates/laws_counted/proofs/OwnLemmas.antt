@@ -1,11 +1,10 @@
 -- Whose calls are a task's: those of what it lists, of its slots, and of the machines that it sweeps.
-use Rattle.std.proofs.Common.{◌≡◌, ◌∙◌, ℕ, ◌≤◌, Bool, true, false, Option, Some, None, List}
-use Rattle.std.proofs.Common.{ap, arith, refl, sym}
-use Rattle.std.specs.Prelude.{◌&&◌, ◌==◌, nat_le, not}
+use Rattle.std.proofs.Common.{◌≡◌, ◌∙◌, ℕ, ◌≤◌, Bool, true, false, Some, None}
+use Rattle.std.proofs.Common.{refl, sym}
+use Rattle.std.specs.Prelude.{◌==◌, nat_le, not}
 use Rattle.std.specs.Option.{option_eq}
 use Rattle.std.specs.Str.{bytes_eq}
 use Rattle.std.proofs.lemmas.Bool.{and_parts, eqb-true, leb-true, not-true}
-use Rattle.std.proofs.lemmas.Bool.Decides.{eqb_tells}
 use Rattle.bosh_base.specs.declared.entry.Begin.{Begin}
 use Rattle.bosh_base.specs.declared.entry.Entry.TheVariants as entries
 use Rattle.bosh_base.specs.declared.inst.Inst.{Inst}

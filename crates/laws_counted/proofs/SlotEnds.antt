@@ -1,8 +1,7 @@
 -- The slots of a task have few calls, when one of them is answered.
-use Rattle.std.proofs.Common.{◌≡◌, ◌≢◌, ◌∙◌, ℕ, ◌+◌, ◌≤◌, ◌<◌, Bool, true, false, Option, Some, None, List}
-use Rattle.std.proofs.Common.{ap, arith, refl, subst, sym}
-use Rattle.std.specs.Prelude.{◌*◌, ◌&&◌, ◌||◌, ◌==◌, count_by, eqb, if◌then◌else◌, is_some, length, not}
-use Rattle.std.specs.List.{list_any}
+use Rattle.std.proofs.Common.{◌≡◌, ◌∙◌, ℕ, ◌+◌, ◌≤◌, ◌<◌, Bool, true, false, Option, Some, None, List}
+use Rattle.std.proofs.Common.{arith, refl, subst, sym}
+use Rattle.std.specs.Prelude.{◌&&◌, ◌==◌, count_by, eqb, if◌then◌else◌, is_some, length, not}
 use Rattle.std.specs.Option.{option_eq}
 use Rattle.std.proofs.lemmas.Bool.{and_from, and_parts, eq-eqb, eqb-true, false≢true, not-true, or_left}
 use Rattle.bosh_base.specs.Answer.{is_kind}
@@ -34,10 +33,10 @@ use Rattle.bosh_history.specs.Words.{at, holds, numbers_below}
 use Rattle.bosh_lawful.specs.Clean.{is_failed}
 use Rattle.laws_cloud.proofs.CallLemmas.{doubt_is}
 use Rattle.laws_counted.proofs.SlotFacts.{Grows, KeepsCompilations, compiles_on, held_by_slots, most, most_any, most_as}
-use Rattle.laws_counted.proofs.SlotFacts.{most_compiled, most_deleted, most_kept, most_same, past_grows, slots_step}
+use Rattle.laws_counted.proofs.SlotFacts.{most_compiled, most_kept, most_same, past_grows, slots_step}
 use Rattle.laws_counted.proofs.SlotMoves.{other_slot}
 use Rattle.laws_counted.proofs.SumLemmas.{count_grows, count_low}
-use Rattle.laws_counts.specs.Counts.{are_slots_few, compiles_now, compiles_package, is_compilation_of, is_compiled_for}
+use Rattle.laws_counts.specs.Counts.{are_slots_few, compiles_now, compiles_package}
 use Rattle.laws_counts.specs.Counts.{is_key_held, is_past, makes_or_deletes}
 use Rattle.laws_counts.specs.Courses.{Account}
 use Rattle.laws_facts.specs.CompileMachines.{is_being_deleted, is_for, is_slot_of_goal}
@@ -48,7 +47,6 @@ use Rattle.laws_heard.proofs.AnswerLemmas.{implied}
 use Rattle.laws_items.proofs.ListLemmas.{any_in, below_in, find_in, holds_some, none_from}
 use Rattle.laws_items.proofs.OwnerLemmas.{same_owner_is}
 use Rattle.laws_items.proofs.SlotFrames.{answered_apart, slots_ended, slots_told}
-use Rattle.laws_items.specs.Lists.{IsIn}
 use Rattle.laws_row_facts.specs.Words.{implies, where_any}
 use Rattle.laws_rows.specs.Rightful.{is_machine}
 

@@ -1,12 +1,10 @@
 -- How many calls the slots of a task may have had, from one moment to another.
-use Rattle.std.proofs.Common.{◌≡◌, ◌≢◌, ◌∙◌, ℕ, ◌+◌, ◌≤◌, ◌<◌, Bool, true, false, Option, Some, None, List}
+use Rattle.std.proofs.Common.{◌≡◌, ◌∙◌, ℕ, ◌+◌, ◌≤◌, ◌<◌, Bool, true, false, Option, Some, None}
 use Rattle.std.proofs.Common.{arith, inl, inr, refl, subst, sym}
-use Rattle.std.specs.Prelude.{◌⊎◌, ◌*◌, ◌&&◌, ◌||◌, ◌==◌, count_by, if◌then◌else◌, length, map, nat_le, not, sum_by}
-use Rattle.std.specs.List.{list_any}
-use Rattle.std.proofs.lemmas.Bool.{and_from, and_parts, eqb-true, false≢true, le-leb, leb-true, not-true, or_cases}
+use Rattle.std.specs.Prelude.{◌⊎◌, ◌*◌, ◌==◌, count_by, if◌then◌else◌, length, not, sum_by}
+use Rattle.std.proofs.lemmas.Bool.{and_from, and_parts, false≢true, le-leb, leb-true, or_cases}
 use Rattle.std.proofs.lemmas.Bool.{or_left, or_right}
 use Rattle.bosh_base.specs.Cloud.{numbers_to}
-use Rattle.bosh_base.specs.declared.goal.Goal.{Goal}
 use Rattle.bosh_base.specs.declared.key.Key.{Key}
 use Rattle.bosh_base.specs.declared.key.KeyWork.{KeyWork}
 use Rattle.bosh_base.specs.declared.owner.Owner.{Owner}
@@ -25,7 +23,6 @@ use Rattle.laws_facts.specs.CompileMachines.{is_being_deleted, is_for}
 use Rattle.laws_facts.specs.KnownFacts.{KnownFacts}
 use Rattle.laws_items.proofs.ListLemmas.{Meets, any_in, holds_some, some_meets}
 use Rattle.laws_items.proofs.ListedLemmas.{numbered_in}
-use Rattle.laws_items.specs.Lists.{IsIn}
 
 -- ---- compilations that are open
 

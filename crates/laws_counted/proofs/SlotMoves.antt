@@ -1,36 +1,22 @@
 -- The slots of a task have few calls: when one begins, and when one is answered.
-use Rattle.std.proofs.Common.{◌≡◌, ◌≢◌, ◌∙◌, ℕ, ◌+◌, ◌≤◌, ◌<◌, Bool, true, false, Option, Some, None, List, []}
-use Rattle.std.proofs.Common.{ap, arith, refl, subst, sym}
-use Rattle.std.specs.Prelude.{◌*◌, ◌&&◌, ◌||◌, ◌==◌, count_by, eqb, if◌then◌else◌, is_some, length, nat_lt, not}
-use Rattle.std.specs.List.{list_any}
+use Rattle.std.proofs.Common.{◌≡◌, ◌≢◌, ◌∙◌, ℕ, ◌+◌, ◌≤◌, ◌<◌, Bool, true, false, Option, Some, None, []}
+use Rattle.std.proofs.Common.{arith, refl, subst, sym}
+use Rattle.std.specs.Prelude.{◌||◌, ◌==◌, count_by, length, nat_lt, not}
 use Rattle.std.specs.Option.{option_map}
 use Rattle.std.proofs.lemmas.Bool.{and_from, and_parts, eq-eqb, eqb-true, false≢true, ltb-true, or_right}
-use Rattle.std.proofs.lemmas.Bool.Decides.{eqb_tells}
-use Rattle.bosh_base.specs.Answer.{is_kind}
-use Rattle.bosh_base.specs.Call.{method_of}
-use Rattle.bosh_base.specs.CallStep.{is_gone}
-use Rattle.bosh_base.specs.declared.answer.Answer.{Answer}
-use Rattle.bosh_base.specs.declared.answer.Answer.TheVariants as answers
 use Rattle.bosh_base.specs.declared.call.Call.{Call}
 use Rattle.bosh_base.specs.declared.call.Call.TheVariants as calls
-use Rattle.bosh_base.specs.declared.digest.Digest.{Digest}
 use Rattle.bosh_base.specs.declared.entry.Begin.{Begin}
-use Rattle.bosh_base.specs.declared.entry.End.{End}
 use Rattle.bosh_base.specs.declared.entry.Entry.TheVariants as entries
 use Rattle.bosh_base.specs.declared.key.Key.{Key}
-use Rattle.bosh_base.specs.declared.key.KeyWork.{KeyWork}
-use Rattle.bosh_base.specs.declared.make.Make.{Make}
 use Rattle.bosh_base.specs.declared.owner.Owner.{Owner}
 use Rattle.bosh_base.specs.declared.owner.Owner.TheVariants.{Compile}
-use Rattle.bosh_base.specs.declared.row.Doubt.{Doubt}
-use Rattle.bosh_base.specs.declared.row.Vm.{Vm}
 use Rattle.bosh_compile.proofs.KeyLemmas.{same_key_decides}
-use Rattle.bosh_compile.specs.Readiness.{same_key}
 use Rattle.bosh_history.specs.Calls.{begins, key_for}
 use Rattle.bosh_history.specs.Items.{is_item, is_leftover, is_slot_left, phase_of, slots_of}
 use Rattle.bosh_history.specs.Known.{Known, Slot, Task, dep_of_task}
-use Rattle.bosh_history.specs.Moments.{Moment, OpenCall, noting}
-use Rattle.bosh_history.specs.Notes.{Begins, Outside}
+use Rattle.bosh_history.specs.Moments.{Moment, noting}
+use Rattle.bosh_history.specs.Notes.{Begins}
 use Rattle.bosh_history.specs.Slots.{in_doubt, is_compiled, is_ready, keys_of, may_take, slot_begun}
 use Rattle.bosh_history.specs.Steps.{call_now, compile_make, compiling, is_idle, is_owners}
 use Rattle.bosh_history.specs.Words.{holds}
@@ -41,7 +27,7 @@ use Rattle.laws_counted.proofs.SlotFacts.{Grows, KeepsCompilations, compiles_by,
 use Rattle.laws_counted.proofs.SlotFacts.{most, most_as, most_compiled, most_deleted, most_kept, most_made, most_some}
 use Rattle.laws_counted.proofs.SlotFacts.{past_grows, slots_step}
 use Rattle.laws_counted.proofs.SumLemmas.{count_low}
-use Rattle.laws_counts.specs.Counts.{are_slots_few, compiles_now, compiles_package, is_compilation_of, is_compiled_for}
+use Rattle.laws_counts.specs.Counts.{are_slots_few, compiles_now, compiles_package, is_compiled_for}
 use Rattle.laws_counts.specs.Counts.{is_past}
 use Rattle.laws_counts.specs.Courses.{Account}
 use Rattle.laws_facts.proofs.CallLemmas.{none_open}
@@ -183,7 +169,7 @@ module _ (m : Moment) (h : KnownFacts m) (b : Begin) (may : Begins m b)
           stepped
           (subst (λ (slot : Option Slot). most m t s slot + 1 ≤ most n t s (n.known.slot t s)) (sym at)
           (subst (λ (slot : Option Slot). most m t s (Some it) + 1 ≤ most n t s slot) (sym new)
-          (subst (λ (x : ℕ). most m t s (Some it) + 1 ≤ x) 
+          (subst (λ (x : ℕ). most m t s (Some it) + 1 ≤ x)
           (sym (most_deleted n t s (in_doubt b.n (calls.DeleteVm vm.vm) it) refl))
           (let low : most m t s (Some it) ≤ 2 = most_kept m t s it (λ j. is_being_deleted (record it { doubt = none j })) in
           omega (arith, low)))))

@@ -1,7 +1,7 @@
 -- What is known of the calls of an instance in a clean task, where a move leaves the instance as it was.
-use Rattle.std.proofs.Common.{◌≡◌, ◌∙◌, ℕ, ◌+◌, ◌≤◌, ◌<◌, Bool, true, false, Option, Some, None, List, [], ◌∷◌}
-use Rattle.std.proofs.Common.{ap, arith, refl, subst, sym}
-use Rattle.std.specs.Prelude.{fold, is_some, length, nat_le, nat_lt, not}
+use Rattle.std.proofs.Common.{◌≡◌, ◌∙◌, ◌+◌, Bool, true, Option, List}
+use Rattle.std.proofs.Common.{refl, subst, sym}
+use Rattle.std.specs.Prelude.{fold, length, nat_le, nat_lt, not}
 use Rattle.bosh_base.specs.declared.digest.Digest.{Digest}
 use Rattle.bosh_base.specs.declared.entry.Begin.{Begin}
 use Rattle.bosh_base.specs.declared.goal.GoalRow.{GoalRow}
@@ -13,14 +13,14 @@ use Rattle.bosh_base.specs.declared.row.Row.{Row}
 use Rattle.bosh_history.specs.Items.{is_to_ping}
 use Rattle.bosh_history.specs.Known.{Task, want_in}
 use Rattle.bosh_history.specs.Moments.{Moment, OpenCall}
-use Rattle.bosh_history.specs.Steps.{is_idle, is_owners}
+use Rattle.bosh_history.specs.Steps.{is_owners}
 use Rattle.bosh_rows.specs.CallOf.{next_call}
 use Rattle.bosh_rows.specs.Same.{same_owner}
 use Rattle.bosh_rows.specs.Tied.{one_if}
 use Rattle.laws_cloud.proofs.TellLemmas.{same_owner_itself}
 use Rattle.laws_counted.proofs.CallFrames.{SameCalls, begins_of, idle_back}
 use Rattle.laws_counts.specs.Courses.{Account}
-use Rattle.laws_counts.specs.RowSteps.{InCall, IsLedTo, StepFacts, is_extra, is_few_at_rest, is_few_in_call, is_young}
+use Rattle.laws_counts.specs.RowSteps.{InCall, IsLedTo, StepFacts, is_extra}
 use Rattle.laws_counts.specs.RowSteps.{led_to, may_go_on}
 use Rattle.laws_facts.specs.Kept.{AreNumbersPast}
 use Rattle.laws_items.proofs.OwnerLemmas.{same_owner_is}
@@ -61,7 +61,7 @@ call_same : (s t : Task) (a b : Account) (i : Inst) (row later : Row) (call : Op
 call_same s t a b i row later call same kept rows f = record {
   leads = led_as call.begin call.did (led_to a i) (led_to b i) row later (led_same a b i kept) rows f.leads;
   next = λ plain none.
-  (λ j. next_call (same.want j) (led_same a b i kept j)) ∙ f.next plain none;
+      (λ j. next_call (same.want j) (led_same a b i kept j)) ∙ f.next plain none;
   young = (λ j. young_by (same.want j)) ∙ f.young;
   few = (λ j. nat_le (kept.made j) (length (kept.steps j) + one_if (not (same.asks j)) + one_if (is_extra call))) ∙ f.few;
 }
@@ -83,11 +83,11 @@ steps_same built m n s t a b i past calls row same goes kept f = record {
       (subst (λ (steps : List Answered). AreAnswered built (want_in s.goal i) (a.first i) steps) (sym kept.steps) f.answered));
   unasked = λ asks. kept.steps ∙ f.unasked (sym same.asks ∙ asks);
   few = λ idle.
-  (λ j. nat_le (kept.made j) (length (kept.steps j) + one_if (not (same.asks j))))
-  ∙ f.few (idle_back m n (Instance i) past (begins_of m n (Instance i) calls) idle);
+      (λ j. nat_le (kept.made j) (length (kept.steps j) + one_if (not (same.asks j))))
+      ∙ f.few (idle_back m n (Instance i) past (begins_of m n (Instance i) calls) idle);
   leads = λ idle going.
-  led_same a b i kept ∙ (f.leads (idle_back m n (Instance i) past (begins_of m n (Instance i) calls) idle) (goes going) ∙ sym row);
+      led_same a b i kept ∙ (f.leads (idle_back m n (Instance i) past (begins_of m n (Instance i) calls) idle) (goes going) ∙ sym row);
   in_call = λ k call is own.
-  call_same s t a b i (m.known.row i) (n.known.row i) call same kept row
-  (f.in_call k call (calls.back k call is (owner_is i call own)) own);
+      call_same s t a b i (m.known.row i) (n.known.row i) call same kept row
+      (f.in_call k call (calls.back k call is (owner_is i call own)) own);
 }

@@ -1,12 +1,9 @@
 -- The calls of an instance in a clean task: when one begins, is performed, and is answered.
-use Rattle.std.proofs.Common.{◌≡◌, ◌∙◌, ℕ, ◌+◌, ◌≤◌, ◌<◌, Bool, true, false, Option, Some, None, List, [], ◌∷◌, ◌++◌}
-use Rattle.std.proofs.Common.{arith, length-append, refl, subst, sym}
-use Rattle.std.specs.Prelude.{◌||◌, fold, is_some, length, nat_le, nat_lt, not}
+use Rattle.std.proofs.Common.{◌≡◌, ◌∙◌, ℕ, ◌+◌, ◌≤◌, Bool, true, false, Option, Some, None, List, [], ◌∷◌, ◌++◌}
+use Rattle.std.proofs.Common.{arith, length-append, subst, sym}
+use Rattle.std.specs.Prelude.{◌||◌, fold, length, nat_le, nat_lt, not}
 use Rattle.std.proofs.lemmas.Bool.{false≢true, le-leb, leb-true}
 use Rattle.std.proofs.lemmas.List.Sums.{fold-append}
-use Rattle.bosh_base.specs.declared.answer.Answer.{Answer}
-use Rattle.bosh_base.specs.declared.call.Call.{Call}
-use Rattle.bosh_base.specs.declared.call.Call.TheVariants as calls
 use Rattle.bosh_base.specs.declared.digest.Digest.{Digest}
 use Rattle.bosh_base.specs.declared.entry.Begin.{Begin}
 use Rattle.bosh_base.specs.declared.goal.GoalRow.{GoalRow}
@@ -18,14 +15,14 @@ use Rattle.bosh_base.specs.declared.row.Row.{Row}
 use Rattle.bosh_history.specs.Items.{is_to_ping}
 use Rattle.bosh_history.specs.Known.{Task, want_in}
 use Rattle.bosh_history.specs.Moments.{Moment, OpenCall}
-use Rattle.bosh_history.specs.Steps.{is_idle, is_owners}
+use Rattle.bosh_history.specs.Steps.{is_idle}
 use Rattle.bosh_rows.specs.After.{after, begun_row}
 use Rattle.bosh_rows.specs.CallOf.{next_call}
 use Rattle.bosh_rows.specs.Tied.{one_if}
 use Rattle.laws_counted.proofs.AnsweredLemmas.{one_answered}
 use Rattle.laws_counted.proofs.StepFrames.{SameFor, is_owner, owner_is}
 use Rattle.laws_counts.specs.Courses.{Account}
-use Rattle.laws_counts.specs.RowSteps.{InCall, IsLedTo, StepFacts, is_extra, is_few_at_rest, is_few_in_call, is_young}
+use Rattle.laws_counts.specs.RowSteps.{InCall, StepFacts, is_extra}
 use Rattle.laws_counts.specs.RowSteps.{led_to, may_go_on}
 use Rattle.laws_row_facts.specs.Calls.{is_ping}
 use Rattle.laws_row_facts.specs.Words.{where_any}
@@ -58,7 +55,7 @@ steps_begun built m n s t a b i begin one idle going same first steps made row n
   few = λ rests. absurd (one.busy rests);
   leads = λ rests going. absurd (one.busy rests);
   in_call = λ k call is own.
-  subst (InCall t b i (n.known.row i)) (sym (one.is_it k call is (owner_is i call own))) now;
+      subst (InCall t b i (n.known.row i)) (sym (one.is_it k call is (owner_is i call own))) now;
 }
   where
     led : led_to b i ≡ m.known.row i
@@ -107,7 +104,7 @@ steps_pinged built m n t a b i begin d k one is own ping asks row sound room fir
   few = λ rests. absurd (one.busy rests);
   leads = λ rests going. absurd (one.busy rests);
   in_call = λ x call at mine.
-  subst (InCall t b i (n.known.row i)) (sym (one.is_it x call at (owner_is i call mine))) now;
+      subst (InCall t b i (n.known.row i)) (sym (one.is_it x call at (owner_is i call mine))) now;
 }
   where
     none : b.steps i ≡ []
@@ -152,7 +149,7 @@ steps_done built m n t a b i begin d k one is own plain asked row answered first
   few = λ rests. absurd (one.busy rests);
   leads = λ rests going. absurd (one.busy rests);
   in_call = λ x call at mine.
-  subst (InCall t b i (n.known.row i)) (sym (one.is_it x call at (owner_is i call mine))) now;
+      subst (InCall t b i (n.known.row i)) (sym (one.is_it x call at (owner_is i call mine))) now;
 }
   where
     it : Answered
@@ -206,10 +203,10 @@ steps_ended built m n s t a b i begin d k none is own asked asks want row first 
       (subst (λ (steps : List Answered). AreAnswered built (want_in s.goal i) (a.first i) steps) (sym steps) f.answered));
   unasked = λ again. absurd (false≢true (sym asks ∙ again));
   few = λ idle.
-  (λ j. nat_le (made j) (length (steps j) + one_if (not (asks j))))
-  ∙ le-leb (a.made (Instance i)) (length (a.steps i) + 1) (few_now (is_ping begin.call) low);
+      (λ j. nat_le (made j) (length (steps j) + one_if (not (asks j))))
+      ∙ le-leb (a.made (Instance i)) (length (a.steps i) + 1) (few_now (is_ping begin.call) low);
   leads = λ idle going.
-  (λ j. fold (λ row step. row_after step row) (first j) (steps j)) ∙ (was.leads ∙ sym row);
+      (λ j. fold (λ row step. row_after step row) (first j) (steps j)) ∙ (was.leads ∙ sym row);
   in_call = λ x call at mine. absurd (none x call at (owner_is i call mine));
 }
   where

@@ -1,20 +1,19 @@
 -- The calls of a clean task are as few as they were, where a move begins, performs and answers no call.
-use Rattle.std.proofs.Common.{◌≡◌, ◌≢◌, ◌∙◌, ℕ, ◌+◌, ◌≤◌, Bool, true, false, Option, Some, None, List, [], ◌∷◌, ◌++◌}
-use Rattle.std.proofs.Common.{ap, arith, refl, subst, sym}
+use Rattle.std.proofs.Common.{◌≡◌, ◌∙◌, ℕ, ◌+◌, ◌≤◌, true, false, Option, Some, None, List}
+use Rattle.std.proofs.Common.{arith, refl, subst, sym}
 use Rattle.std.specs.Prelude.{◌&&◌, ◌||◌, ◌==◌, is_some, length, nat_le, not}
 use Rattle.std.specs.Option.{option_eq}
 use Rattle.std.specs.Str.{bytes_eq}
-use Rattle.std.proofs.lemmas.Bool.{and_from, and_parts, eqb-true, false≢true, le-leb}
+use Rattle.std.proofs.lemmas.Bool.{and_from, false≢true, le-leb}
 use Rattle.bosh_base.specs.declared.digest.Digest.{Digest}
 use Rattle.bosh_base.specs.declared.goal.GoalRow.{GoalRow}
 use Rattle.bosh_base.specs.declared.inst.Inst.{Inst}
 use Rattle.bosh_base.specs.declared.key.KeyWork.{KeyWork}
-use Rattle.bosh_base.specs.declared.owner.Owner.{Owner}
-use Rattle.bosh_base.specs.declared.owner.Owner.TheVariants.{Compile, Instance}
+use Rattle.bosh_base.specs.declared.owner.Owner.TheVariants.{Instance}
 use Rattle.bosh_history.specs.Goals.{is_in}
-use Rattle.bosh_history.specs.Items.{is_finished, is_leftover, is_to_change, is_to_go, is_to_ping, stage_of}
-use Rattle.bosh_history.specs.Known.{Known, Slot, SlotName, Task, plan_in, want_in}
-use Rattle.bosh_history.specs.Moments.{Moment, OpenCall}
+use Rattle.bosh_history.specs.Items.{stage_of}
+use Rattle.bosh_history.specs.Known.{SlotName, Task, plan_in, want_in}
+use Rattle.bosh_history.specs.Moments.{Moment}
 use Rattle.bosh_history.specs.Orders.{same_slot}
 use Rattle.bosh_history.specs.Steps.{is_idle}
 use Rattle.bosh_history.specs.Words.{holds, is_among}
@@ -70,7 +69,7 @@ steps_settled built m n s t a i h calls idle over same f = record {
   few = λ rests. (λ j. nat_le (a.made (Instance i)) (length (a.steps i) + one_if (not (same.asks j)))) ∙ f.few idle;
   leads = λ rests going. absurd (false≢true (sym over ∙ going));
   in_call = λ k call is own.
-  absurd (none_open m (Instance i) h.numbers.past idle k call ((λ j. sym calls j k) ∙ is) (owner_is i call own));
+      absurd (none_open m (Instance i) h.numbers.past idle k call ((λ j. sym calls j k) ∙ is) (owner_is i call own));
 }
 
 -- ---- a machine of an earlier task
@@ -115,10 +114,10 @@ clean_still built m n t a h low still steps f = record {
       counted_same t (m.known.task t) (n.known.task t) a a still.count still.alike.goal still.alike.obsolete refl refl
       f.all_counted;
   left_over = λ name.
-  (λ j. implies (not (name.task == t)
-  && holds (λ it. option_eq bytes_eq (Some it.dep) (still.alike.dep j)) (still.slot j name.task name.slot))
-  (is_among same_slot name a.left_over))
-  ∙ f.left_over name;
+      (λ j. implies (not (name.task == t)
+      && holds (λ it. option_eq bytes_eq (Some it.dep) (still.alike.dep j)) (still.slot j name.task name.slot))
+      (is_among same_slot name a.left_over))
+      ∙ f.left_over name;
   steps = steps;
   slots_few =
       few_as n t (m.known.task t) (n.known.task t) a still.alike
@@ -126,8 +125,8 @@ clean_still built m n t a h low still steps f = record {
       (λ k x call is compiles. (call, (λ j. still.calls j x) ∙ is, refl)) (λ k. refl) f.slots_few);
   slot_calls = λ k. (λ j. where_any (is_slot_call t) (still.calls j k)) ∙ f.slot_calls k;
   sweep = λ name isin.
-  let was : SweepFacts m t a name = f.sweep name isin in
-  sweep_same m n t a a name h.numbers.past (earlier_kept m n t name still.tasks low was.earlier)
-  (begins_of m n (owner_of name) (still_same m n (owner_of name) still.calls))
-  (λ j. still.slot j name.task name.slot) refl was;
+      let was : SweepFacts m t a name = f.sweep name isin in
+      sweep_same m n t a a name h.numbers.past (earlier_kept m n t name still.tasks low was.earlier)
+      (begins_of m n (owner_of name) (still_same m n (owner_of name) still.calls))
+      (λ j. still.slot j name.task name.slot) refl was;
 }

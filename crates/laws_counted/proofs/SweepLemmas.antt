@@ -1,11 +1,8 @@
 -- A machine that a task sweeps has two calls at most.
-use Rattle.std.proofs.Common.{◌≡◌, ◌≢◌, ◌∙◌, ℕ, ◌+◌, ◌≤◌, Bool, true, false, Option, Some, None, List}
+use Rattle.std.proofs.Common.{◌≡◌, ◌∙◌, ℕ, ◌+◌, ◌≤◌, Bool, true, false, Option, Some, None}
 use Rattle.std.proofs.Common.{arith, refl, subst, sym}
-use Rattle.std.specs.Prelude.{◌&&◌, ◌||◌, ◌==◌, eqb, if◌then◌else◌, is_some, nat_le, not}
-use Rattle.std.specs.Option.{option_eq}
-use Rattle.std.specs.Str.{bytes_eq}
-use Rattle.std.proofs.lemmas.Bool.{and_from, and_parts, eq-eqb, eqb-true, false≢true, le-leb, leb-true, not-true}
-use Rattle.std.proofs.lemmas.Bool.{or_cases}
+use Rattle.std.specs.Prelude.{◌==◌, eqb, if◌then◌else◌, is_some, nat_le}
+use Rattle.std.proofs.lemmas.Bool.{false≢true, le-leb, leb-true}
 use Rattle.bosh_base.specs.Answer.{is_kind}
 use Rattle.bosh_base.specs.Call.{method_of}
 use Rattle.bosh_base.specs.CallStep.{is_gone}
@@ -14,27 +11,20 @@ use Rattle.bosh_base.specs.declared.answer.Answer.TheVariants as answers
 use Rattle.bosh_base.specs.declared.call.Call.{Call}
 use Rattle.bosh_base.specs.declared.call.Call.TheVariants as calls
 use Rattle.bosh_base.specs.declared.entry.Begin.{Begin}
-use Rattle.bosh_base.specs.declared.entry.End.{End}
-use Rattle.bosh_base.specs.declared.entry.Entry.{Entry}
 use Rattle.bosh_base.specs.declared.entry.Entry.TheVariants as entries
-use Rattle.bosh_base.specs.declared.moves.Did.{Did}
 use Rattle.bosh_base.specs.declared.owner.Owner.{Owner}
-use Rattle.bosh_base.specs.declared.owner.Owner.TheVariants.{Compile}
-use Rattle.bosh_history.specs.Calls.{call_ended}
 use Rattle.bosh_history.specs.Known.{Slot, SlotName}
 use Rattle.bosh_history.specs.Moments.{Moment, OpenCall, noting}
-use Rattle.bosh_history.specs.Notes.{Begins, EndsCall, Outside}
-use Rattle.bosh_history.specs.Notes as notes
+use Rattle.bosh_history.specs.Notes.{Begins}
 use Rattle.bosh_history.specs.Slots.{slot_after}
 use Rattle.bosh_history.specs.Steps.{call_now, is_idle, is_owners}
 use Rattle.bosh_lawful.specs.Clean.{is_failed}
 use Rattle.laws_counted.proofs.CallFrames.{SameBegins, begun_now, idle_back}
-use Rattle.laws_counted.proofs.OwnLemmas.{IsEarlier, earlier_is}
-use Rattle.laws_counts.specs.Counts.{SweepFacts, is_of_earlier, is_swept_in_two, is_sweeping_in_two, owner_of}
+use Rattle.laws_counted.proofs.OwnLemmas.{earlier_is}
+use Rattle.laws_counts.specs.Counts.{SweepFacts, is_of_earlier, is_sweeping_in_two, owner_of}
 use Rattle.laws_counts.specs.Counts.{to_come, to_come_after}
-use Rattle.laws_counts.specs.Courses.{Account, call_made}
+use Rattle.laws_counts.specs.Courses.{Account}
 use Rattle.laws_facts.proofs.CallLemmas.{none_open}
-use Rattle.laws_facts.specs.KnownFacts.{KnownFacts}
 use Rattle.laws_facts.specs.Kept.{AreNumbersPast}
 use Rattle.laws_heard.proofs.AnswerLemmas.{implied}
 use Rattle.laws_heard.proofs.NoteLemmas.{implied_by}
