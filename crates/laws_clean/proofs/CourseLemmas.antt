@@ -28,7 +28,8 @@ use Rattle.laws_clean.specs.Unfailed.{AreUnfailed, UnfailedFacts}
 use Rattle.laws_facts.proofs.CurrentLemmas.{worked}
 use Rattle.laws_facts.proofs.LockLemmas.{note_stays}
 use Rattle.laws_facts.proofs.WorkLemmas.{opens_next}
-use Rattle.laws_counts.specs.Courses.{Account, Course, account_opened, call_made, course_later, performed, performed_for}
+use Rattle.laws_counts.specs.Courses.{Account, Course, account_opened, call_made, course_later, performed}
+use Rattle.laws_counts.specs.Courses.{performed_for}
 use Rattle.laws_counts.specs.Courses.{performing, unclean, with_account}
 use Rattle.laws_facts.specs.Facts.{Holds}
 use Rattle.laws_facts.specs.Owners.{works}

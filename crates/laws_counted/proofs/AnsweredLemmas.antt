@@ -26,7 +26,8 @@ use Rattle.bosh_history.specs.Permitted.{Performs}
 use Rattle.bosh_lawful.specs.Clean.{is_failed}
 use Rattle.bosh_rows.specs.After.{begun_row, leaves_doubt, make_asked}
 use Rattle.bosh_rows.specs.CallOf.{next_call}
-use Rattle.bosh_rows.specs.Tied.{IsTiedRow, is_spoiled, is_tied_row, is_tied_to, is_tied_to_lost, as_done, without_doubt}
+use Rattle.bosh_rows.specs.Tied.{IsTiedRow, is_spoiled, is_tied_row, is_tied_to, is_tied_to_lost, as_done}
+use Rattle.bosh_rows.specs.Tied.{without_doubt}
 use Rattle.laws_answered_rows.proofs.OwnLemmas.{found_new}
 use Rattle.laws_clean.proofs.AnswerLemmas.{facts, says}
 use Rattle.laws_cloud.proofs.CallLemmas.{row_fits}
@@ -180,7 +181,8 @@ module _ (outside : Outside) (m : Moment) (h : Holds m) (d : Did) (call : OpenCa
       (facts outside m h d call is performs well i own))
 
   -- a creation is of a row without a machine
-  unmade : (call_is : Call) → c ≡ call_is → ((leaves_doubt c ≡ true) × (led.vm ≡ None)) ⊎ (make_asked c led.make ≡ led.make)
+  unmade : (call_is : Call) → c ≡ call_is → ((leaves_doubt c ≡ true) × (led.vm ≡ None)) ⊎ (make_asked c
+      led.make ≡ led.make)
   unmade (calls.CreateVm make hint) creates =
       inl ((λ j. leaves_doubt (creates j)), vm_is ∙ none (m.known.row i).vm refl)
     where

@@ -39,7 +39,8 @@ use Rattle.laws_counted.proofs.StepFrames.{SameKept, kept_itself, steps_same}
 use Rattle.laws_counted.proofs.StepMoves.{OneCall, steps_begun}
 use Rattle.laws_counted.proofs.StillLemmas.{budgeted_as, earlier_kept, few_as, goes_on_as, same_for}
 use Rattle.laws_counted.proofs.SweepLemmas.{sweep_begun, sweep_same}
-use Rattle.laws_counts.specs.Counts.{CleanFacts, SweepFacts, are_all_counted, are_slots_few, is_left_over, is_of_earlier}
+use Rattle.laws_counts.specs.Counts.{CleanFacts, SweepFacts, are_all_counted, are_slots_few, is_left_over}
+use Rattle.laws_counts.specs.Counts.{is_of_earlier}
 use Rattle.laws_counts.specs.Counts.{is_call_of_slot, is_slot_call, makes_or_deletes, owner_of}
 use Rattle.laws_counts.specs.Courses.{Account, call_made}
 use Rattle.laws_counts.specs.RowSteps.{StepFacts, is_budgeted, may_go_on}
@@ -241,7 +242,8 @@ module _ (outside : Outside) (m : Moment) (h : Holds m) (b : Begin) (follows : m
   begun_beside apart = record {
     all_counted =
         counted_same t old new a a
-        (λ j. (if apart_is b.task t apart j then task_with_call (m.known.task b.task) else m.known.task t).calls) alike.goal alike.obsolete refl refl f.all_counted;
+        (λ j. (if apart_is b.task t apart j then task_with_call (m.known.task b.task) else m.known.task
+        t).calls) alike.goal alike.obsolete refl refl f.all_counted;
     left_over = left_over a refl;
     steps = λ i is.
         other_steps a (λ i other. kept_itself a i) (λ owner other. refl) i (was i is)
@@ -309,7 +311,8 @@ module _ (outside : Outside) (m : Moment) (h : Holds m) (b : Begin) (follows : m
         one : OneCall n i (record { begin = b; did = None })
         one = record {
           busy = λ rests.
-              none_open n (Instance i) later.known.numbers.past rests b.n (record { begin = b; did = None }) (begun_now m b)
+              none_open n (Instance i) later.known.numbers.past rests b.n (record { begin = b; did = None })
+              (begun_now m b)
               own;
           is_it = λ k other at of_it. by k other of_it (eqb b.n k) at;
         }
@@ -334,7 +337,8 @@ module _ (outside : Outside) (m : Moment) (h : Holds m) (b : Begin) (follows : m
 
     -- of a slot, or of another owner
     mine_slots : (owner : Owner) → b.owner ≡ owner → are_slots_few n t new it ≡ true
-    mine_slots (Instance i) own = other_slots it kept_others made_others (λ s same. absurd (not_slot i s (sym own ∙ same)))
+    mine_slots (Instance i) own = other_slots it kept_others made_others (λ s same. absurd (not_slot i s (sym
+        own ∙ same)))
       where
         not_slot : (i : Inst) (s : ℕ) → Instance i ≡ Compile t s → ⊥
         not_slot i s is = absurd cc

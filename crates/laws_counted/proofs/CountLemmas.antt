@@ -14,7 +14,8 @@ use Rattle.bosh_base.specs.declared.owner.Owner.TheVariants.{Compile, Disk, Inst
 use Rattle.bosh_base.specs.declared.task.TaskKind.{TaskKind}
 use Rattle.bosh_base.specs.declared.task.TaskKind.TheVariants as kinds
 use Rattle.bosh_history.specs.Goals.{instances_of, is_in, named_instance}
-use Rattle.bosh_history.specs.Items.{instance_phase, is_item, is_leftover, is_slot_left, is_to_change, is_to_go, is_to_ping}
+use Rattle.bosh_history.specs.Items.{instance_phase, is_item, is_leftover, is_slot_left, is_to_change, is_to_go}
+use Rattle.bosh_history.specs.Items.{is_to_ping}
 use Rattle.bosh_history.specs.Items.{phase_of, slots_of, stage_of}
 use Rattle.bosh_history.specs.Known.{SlotName, Task, plan_in}
 use Rattle.bosh_history.specs.Moments.{Moment}
@@ -155,16 +156,20 @@ module _ (t : ℕ) (task : Task) (it : Account) where
     where
       by : (is_in task.goal i ≡ true) ⊎ (is_among same_inst i task.obsolete ≡ true) → IsIn (Instance i) All
       by (inl there) =
-          in_front (Instance i) (map Instance (instances_of task.goal) ++ map Instance task.obsolete ++ own_slots t task)
+          in_front (Instance i) (map Instance (instances_of task.goal) ++ map Instance task.obsolete ++
+          own_slots t task)
           (map owner_of it.left_over)
-          (in_front (Instance i) (map Instance (instances_of task.goal) ++ map Instance task.obsolete) (own_slots t task)
+          (in_front (Instance i) (map Instance (instances_of task.goal) ++ map Instance task.obsolete)
+          (own_slots t task)
           (in_front (Instance i) (map Instance (instances_of task.goal)) (map Instance task.obsolete)
           (in_mapped Instance i (instances_of task.goal)
           (in_instances i (instances_of task.goal) (in_goal task.goal i there)))))
       by (inr goes) =
-          in_front (Instance i) (map Instance (instances_of task.goal) ++ map Instance task.obsolete ++ own_slots t task)
+          in_front (Instance i) (map Instance (instances_of task.goal) ++ map Instance task.obsolete ++
+          own_slots t task)
           (map owner_of it.left_over)
-          (in_front (Instance i) (map Instance (instances_of task.goal) ++ map Instance task.obsolete) (own_slots t task)
+          (in_front (Instance i) (map Instance (instances_of task.goal) ++ map Instance task.obsolete)
+          (own_slots t task)
           (in_back (Instance i) (map Instance (instances_of task.goal)) (map Instance task.obsolete)
           (in_mapped Instance i task.obsolete (in_instances i task.obsolete goes))))
 

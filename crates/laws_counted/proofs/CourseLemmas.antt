@@ -37,7 +37,8 @@ use Rattle.laws_counted.proofs.StepFrames.{kept_itself, steps_same}
 use Rattle.laws_counted.proofs.StillLemmas.{clean_still}
 use Rattle.laws_counted.specs.Counted.{AreCounted}
 use Rattle.laws_counts.specs.Counts.{CleanFacts}
-use Rattle.laws_counts.specs.Courses.{Account, Course, account_opened, call_made, course_later, performed, performed_for}
+use Rattle.laws_counts.specs.Courses.{Account, Course, account_opened, call_made, course_later, performed}
+use Rattle.laws_counts.specs.Courses.{performed_for}
 use Rattle.laws_counts.specs.Courses.{performing, unclean, with_account}
 use Rattle.laws_counts.specs.RowSteps.{StepFacts, is_budgeted, may_go_on}
 use Rattle.laws_facts.proofs.CurrentLemmas.{worked}
@@ -64,7 +65,8 @@ module _ (outside : Outside) (m : Moment) (h : Holds m) (accounts : ℕ → Acco
       (record {
         calls = calls;
         slot = λ j. (known j).slot;
-        alike = subst (λ (k : Known). OpenedAlike (m.known.task t) (k.task t)) (sym known) (opened_itself (m.known.task t));
+        alike = subst (λ (k : Known). OpenedAlike (m.known.task t) (k.task t)) (sym known) (opened_itself
+            (m.known.task t));
         count = λ j. ((known j).task t).calls;
         grows = λ key done. (λ j. is_compiled (known j) key) ∙ done;
         tasks = subst (SameTasks m.known) (sym known) (record { tasks = omega arith; dep = λ u low. refl });
@@ -124,7 +126,8 @@ module _ (outside : Outside) (m : Moment) (h : Holds m) (accounts : ℕ → Acco
       of : (that : OpenCall) → m.calls e.n ≡ Some that → (did : Option Did) → that.did ≡ did
           → notes.answers e.answer did → Counted (noting m (entries.End e)) (accounts t)
       of that is (Some d) did told =
-          clean_ended outside m h e may follows that is d did told later t working (unfailed t working clean) (accounts t)
+          clean_ended outside m h e may follows that is d did told later t working (unfailed t working clean)
+          (accounts t)
           (were t working clean)
       of that is None did told = absurd told
 

@@ -310,7 +310,8 @@ module _ (outside : Outside) (m : Moment) (h : Holds m) (e : End) (may : MayNote
 
   pub clean_ended : CleanFacts outside.built n t a
   clean_ended = record {
-    all_counted = counted_same t old new a a (ended_count e.answer (m.known.begun e.n) m.known t) alike.goal alike.obsolete refl refl f.all_counted;
+    all_counted = counted_same t old new a a (ended_count e.answer (m.known.begun e.n) m.known t) alike.goal
+        alike.obsolete refl refl f.all_counted;
     left_over = λ name.
         implied_by (is_leftover n.known t name) (is_among same_slot name a.left_over)
         (λ over.

@@ -31,7 +31,8 @@ use Rattle.bosh_history.specs.Recovered.{may_follow}
 use Rattle.bosh_history.specs.Slots.{keys_of}
 use Rattle.bosh_history.specs.Tasks.{task_opened}
 use Rattle.bosh_history.specs.Words.{holds}
-use Rattle.bosh_lawful.specs.Clean.{AreBoundedFrom, AreCleanTasksBounded, CleanTask, are_found_out, clean_after, is_bounded}
+use Rattle.bosh_lawful.specs.Clean.{AreBoundedFrom, AreCleanTasksBounded, CleanTask, are_found_out, clean_after}
+use Rattle.bosh_lawful.specs.Clean.{is_bounded}
 use Rattle.bosh_lawful.specs.Clean.{is_clean, is_failed, with_noted, with_opened}
 use Rattle.laws_clean.proofs.CourseLemmas.{for_same, unfailed_course, with_same}
 use Rattle.laws_clean.proofs.FewLemmas.{calls_few}

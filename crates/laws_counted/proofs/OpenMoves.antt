@@ -137,7 +137,8 @@ module _ (outside : Outside) (m : Moment) (h : Holds m) (o : TaskOpen) (may : Ma
     slot_call k None is = refl
 
     same_slot_itself : (name : SlotName) → same_slot name name ≡ true
-    same_slot_itself name = and_from (name.task == name.task) _ (eq-eqb name.task name.task refl) (eq-eqb name.slot name.slot refl)
+    same_slot_itself name = and_from (name.task == name.task) _ (eq-eqb name.task name.task refl) (eq-eqb
+        name.slot name.slot refl)
 
     left : (name : SlotName) → is_left_over n.known t it name ≡ true
     left name =

@@ -71,7 +71,8 @@ own_swept m h t working name it u other item = by (name.task == u) refl
         (same_dep_is held.0.dep (m.known.task u).dep held.2
         ∙ (sym (slot_dep m name.task name.slot held.0 h held.1) ∙ it.same_dep))
     left false over apart found =
-        let none : phase_of m.known u (owner_of name) ≡ None = (λ j. slot_by (apart j) (is_slot_left m.known u name.slot) (over j)) in
+        let none : phase_of m.known u (owner_of name) ≡ None = (λ j. slot_by (apart j) (is_slot_left m.known u
+        name.slot) (over j)) in
         let some : phase_of m.known u (owner_of name) ≡ Some found.0 = found.1.phase in absurd cc
 
     by : (own : Bool) → (name.task == u) ≡ own → u ≡ t

@@ -124,7 +124,8 @@ module _ (m : Moment) (h : KnownFacts m) (e : End) (that : OpenCall) (open_now :
       by false other = is
 
   most_other : (k : ℕ) → (s == k) ≡ false → most m t k (m.known.slot t k) ≤ most n t k (n.known.slot t k)
-  most_other k other = most_as m n t k grows (slot_other k other) (compiles_on m n later (Compile t k) (keeps_other k other))
+  most_other k other = most_as m n t k grows (slot_other k other) (compiles_on m n later (Compile t k)
+      (keeps_other k other))
 
   -- the machine stays, for the same key
   stayed : (now : Slot) → n.known.slot t s ≡ Some now → now.key ≡ it.key
@@ -200,7 +201,8 @@ module _ (m : Moment) (h : KnownFacts m) (e : End) (that : OpenCall) (open_now :
                 (count_grows (is_past m.known t task) (is_past n.known t task) work (keys_of task.goal)
                 (find_in (λ work. same_key work.key key) work (keys_of task.goal) found).0
                 (λ other isin past. past_grows m n t task grows (held_by_slots m n t task by_slot) other past)
-                (and_no (is_compiled m.known work.key) (not (is_key_held m.known t task work.key)) (λ j. not (held_now j)))
+                (and_no (is_compiled m.known work.key) (not (is_key_held m.known t task work.key)) (λ j. not
+                (held_now j)))
                 passed)
                 (omega arith) is
               where

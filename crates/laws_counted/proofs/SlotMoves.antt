@@ -23,7 +23,8 @@ use Rattle.bosh_history.specs.Words.{holds}
 use Rattle.bosh_rows.specs.Same.{same_owner}
 use Rattle.laws_cloud.proofs.TellLemmas.{same_owner_itself}
 use Rattle.laws_counted.proofs.CallFrames.{begun_forth, begun_now}
-use Rattle.laws_counted.proofs.SlotFacts.{Grows, KeepsCompilations, compiles_by, compiles_is, compiles_on, held_by_slots}
+use Rattle.laws_counted.proofs.SlotFacts.{Grows, KeepsCompilations, compiles_by, compiles_is, compiles_on}
+use Rattle.laws_counted.proofs.SlotFacts.{held_by_slots}
 use Rattle.laws_counted.proofs.SlotFacts.{most, most_as, most_compiled, most_deleted, most_kept, most_made, most_some}
 use Rattle.laws_counted.proofs.SlotFacts.{past_grows, slots_step}
 use Rattle.laws_counted.proofs.SumLemmas.{count_low}
@@ -93,7 +94,8 @@ module _ (m : Moment) (h : KnownFacts m) (b : Begin) (may : Begins m b)
       slots_step m n t task a after s 1 1 0 0 below
       (λ k other. subst (λ (x : ℕ). x ≤ a.made (Compile t k)) (sym (made_others k other)) (omega arith))
       (subst (λ (x : ℕ). x ≤ a.made (Compile t s) + 1) (sym made) (omega arith))
-      (λ k other. most_as m n t k grows (slot_other k other) (compiles_on m n later (Compile t k) (keeps (Compile t k))))
+      (λ k other. most_as m n t k grows (slot_other k other) (compiles_on m n later (Compile t k) (keeps
+      (Compile t k))))
       (omega (arith, up))
       (let keys : count_by (is_past m.known t task) (keys_of task.goal) ≤
       count_by (is_past n.known t task) (keys_of task.goal) =
@@ -171,7 +173,10 @@ module _ (m : Moment) (h : KnownFacts m) (b : Begin) (may : Begins m b)
           (subst (λ (slot : Option Slot). most m t s (Some it) + 1 ≤ most n t s slot) (sym new)
           (subst (λ (x : ℕ). most m t s (Some it) + 1 ≤ x)
           (sym (most_deleted n t s (in_doubt b.n (calls.DeleteVm vm.vm) it) refl))
-          (let low : most m t s (Some it) ≤ 2 = most_kept m t s it (λ j. is_being_deleted (record it { doubt = none j })) in
+          (let low : most m t s (Some it) ≤ 2 = most_kept m t s it (λ j. is_being_deleted (record it {
+            doubt =
+                none j;
+          })) in
           omega (arith, low)))))
           (λ key compiled held.
           (λ j. holds (is_for (Some key)) (at j)) ∙ (sym (λ j. holds (is_for (Some key)) (new j)) ∙ held))

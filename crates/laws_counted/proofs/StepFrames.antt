@@ -63,7 +63,8 @@ call_same s t a b i row later call same kept rows f = record {
   next = λ plain none.
       (λ j. next_call (same.want j) (led_same a b i kept j)) ∙ f.next plain none;
   young = (λ j. young_by (same.want j)) ∙ f.young;
-  few = (λ j. nat_le (kept.made j) (length (kept.steps j) + one_if (not (same.asks j)) + one_if (is_extra call))) ∙ f.few;
+  few = (λ j. nat_le (kept.made j) (length (kept.steps j) + one_if (not (same.asks j)) + one_if (is_extra
+      call))) ∙ f.few;
 }
   where
     young_by : Option GoalRow → Bool
@@ -80,13 +81,15 @@ steps_same built m n s t a b i past calls row same goes kept f = record {
   answered =
       subst (λ (want : Option GoalRow). AreAnswered built want (b.first i) (b.steps i)) (sym same.want)
       (subst (λ (row : Row). AreAnswered built (want_in s.goal i) row (b.steps i)) (sym kept.first)
-      (subst (λ (steps : List Answered). AreAnswered built (want_in s.goal i) (a.first i) steps) (sym kept.steps) f.answered));
+      (subst (λ (steps : List Answered). AreAnswered built (want_in s.goal i) (a.first i) steps) (sym
+      kept.steps) f.answered));
   unasked = λ asks. kept.steps ∙ f.unasked (sym same.asks ∙ asks);
   few = λ idle.
       (λ j. nat_le (kept.made j) (length (kept.steps j) + one_if (not (same.asks j))))
       ∙ f.few (idle_back m n (Instance i) past (begins_of m n (Instance i) calls) idle);
   leads = λ idle going.
-      led_same a b i kept ∙ (f.leads (idle_back m n (Instance i) past (begins_of m n (Instance i) calls) idle) (goes going) ∙ sym row);
+      led_same a b i kept ∙ (f.leads (idle_back m n (Instance i) past (begins_of m n (Instance i) calls) idle)
+      (goes going) ∙ sym row);
   in_call = λ k call is own.
       call_same s t a b i (m.known.row i) (n.known.row i) call same kept row
       (f.in_call k call (calls.back k call is (owner_is i call own)) own);

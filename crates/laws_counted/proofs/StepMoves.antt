@@ -50,7 +50,8 @@ steps_begun built m n s t a b i begin one idle going same first steps made row n
   answered =
       subst (λ (want : Option GoalRow). AreAnswered built want (b.first i) (b.steps i)) (sym same.want)
       (subst (λ (row : Row). AreAnswered built (want_in s.goal i) row (b.steps i)) (sym first)
-      (subst (λ (steps : List Answered). AreAnswered built (want_in s.goal i) (a.first i) steps) (sym steps) f.answered));
+      (subst (λ (steps : List Answered). AreAnswered built (want_in s.goal i) (a.first i) steps) (sym steps)
+      f.answered));
   unasked = λ asks. steps ∙ f.unasked (sym same.asks ∙ asks);
   few = λ rests. absurd (one.busy rests);
   leads = λ rests going. absurd (one.busy rests);
@@ -200,7 +201,8 @@ steps_ended built m n s t a b i begin d k none is own asked asks want row first 
   answered =
       subst (λ (want : Option GoalRow). AreAnswered built want (b.first i) (b.steps i)) (sym want)
       (subst (λ (row : Row). AreAnswered built (want_in s.goal i) row (b.steps i)) (sym first)
-      (subst (λ (steps : List Answered). AreAnswered built (want_in s.goal i) (a.first i) steps) (sym steps) f.answered));
+      (subst (λ (steps : List Answered). AreAnswered built (want_in s.goal i) (a.first i) steps) (sym steps)
+      f.answered));
   unasked = λ again. absurd (false≢true (sym asks ∙ again));
   few = λ idle.
       (λ j. nat_le (made j) (length (steps j) + one_if (not (asks j))))
@@ -212,9 +214,14 @@ steps_ended built m n s t a b i begin d k none is own asked asks want row first 
   where
     was : InCall s a i (m.known.row i) (record { begin = begin; did = Some d })
     was =
-        f.in_call k (record { begin = begin; did = Some d }) is (is_owner i (record { begin = begin; did = Some d }) own)
+        f.in_call k (record { begin = begin; did = Some d }) is (is_owner i (record {
+          begin = begin;
+          did = Some
+              d;
+        }) own)
 
-    low : a.made (Instance i) ≤ length (a.steps i) + one_if (not (is_ping begin.call)) + one_if (is_ping begin.call || false)
+    low : a.made (Instance i) ≤ length (a.steps i) + one_if (not (is_ping begin.call)) + one_if (is_ping
+        begin.call || false)
     low =
         subst (λ (asks : Bool). a.made (Instance i) ≤ length (a.steps i) + one_if (not asks)
         + one_if (is_ping begin.call || false)) (sym asked)

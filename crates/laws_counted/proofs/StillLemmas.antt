@@ -64,7 +64,8 @@ pub steps_settled : (built : KeyWork → List Digest → Digest) (m n : Moment) 
 steps_settled built m n s t a i h calls idle over same f = record {
   sound = f.sound;
   room = f.room;
-  answered = subst (λ (want : Option GoalRow). AreAnswered built want (a.first i) (a.steps i)) (sym same.want) f.answered;
+  answered = subst (λ (want : Option GoalRow). AreAnswered built want (a.first i) (a.steps i)) (sym same.want)
+      f.answered;
   unasked = λ asks. f.unasked (sym same.asks ∙ asks);
   few = λ rests. (λ j. nat_le (a.made (Instance i)) (length (a.steps i) + one_if (not (same.asks j)))) ∙ f.few idle;
   leads = λ rests going. absurd (false≢true (sym over ∙ going));
@@ -87,7 +88,8 @@ earlier_kept m n t name same low is =
     and_from (not (name.task == t)) _ (λ j. not (it.other j))
     (and_from (nat_le name.task n.known.tasks) (option_eq bytes_eq (n.known.task name.task).dep (n.known.task t).dep)
     (le-leb name.task n.known.tasks (omega (arith, grows, below)))
-    ((λ j. option_eq bytes_eq ((same.dep name.task below ∙ (it.same_dep ∙ sym (same.dep t low))) j) (n.known.task t).dep)
+    ((λ j. option_eq bytes_eq ((same.dep name.task below ∙ (it.same_dep ∙ sym (same.dep t low))) j)
+    (n.known.task t).dep)
     ∙ lock_itself (n.known.task t).dep))
 
 -- ---- all
