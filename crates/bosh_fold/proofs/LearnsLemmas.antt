@@ -4,7 +4,7 @@ use Rattle.bosh_base.specs.declared.entry.Entry.{Entry}
 use Rattle.bosh_fold.specs.ArrivalsWith.{arrivals_with}
 use Rattle.bosh_fold.specs.Learned.{learned}
 use Rattle.bosh_fold.specs.Learns.{IsAlike, Learns, LearnsAll}
-use Rattle.bosh_fold.specs.Planned.{IsPlanned}
+use Rattle.bosh_fold.specs.Planned.{IsPlanned, roomy_for}
 use Rattle.bosh_fold.specs.declared.change.Change.{Change}
 use Rattle.bosh_fold.proofs.BringsLemmas.{it_brings}
 use Rattle.bosh_fold.proofs.CameLemmas.{came_is}
@@ -13,9 +13,11 @@ use Rattle.bosh_records.specs.Recorded.{recorded}
 use Rattle.bosh_records.specs.declared.records.Records.{Records}
 
 pub one_learned : (was roomy now : Records) (entry : Entry) (change : Change) → IsPlanned was roomy entry change
-    → IsAlike was roomy → recorded now ≡ learned entry change (recorded roomy) → Learns was entry now
-one_learned was roomy now entry change planned alike is = record {
+    → recorded roomy ≡ roomy_for was entry (recorded was) → IsAlike was roomy
+    → recorded now ≡ learned entry change (recorded roomy) → Learns was entry now
+one_learned was roomy now entry change planned room alike is = record {
   roomy = roomy;
+  room = room;
   alike = alike;
   change = change;
   planned = planned;

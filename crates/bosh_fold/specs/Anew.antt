@@ -4,7 +4,6 @@ use Rattle.std.specs.List.{enumerate_from}
 use Rattle.std.specs.Ordering.{nat_cmp}
 use Rattle.bosh_base.specs.Inst.{inst_cmp}
 use Rattle.bosh_base.specs.declared.goal.Goal.{Goal}
-use Rattle.bosh_base.specs.declared.goal.GoalRow.{GoalRow}
 use Rattle.bosh_base.specs.declared.inst.Inst.{Inst}
 use Rattle.bosh_base.specs.declared.key.Key.{Key}
 use Rattle.bosh_base.specs.declared.row.Row.{Row}
@@ -14,6 +13,7 @@ use Rattle.bosh_base.specs.declared.snapshot.DepRow.{DepRow}
 use Rattle.bosh_base.specs.declared.snapshot.Orphan.{Orphan}
 use Rattle.bosh_base.specs.declared.snapshot.Snapshot.{Snapshot}
 use Rattle.bosh_base.specs.declared.task.TaskRow.{TaskRow}
+use Rattle.bosh_plan.specs.Roomy.{want_room}
 use Rattle.bosh_records.specs.Changes.{since_cmp}
 use Rattle.bosh_records.specs.Instances.{unknown}
 use Rattle.bosh_records.specs.Keys.{asked, key_cmp}
@@ -32,9 +32,6 @@ use Rattle.bosh_fold.specs.Tasks.{wants_noted}
 use Rattle.bosh_fold.specs.Updates.{with_loose}
 
 -- ---- one of each, whether there was a place for it or not
-
-abbrev pub want_room : List (Inst × Instance) → GoalRow → List (Inst × Instance)
-want_room instances want = with_room inst_cmp want.inst unknown instances
 
 abbrev pub goal_read : List (Inst × Instance) → Goal → List (Inst × Instance)
 goal_read instances goal = wants_noted goal.rows (fold want_room instances goal.rows)

@@ -2,7 +2,7 @@
 use Rattle.std.specs.Prelude.{◌≡◌, List, [], ◌∷◌}
 use Rattle.bosh_base.specs.declared.entry.Entry.{Entry}
 use Rattle.bosh_fold.specs.Learned.{learned}
-use Rattle.bosh_fold.specs.Planned.{IsPlanned}
+use Rattle.bosh_fold.specs.Planned.{IsPlanned, roomy_for}
 use Rattle.bosh_fold.specs.declared.change.Change.{Change}
 use Rattle.bosh_records.specs.Recorded.{kept, recorded}
 use Rattle.bosh_records.specs.declared.records.Records.{Records}
@@ -11,9 +11,10 @@ use Rattle.bosh_records.specs.declared.records.Records.{Records}
 abbrev pub IsAlike : Records → Records → Type 0
 IsAlike was now = kept (recorded now) ≡ kept (recorded was)
 
--- one more entry is taken in, as it was planned, once there was room for it
+-- one more entry is taken in, as it was planned, once there was just the room for it
 pub record Learns (was : Records) (entry : Entry) (now : Records) : Type 0 where
   pub roomy : Records
+  pub room : recorded roomy ≡ roomy_for was entry (recorded was)
   pub alike : IsAlike was roomy
   pub change : Change
   pub planned : IsPlanned was roomy entry change

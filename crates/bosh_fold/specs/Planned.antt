@@ -7,8 +7,9 @@ use Rattle.bosh_base.specs.declared.entry.TaskOpen.{TaskOpen}
 use Rattle.bosh_base.specs.declared.row.Row.{Row}
 use Rattle.bosh_base.specs.declared.snapshot.Orphan.{Orphan}
 use Rattle.bosh_base.specs.declared.snapshot.Snapshot.{Snapshot}
-use Rattle.bosh_records.specs.Recorded.{recorded}
+use Rattle.bosh_records.specs.Recorded.{Recorded, recorded}
 use Rattle.bosh_plan.specs.Ended.{ended_of}
+use Rattle.bosh_plan.specs.Roomy.{roomy_for_call, roomy_for_disks, roomy_for_task}
 use Rattle.bosh_plan.specs.Updated.{left_gone, left_updated, row_updated}
 use Rattle.bosh_plan.specs.Begun.{subject_of}
 use Rattle.bosh_plan.specs.declared.beginning.Subject.{Subject}
@@ -61,6 +62,14 @@ IsPlanned records roomy (entries.Snapshot it) change = IsAnew it change
 IsPlanned records roomy (entries.Effect it) change = change ≡ changes.Nothing
 IsPlanned records roomy (entries.Write it) change = change ≡ changes.Nothing
 IsPlanned records roomy (entries.Lost it) change = change ≡ changes.Nothing
+
+-- the room that is made for an entry, by what is recorded before
+abbrev pub roomy_for : Records → Entry → Recorded → Recorded
+roomy_for records (entries.TaskOpen opening) it = roomy_for_task opening it
+roomy_for records (entries.Begin begin) it = roomy_for_call begin it
+roomy_for records (entries.UpdDone update) it = roomy_for_disks (left_updated records update.inst) it
+roomy_for records (entries.Gone update) it = roomy_for_disks (left_gone records update.inst) it
+roomy_for records entry it = it
 
 -- what came, once a change is learned
 abbrev pub arrivals_after : Change → Arrivals → Arrivals

@@ -4,7 +4,7 @@ ghost use Rattle.bosh_fold.specs.ArrivalsWith.{arrivals_with};
 ghost use Rattle.bosh_records.specs.Recorded.{kept, recorded};
 ghost use Rattle.bosh_fold.specs.Learned.{learned};
 ghost use Rattle.bosh_fold.specs.Learns.{IsAlike, Learns};
-ghost use Rattle.bosh_fold.specs.Planned.{Brings, IsPlanned, arrivals_after};
+ghost use Rattle.bosh_fold.specs.Planned.{Brings, IsPlanned, arrivals_after, roomy_for};
 ghost use Rattle.bosh_fold.specs.Room.{HasRoom};
 ghost use Rattle.bosh_fold.specs.declared.change.Change.TheVariants as changes;
 
@@ -38,10 +38,12 @@ pub enum Change {
     Nothing,
 }
 
-/// What an entry changes. It takes all the memory that is needed, and what is recorded stays as it is.
+/// What an entry changes. It takes all the memory that is needed: just the places that the entry wants are made, and what
+/// is recorded stays as it is.
 pub fn plan(records: &mut Records, entry: &Entry) -> Result<Change, RecordsFault>
     ensures room { IfOk result (λ change. HasRoom records.new change) }
     ensures planned { IfOk result (λ change. IsPlanned records.old records.new entry.now change) }
+    ensures made { OnOk result (recorded records.new ≡ roomy_for records.old entry.now (recorded records.old)) }
     ensures comes { IfOk result (λ change. Brings entry.now change) }
     ensures same { arrivals records.new ≡ arrivals records.old }
     ensures alike { IsAlike records.old records.new }
@@ -52,6 +54,7 @@ pub fn plan(records: &mut Records, entry: &Entry) -> Result<Change, RecordsFault
 fn plan_entry(records: &mut Records, entry: &Entry) -> Result<Change, RecordsFault>
     ensures room { IfOk result (λ change. HasRoom records.new change) }
     ensures planned { IfOk result (λ change. IsPlanned records.old records.new entry.now change) }
+    ensures made { OnOk result (recorded records.new ≡ roomy_for records.old entry.now (recorded records.old)) }
     ensures alike { kept (recorded records.new) ≡ kept (recorded records.old) }
 {
     match entry {
@@ -75,7 +78,7 @@ fn plan_entry(records: &mut Records, entry: &Entry) -> Result<Change, RecordsFau
 fn plan_release(records: &mut Records, release: &Release) -> Result<Change, RecordsFault>
     ensures room { IfOk result (λ change. HasRoom records.new change) }
     ensures planned { IfOk result (λ change. change ≡ changes.Release release.now) }
-    ensures alike { kept (recorded records.new) ≡ kept (recorded records.old) }
+    ensures same { recorded records.new ≡ recorded records.old }
 {
     records.releases.reserve(1)?;
     Ok(Change::Release(release.copy(records.alloc)?))
@@ -84,7 +87,7 @@ fn plan_release(records: &mut Records, release: &Release) -> Result<Change, Reco
 fn plan_stemcell(records: &mut Records, stemcell: &Stemcell) -> Result<Change, RecordsFault>
     ensures room { IfOk result (λ change. HasRoom records.new change) }
     ensures planned { IfOk result (λ change. change ≡ changes.Stemcell stemcell.now) }
-    ensures alike { kept (recorded records.new) ≡ kept (recorded records.old) }
+    ensures same { recorded records.new ≡ recorded records.old }
 {
     records.stemcells.reserve(1)?;
     Ok(Change::Stemcell(stemcell.copy(records.alloc)?))

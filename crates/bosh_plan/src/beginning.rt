@@ -1,6 +1,11 @@
-ghost use Rattle.std.specs.Prelude.{◌≡◌, IfOk};
+ghost use Rattle.std.specs.Prelude.{◌≡◌, IfOk, None, OnOk};
+ghost use Rattle.bosh_base.specs.Inst.{inst_cmp};
+ghost use Rattle.bosh_records.specs.Instances.{unknown};
+ghost use Rattle.bosh_records.specs.Readers.{machine_cmp};
 ghost use Rattle.bosh_records.specs.Recorded.{kept, recorded};
+ghost use Rattle.bosh_records.specs.Table.{with_room};
 ghost use Rattle.bosh_plan.specs.Begun.{compile_row_of, doubt_of, machine_begun, next_key, row_begun, row_or_bare, subject_of};
+ghost use Rattle.bosh_plan.specs.Roomy.{roomy_for_call, roomy_for_owner};
 
 use crate::fault::recorded;
 use bosh_base::{
@@ -33,6 +38,7 @@ pub struct Begun {
 pub fn plan_begin(records: &mut Records, begin: &Begin) -> Result<Begun, RecordsFault>
     ensures begins { IfOk result (λ begun. begun.begin ≡ begin.now) }
     ensures subject { IfOk result (λ begun. begun.subject ≡ subject_of records.old begin.now) }
+    ensures room { OnOk result (recorded records.new ≡ roomy_for_call begin.now (recorded records.old)) }
     ensures alike { kept (recorded records.new) ≡ kept (recorded records.old) }
 {
     records.calls.ensure(begin.n)?;
@@ -43,6 +49,8 @@ pub fn plan_begin(records: &mut Records, begin: &Begin) -> Result<Begun, Records
 
 fn subject_begun(records: &mut Records, begin: &Begin) -> Result<Subject, RecordsFault>
     ensures begun { IfOk result (λ subject. subject ≡ subject_of records.old begin.now) }
+    ensures room { OnOk result
+        (recorded records.new ≡ roomy_for_owner begin.now.owner begin.now.call (recorded records.old)) }
     ensures alike { kept (recorded records.new) ≡ kept (recorded records.old) }
 {
     match (&begin.owner, &begin.call) {
@@ -63,6 +71,9 @@ fn subject_begun(records: &mut Records, begin: &Begin) -> Result<Subject, Record
 
 fn row_begun(records: &mut Records, inst: &Inst, begun: &Begin) -> Result<Row, RecordsFault>
     ensures begun { IfOk result (λ row. row ≡ row_begun records.old begun.now inst.now) }
+    ensures room { OnOk result (recorded records.new ≡ record (recorded records.old) {
+      instances = with_room inst_cmp inst.now unknown (recorded records.old).instances;
+    }) }
     ensures alike { kept (recorded records.new) ≡ kept (recorded records.old) }
 {
     records.instances.ensure(records.alloc, inst)?;
@@ -96,6 +107,9 @@ fn machine_begun(
     begin: &Begin,
 ) -> Result<Subject, RecordsFault>
     ensures begun { IfOk result (λ subject. subject ≡ machine_begun records.old begin.now name make.now) }
+    ensures room { OnOk result (recorded records.new ≡ record (recorded records.old) {
+      machines = with_room machine_cmp name None (recorded records.old).machines;
+    }) }
     ensures alike { kept (recorded records.new) ≡ kept (recorded records.old) }
 {
     records.machines.ensure(name)?;

@@ -2,6 +2,7 @@ ghost use Rattle.std.specs.Prelude.{◌≡◌, IfOk, OnOk};
 ghost use Rattle.std.specs.Option.{option_copied};
 ghost use Rattle.bosh_records.specs.Recorded.{kept, recorded};
 ghost use Rattle.bosh_plan.specs.Opened.{IsOpened, dep_row_of, task_row_of};
+ghost use Rattle.bosh_plan.specs.Roomy.{roomy_for_goal, roomy_for_task};
 ghost use Rattle.bosh_plan.specs.WorkBy.{asked_in, has_machine, is_asked, is_of, is_swept, swept_in, with_before};
 ghost use Rattle.bosh_plan.specs.WorkBy.{with_changes, with_keys, work_by};
 
@@ -28,6 +29,7 @@ pub struct Opened {
 /// What the opening of a task changes. Room is made for it, and what is recorded stays as it is.
 pub fn plan_opening(records: &mut Records, opening: &TaskOpen) -> Result<Opened, RecordsFault>
     ensures opened { IfOk result (λ opened. IsOpened records.new opening.now opened) }
+    ensures room { OnOk result (recorded records.new ≡ roomy_for_task opening.now (recorded records.old)) }
     ensures alike { kept (recorded records.new) ≡ kept (recorded records.old) }
 {
     records.tasks.ensure(opening.task)?;
@@ -41,7 +43,8 @@ pub fn plan_opening(records: &mut Records, opening: &TaskOpen) -> Result<Opened,
 
 // Room for what a goal wants.
 fn make_room(records: &mut Records, goal: &Goal) -> Result<(), RecordsFault>
-    ensures { kept (recorded records.new) ≡ kept (recorded records.old) }
+    ensures room { OnOk result (recorded records.new ≡ roomy_for_goal goal.now (recorded records.old)) }
+    ensures alike { kept (recorded records.new) ≡ kept (recorded records.old) }
 {
     for want in goal.rows.iter() {
         records.instances.ensure(records.alloc, &want.inst)?;

@@ -1,5 +1,6 @@
 ghost use Rattle.std.specs.Prelude.{◌≡◌, ◌++◌, None, IfOk, OnOk};
 ghost use Rattle.bosh_records.specs.Recorded.{kept, recorded};
+ghost use Rattle.bosh_plan.specs.Roomy.{roomy_for_disks};
 ghost use Rattle.bosh_plan.specs.Updated.{left_gone, left_updated, orphan_of, orphans_of, row_updated};
 
 use crate::fault::recorded;
@@ -21,6 +22,8 @@ pub struct Updated {
 pub fn plan_update_done(records: &mut Records, update: &Update) -> Result<Updated, RecordsFault>
     ensures row { IfOk result (λ it. it.row ≡ row_updated records.old update.now.inst) }
     ensures left { IfOk result (λ it. it.left.items ≡ left_updated records.old update.now.inst) }
+    ensures room { OnOk result (recorded records.new
+        ≡ roomy_for_disks (left_updated records.old update.now.inst) (recorded records.old)) }
     ensures alike { kept (recorded records.new) ≡ kept (recorded records.old) }
 {
     let updated = row_and_disks(records, update)?;
@@ -61,6 +64,8 @@ fn row_updated(
 pub fn plan_gone(records: &mut Records, update: &Update) -> Result<Updated, RecordsFault>
     ensures row { IfOk result (λ it. it.row ≡ None) }
     ensures left { IfOk result (λ it. it.left.items ≡ left_gone records.old update.now.inst) }
+    ensures room { OnOk result (recorded records.new
+        ≡ roomy_for_disks (left_gone records.old update.now.inst) (recorded records.old)) }
     ensures alike { kept (recorded records.new) ≡ kept (recorded records.old) }
 {
     let mut left = Vec::new(records.alloc);
@@ -72,7 +77,8 @@ pub fn plan_gone(records: &mut Records, update: &Update) -> Result<Updated, Reco
 }
 
 fn ensure_disks(records: &mut Records, left: &[Orphan]) -> Result<(), RecordsFault>
-    ensures { kept (recorded records.new) ≡ kept (recorded records.old) }
+    ensures room { OnOk result (recorded records.new ≡ roomy_for_disks left.now (recorded records.old)) }
+    ensures alike { kept (recorded records.new) ≡ kept (recorded records.old) }
 {
     for orphan in left {
         records.orphans.ensure(orphan.disk)?;

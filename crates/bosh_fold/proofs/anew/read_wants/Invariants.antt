@@ -1,7 +1,7 @@
 use Rattle.std.proofs.Common.{◌≡◌}
 use Rattle.std.specs.Prelude.{fold}
 use Rattle.std.specs.Slice.Iter.{iter_rest}
-use Rattle.bosh_fold.specs.Anew.{want_room}
+use Rattle.bosh_plan.specs.Roomy.{want_room}
 use Rattle.bosh_fold.proofs.anew.read_wants.Given as goal
 
 abbrev pub invariant-loop-want : goal.invariant-loop-want
