@@ -33,9 +33,9 @@ use Rattle.bosh_history.specs.Words.{at, holds, numbers_below}
 use Rattle.bosh_lawful.specs.Clean.{is_failed}
 use Rattle.laws_cloud.proofs.CallLemmas.{doubt_is}
 use Rattle.laws_counted.proofs.SlotFacts.{Grows, KeepsCompilations, compiles_on, held_by_slots, most, most_any, most_as}
-use Rattle.laws_counted.proofs.SlotFacts.{most_compiled, most_kept, most_same, past_grows, slots_step}
+use Rattle.laws_counted.proofs.SlotFacts.{most_compiled, most_kept, most_same, past_grows, past_low, slots_step}
 use Rattle.laws_counted.proofs.SlotMoves.{other_slot}
-use Rattle.laws_counted.proofs.SumLemmas.{count_grows, count_low}
+use Rattle.laws_counted.proofs.SumLemmas.{count_grows}
 use Rattle.laws_counts.specs.Counts.{are_slots_few, compiles_now, compiles_package}
 use Rattle.laws_counts.specs.Counts.{is_key_held, is_past, makes_or_deletes}
 use Rattle.laws_counts.specs.Courses.{Account}
@@ -138,10 +138,9 @@ module _ (m : Moment) (h : KnownFacts m) (e : End) (that : OpenCall) (open_now :
       most_other
       (subst (λ (slot : Option Slot). most m t s slot + 0 ≤ most n t s (n.known.slot t s) + 0) (sym there)
       (subst (λ (slot : Option Slot). most m t s (Some it) + 0 ≤ most n t s slot + 0) (sym new) (omega (arith, low))))
-      (let keys : count_by (is_past m.known t task) (keys_of task.goal) ≤
-      count_by (is_past n.known t task) (keys_of task.goal) =
-      count_low (is_past m.known t task) (is_past n.known t task) (keys_of task.goal)
-      (λ work isin past. past_grows m n t task grows (held_by_slots m n t task by_slot) work past) in
+      (let keys : count_by (is_past m.known t task) (keys_of task.goal)
+      ≤ count_by (is_past n.known t task) (keys_of task.goal) =
+      past_low m n t task grows (held_by_slots m n t task by_slot) in
       omega (arith, keys))
       (omega arith) is
     where

@@ -176,6 +176,13 @@ past_grows m n t task grows held work is = by (is_key_held n.known t task work.k
         and_from (is_compiled n.known work.key) (not (is_key_held n.known t task work.key)) (grows work.key parts.0)
         (λ j. not (free j))
 
+-- so no fewer are past
+pub past_low : (m n : Moment) (t : ℕ) (task : Task) → Grows m.known n.known → HeldBefore m n t task
+    → count_by (is_past m.known t task) (keys_of task.goal) ≤ count_by (is_past n.known t task) (keys_of task.goal)
+past_low m n t task grows held =
+    count_low (is_past m.known t task) (is_past n.known t task) (keys_of task.goal)
+    (λ work isin past. past_grows m n t task grows held work past)
+
 -- slot by slot
 pub held_by_slots : (m n : Moment) (t : ℕ) (task : Task)
     → ((key : Key) (s : ℕ) → is_compiled m.known key ≡ true → holds (is_for (Some key)) (n.known.slot t s) ≡ true
@@ -250,9 +257,7 @@ pub slots_left : (m n : Moment) (t : ℕ) (task : Task) (a b : Account) → Know
 slots_left m n t task a b h grows same keeps made is =
     slots_still m n t task a b (λ k. subst (λ (x : ℕ). x ≤ a.made (Compile t k)) (sym (made k)) (omega arith))
     (λ k. most_as m n t k grows (same k) (compiles_on m n h (Compile t k) (keeps k)))
-    (count_low (is_past m.known t task) (is_past n.known t task) (keys_of task.goal)
-    (λ work isin past.
-    past_grows m n t task grows
+    (past_low m n t task grows
     (held_by_slots m n t task
-    (λ key s compiled held. sym (λ j. holds (is_for (Some key)) (same s j)) ∙ held)) work past))
+    (λ key s compiled held. sym (λ j. holds (is_for (Some key)) (same s j)) ∙ held)))
     is

@@ -26,8 +26,7 @@ use Rattle.laws_counted.proofs.CallFrames.{begun_forth, begun_now}
 use Rattle.laws_counted.proofs.SlotFacts.{Grows, KeepsCompilations, compiles_by, compiles_is, compiles_on}
 use Rattle.laws_counted.proofs.SlotFacts.{held_by_slots}
 use Rattle.laws_counted.proofs.SlotFacts.{most, most_as, most_compiled, most_deleted, most_kept, most_made, most_some}
-use Rattle.laws_counted.proofs.SlotFacts.{past_grows, slots_step}
-use Rattle.laws_counted.proofs.SumLemmas.{count_low}
+use Rattle.laws_counted.proofs.SlotFacts.{past_low, slots_step}
 use Rattle.laws_counts.specs.Counts.{are_slots_few, compiles_now, compiles_package, is_compiled_for}
 use Rattle.laws_counts.specs.Counts.{is_past}
 use Rattle.laws_counts.specs.Courses.{Account}
@@ -97,10 +96,9 @@ module _ (m : Moment) (h : KnownFacts m) (b : Begin) (may : Begins m b)
       (λ k other. most_as m n t k grows (slot_other k other) (compiles_on m n later (Compile t k) (keeps
       (Compile t k))))
       (omega (arith, up))
-      (let keys : count_by (is_past m.known t task) (keys_of task.goal) ≤
-      count_by (is_past n.known t task) (keys_of task.goal) =
-      count_low (is_past m.known t task) (is_past n.known t task) (keys_of task.goal)
-      (λ work isin past. past_grows m n t task grows (held_by_slots m n t task by_slot) work past) in
+      (let keys : count_by (is_past m.known t task) (keys_of task.goal)
+      ≤ count_by (is_past n.known t task) (keys_of task.goal) =
+      past_low m n t task grows (held_by_slots m n t task by_slot) in
       omega (arith, keys))
       (omega arith) is
     where
