@@ -215,7 +215,9 @@ pub fn clean_tasks_are_broken()
     ensures lost_unseen { BreaksAlone (codes "rows clean") prepared 5 two
         (is_lost 1 false) }
     ensures call_not_counted { BreaksAlone (codes "steps counted") prepared 5 two
-        (account_is 1 (call_made (Instance (web 0)))) }
+        (task_is 1 task_with_call) }
+    ensures instance_that_calls_more { BreaksAlone (codes "steps counted") prepared 5 two
+        (and_then (account_is 1 (call_made (Instance (web 0)))) (account_is 1 (call_made (Instance (web 0))))) }
     ensures steps_forgotten { BreaksAlone (codes "steps counted") prepared 5 two
         (account_is 1 (λ it. record it { steps = λ i. [] })) }
     ensures slot_that_calls_more { BreaksAlone (codes "slots few") with_release 9 together
