@@ -1,6 +1,7 @@
 pub mod AnswerLemmas
 pub mod AskLemmas
 pub mod ChoiceLemmas
+pub mod DeploymentLemmas
 pub mod FirstLemmas
 pub mod GroupLemmas
 pub mod ItemLemmas

@@ -16,7 +16,7 @@ ghost use Rattle.laws_stands.specs.Stands.{Stands, StandsIn};
 ghost use Rattle.laws_stands.specs.Told.{Told, telling};
 ghost use Rattle.laws_stands_after.specs.Disks.{AllowsDisk};
 ghost use Rattle.laws_stands_on.specs.Allows.{AllowsNext, IsOnlyCall};
-ghost use Rattle.laws_stands_on.specs.Once.{IsOnce};
+ghost use Rattle.laws_stands.specs.Once.{IsOnce};
 
 /// It stands after a call of a disk began that may begin, as it was planned, where there is a place for the call.
 pub fn what_is_recorded_stands_after_a_call_of_a_disk_begins()
@@ -41,7 +41,7 @@ pub fn what_is_recorded_stands_after_a_call_of_a_disk_ends()
         (d : ℕ)
         → IsOnlyCall told (record { n = number; task = n; worker = worker; owner = Disk d; call = call })
         → AllowsDisk told n call d
-        → IsOnce nat_cmp it.calls → IsOnce nat_cmp it.orphans → Stands told was → StandsIn told it
+        → Stands told was → StandsIn told it
         → StandsIn (telling told (entries.End (record { n = number; answer = answer })))
         (learned (entries.End (record { n = number; answer = answer }))
         (changes.Ended (ended_of was (record { n = number; answer = answer }))) it) }

@@ -28,6 +28,7 @@ use Rattle.bosh_history.specs.Steps.{compiles}
 use Rattle.bosh_history.specs.Words.{at, inserted, is_among}
 use Rattle.bosh_plan.specs.declared.beginning.Subject.TheVariants as subjects
 use Rattle.bosh_progress.specs.Tree.{first_marked}
+use Rattle.bosh_records.specs.Changes.{with_one_call}
 use Rattle.bosh_records.specs.Places.{part_of, places_in}
 use Rattle.bosh_records.specs.Recorded.{Recorded}
 use Rattle.bosh_records.specs.Table.{altered, found}
@@ -57,6 +58,7 @@ use Rattle.laws_stands_on.proofs.KeyLemmas.{inst_at, inst_keys}
 use Rattle.laws_stands_on.proofs.LinkLemmas.{ListsSame, changed_work, links_go_on}
 use Rattle.laws_stands_on.proofs.ListedLemmas.{SameListed, listed_goes_on}
 use Rattle.laws_stands_on.proofs.TableLemmas.{found_altered, nat_at, nat_keys, thing_changed}
+use Rattle.laws_stands_on.proofs.OnceLemmas.{once_altered}
 use Rattle.laws_stands_on.proofs.CallLemmas.{inst_flip}
 use Rattle.laws_stands_on.proofs.NextCallLemmas as next_call
 use Rattle.laws_stands_on.proofs.WorkLemmas.{after_call_begun, compiles_itself}
@@ -387,6 +389,18 @@ module _ (told : Told) (it : Recorded) (n number worker : ℕ) (call : Call) (i 
       machines = λ name. refl;
       orphans = λ d. refl;
     }) stands.linked;
+    once = record {
+      instances = once_altered inst_cmp i (λ known. record known { call = Some number }) (with_row row it).instances
+          (once_altered inst_cmp row.inst (λ known. record known { row = Some row }) it.instances
+          (stands.once).instances);
+      machines = (stands.once).machines;
+      orphans = (stands.once).orphans;
+      keys = (stands.once).keys;
+      tasks = once_altered nat_cmp n (option_map with_one_call) it.tasks (stands.once).tasks;
+      works = once_altered nat_cmp n (option_map (λ work. taken work (places_in noted (Instance i)))) it.works
+          (stands.once).works;
+      calls = once_altered nat_cmp number (λ _. Some b) it.calls (stands.once).calls;
+    };
     tells_well = let tells : TellsWell _ = next_call.tells_next told it b next stands in record {
       number = tells.number;
       low = tells.low;

@@ -68,7 +68,7 @@ use Rattle.laws_stands_on.proofs.NextCallLemmas.{row_by}
 use Rattle.laws_stands_on.proofs.OnlyCallLemmas as only_call
 use Rattle.laws_stands_on.proofs.WorkLemmas.{after_call_ended, after_ping}
 use Rattle.laws_stands_on.specs.Allows.{AllowsEnd, IsOnlyCall}
-use Rattle.laws_stands_on.specs.Once.{IsOnce}
+use Rattle.laws_stands_on.proofs.OnceLemmas.{once_altered, once_without}
 use Rattle.laws_stands_on.proofs.AnsweredLemmas.{ended_as, ended_work, ends_same, none_built}
 use Rattle.laws_stands_on.proofs.AnsweredLemmas.{none_known, pinged_as, takes_as, takes_ping}
 
@@ -76,7 +76,7 @@ module _ (told : Told) (was : Records) (it : Recorded) (n number worker : ℕ) (
     (i : Inst)
     (allows : AllowsEnd told (record { n = number; task = n; worker = worker; owner = Instance i; call = call })
     answer i)
-    (once : IsOnce nat_cmp it.calls) (stood : Stands told was) (stands : StandsIn told it) where
+    (stood : Stands told was) (stands : StandsIn told it) where
   abbrev b : Begin
   b = record { n = number; task = n; worker = worker; owner = Instance i; call = call }
 
@@ -478,7 +478,7 @@ module _ (told : Told) (was : Records) (it : Recorded) (n number worker : ℕ) (
         ∙ sym (only_call.task_same told it b answer pinged only stands
         (λ (it : Task). if nat_le 1 t && nat_le t k.tasks then Some (row_by t it) else None) refl
         t);
-    calls = only_call.calls_last told it b answer pinged only stands once;
+    calls = only_call.calls_last told it b answer pinged only stands (stands.once).calls;
     works = works;
     linked = links_go_on it ended (record {
       wants = kept_of (λ known. known.want) (λ known. refl);
@@ -489,6 +489,16 @@ module _ (told : Told) (was : Records) (it : Recorded) (n number worker : ℕ) (
       machines = λ name. refl;
       orphans = λ d. refl;
     }) stands.linked;
+    once = record {
+      instances = once_altered inst_cmp row.inst (λ known. record known { row = Some row }) closed.instances
+          (once_altered inst_cmp i (λ known. record known { call = None }) it.instances (stands.once).instances);
+      machines = (stands.once).machines;
+      orphans = (stands.once).orphans;
+      keys = (stands.once).keys;
+      tasks = (stands.once).tasks;
+      works = only_call.once_ended n asked places fail it.works (stands.once).works;
+      calls = once_without nat_cmp number it.calls (stands.once).calls;
+    };
     tells_well = let tells : TellsWell _ = only_call.tells_last told it b answer pinged only stands in record {
       number = tells.number;
       low = tells.low;

@@ -34,6 +34,7 @@ use Rattle.laws_stands.specs.Told.{Told, is_going, telling}
 use Rattle.laws_stands.specs.WorkStands.{StandsFor}
 use Rattle.laws_stands_on.proofs.LinkLemmas.{changed_work, links_go_on}
 use Rattle.laws_stands_on.proofs.ListedLemmas.{SameListed, listed_goes_on}
+use Rattle.laws_stands_on.proofs.OnceLemmas.{once_altered}
 use Rattle.laws_stands_on.proofs.TableLemmas.{nat_at, nat_keys, thing_changed}
 use Rattle.laws_stands_on.proofs.WorkLemmas.{after_update_begun}
 use Rattle.laws_stands_on.specs.Allows.{AllowsUpdate}
@@ -210,6 +211,16 @@ module _ (u : Update) (told : Told) (it : Recorded) (allows : AllowsUpdate told 
       machines = λ name. refl;
       orphans = λ d. refl;
     }) stands.linked;
+    once = record {
+      instances = (stands.once).instances;
+      machines = (stands.once).machines;
+      orphans = (stands.once).orphans;
+      keys = (stands.once).keys;
+      tasks = (stands.once).tasks;
+      works = once_altered nat_cmp n (option_map (λ work. work_specs.update_begun work (part_of it i).change)) it.works
+          (stands.once).works;
+      calls = (stands.once).calls;
+    };
     tells_well = record {
       number = stands.tells_well.number;
       low = stands.tells_well.low;

@@ -67,6 +67,15 @@ module _ (releases : List Release) (stemcells : List Stemcell) (config : Option 
       sweeps = stands.linked.sweeps;
       deletions = stands.linked.deletions;
     };
+    once = record {
+      instances = (stands.once).instances;
+      machines = (stands.once).machines;
+      orphans = (stands.once).orphans;
+      keys = (stands.once).keys;
+      tasks = (stands.once).tasks;
+      works = (stands.once).works;
+      calls = (stands.once).calls;
+    };
     tells_well = record {
       number = stands.tells_well.number;
       low = stands.tells_well.low;
