@@ -10,6 +10,7 @@ use Rattle.bosh_base.specs.declared.entry.Entry.{Entry}
 use Rattle.bosh_base.specs.declared.entry.Entry.TheVariants as entries
 use Rattle.bosh_base.specs.declared.failure.Failure.{Failure}
 use Rattle.bosh_base.specs.declared.inst.Inst.{Inst}
+use Rattle.bosh_base.specs.declared.key.Key.{Key}
 use Rattle.bosh_base.specs.declared.owner.Owner.{Owner}
 use Rattle.bosh_base.specs.declared.owner.Owner.TheVariants.{Instance}
 use Rattle.bosh_history.specs.Calls.{number_of}
@@ -18,6 +19,7 @@ use Rattle.bosh_history.specs.Held.{is_open}
 use Rattle.bosh_history.specs.Items.{is_finished}
 use Rattle.bosh_history.specs.Known.{Known}
 use Rattle.bosh_history.specs.Learn.{learn}
+use Rattle.bosh_history.specs.Steps.{compiles}
 use Rattle.bosh_history.specs.Words.{at, holds}
 use Rattle.bosh_roll.specs.Upd.{is_busy}
 use Rattle.bosh_rows.specs.Same.{same_owner}
@@ -78,6 +80,11 @@ pub record TellsWell (told : Told) : Type 0 where
   pub failed : (t : ℕ) (failure : Failure) → (told.known.task t).failed ≡ Some failure →
       is_some (told.known.begun (number_of failure)) ≡ true
   pub going : (n : ℕ) (b : Begin) → told.calls n ≡ Some b → is_going told.known b.task ≡ true
+  -- no two open calls are of one owner, or compile one key
+  pub one_owner : (c d : ℕ) (b e : Begin) → told.calls c ≡ Some b → told.calls d ≡ Some e →
+      same_owner b.owner e.owner ≡ true → c ≡ d
+  pub one_key : (c d : ℕ) (b e : Begin) (key : Key) → told.calls c ≡ Some b → told.calls d ≡ Some e →
+      compiles key b.call ≡ true → compiles key e.call ≡ true → c ≡ d
   pub updates : (t : ℕ) (i : Inst) →
       is_finished ((told.known.task t).upd i)
       ≡ (not (is_waiting ((told.known.task t).upd i)) && not (is_busy ((told.known.task t).upd i)))

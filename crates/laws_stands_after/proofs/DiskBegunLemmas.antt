@@ -419,6 +419,8 @@ module _ (told : Told) (was : Records) (it : Recorded) (n number worker : ℕ) (
       begun_past = tells.begun_past;
       failed = tells.failed;
       going = tells.going;
+      one_owner = tells.one_owner;
+      one_key = tells.one_key;
       updates = tells.updates;
     };
   }

@@ -69,13 +69,12 @@ use Rattle.laws_stands_on.proofs.OnlyCallLemmas.{calls_last, ended_works, ended_
 use Rattle.laws_stands_on.proofs.OnlyCallLemmas.{going_same, has_begun, idle_as, one_less_call, other_calls, own_call}
 use Rattle.laws_stands_on.proofs.OnlyCallLemmas.{once_ended, same_count, still, task_same, tells_last}
 use Rattle.laws_stands_on.proofs.SameGroupLemmas.{groups_as}
-use Rattle.laws_stands_on.specs.Allows.{IsOnlyCall}
 use Rattle.laws_stands_after.specs.Disks.{AllowsDisk}
 
 -- ---- the call
 
 module _ (told : Told) (was : Records) (it : Recorded) (n number worker : ℕ) (call : Call) (answer : Answer) (d : ℕ)
-    (only : IsOnlyCall told (record { n = number; task = n; worker = worker; owner = Disk d; call = call }))
+    (only : told.calls number ≡ Some (record { n = number; task = n; worker = worker; owner = Disk d; call = call }))
     (allows : AllowsDisk told n call d) (stood : Stands told was) (stands : StandsIn told it) where
   abbrev b : Begin
   b = record { n = number; task = n; worker = worker; owner = Disk d; call = call }
@@ -156,8 +155,8 @@ module _ (told : Told) (was : Records) (it : Recorded) (n number worker : ℕ) (
   plan_is : ended_of was e ≡ plan
   plan_is = λ j. record {
     n = number;
-    after = ap (option_and_then (planned.after_by was answer)) (stood.calls number ∙ only.is_open) j;
-    failed = ap (option_and_then (planned.failure_of was answer)) (stood.calls number ∙ only.is_open) j;
+    after = ap (option_and_then (planned.after_by was answer)) (stood.calls number ∙ only) j;
+    failed = ap (option_and_then (planned.failure_of was answer)) (stood.calls number ∙ only) j;
     built = planned.built_by answer;
     is_asked = is_told answer;
   }
@@ -192,7 +191,7 @@ module _ (told : Told) (was : Records) (it : Recorded) (n number worker : ℕ) (
   ended_is : ended_in plan it ≡ ended
   ended_is =
       ap (λ o. ended_by o plan (record it { calls = without nat_cmp number it.calls })) (stands.calls number
-      ∙ only.is_open)
+      ∙ only)
       ∙ none_built call (planned.built_by answer)
       (other_told (Disk d) (planned.disk_told call answer)
       (failed_in n fail
@@ -297,7 +296,7 @@ module _ (told : Told) (was : Records) (it : Recorded) (n number worker : ℕ) (
   dep_is =
       ap (option_and_then (λ (row : TaskRow). row.dep)) (stands.tasks n
       ∙ (λ j. if opened (nat_le 1 n) (nat_le n k.tasks) (is_open k n)
-      (stands.tells_well.going number b only.is_open) j then Some (task_row k n) else None))
+      (stands.tells_well.going number b only) j then Some (task_row k n) else None))
       ∙ allows.dep
     where
       opened : (a b c : Bool) → (a && (b && c)) ≡ true → (a && b) ≡ true
@@ -602,6 +601,8 @@ module _ (told : Told) (was : Records) (it : Recorded) (n number worker : ℕ) (
       begun_past = tells.begun_past;
       failed = tells.failed;
       going = tells.going;
+      one_owner = tells.one_owner;
+      one_key = tells.one_key;
       updates = tells.updates;
     };
   }

@@ -119,6 +119,7 @@ module _ (told : Told) (it : Recorded) (n number worker : ℕ) (call : Call) (i 
     none_failed = allows.none_failed;
     counted = allows.counted;
     idle = allows.idle;
+    compiles_new = λ c d key is compiled. absurd (false≢true (sym (allows.compiles_none key) ∙ compiled));
   }
 
   -- ---- the instance
@@ -409,6 +410,8 @@ module _ (told : Told) (it : Recorded) (n number worker : ℕ) (call : Call) (i 
       begun_past = tells.begun_past;
       failed = tells.failed;
       going = tells.going;
+      one_owner = tells.one_owner;
+      one_key = tells.one_key;
       updates = tells.updates;
     };
   }

@@ -67,7 +67,7 @@ use Rattle.laws_stands_on.proofs.CallLemmas.{inst_flip}
 use Rattle.laws_stands_on.proofs.NextCallLemmas.{row_by}
 use Rattle.laws_stands_on.proofs.OnlyCallLemmas as only_call
 use Rattle.laws_stands_on.proofs.WorkLemmas.{after_call_ended, after_ping}
-use Rattle.laws_stands_on.specs.Allows.{AllowsEnd, IsOnlyCall}
+use Rattle.laws_stands_on.specs.Allows.{AllowsEnd}
 use Rattle.laws_stands_on.proofs.OnceLemmas.{once_altered, once_without}
 use Rattle.laws_stands_on.proofs.AnsweredLemmas.{ended_as, ended_work, ends_same, none_built}
 use Rattle.laws_stands_on.proofs.AnsweredLemmas.{none_known, pinged_as, takes_as, takes_ping}
@@ -86,9 +86,13 @@ module _ (told : Told) (was : Records) (it : Recorded) (n number worker : ℕ) (
   abbrev k : Known
   k = told.known
 
-  -- what the end of any call needs
-  only : IsOnlyCall told b
-  only = record { is_open = allows.is_open; only = allows.only }
+  -- the call is open
+  only : told.calls number ≡ Some b
+  only = allows.is_open
+
+  -- .. and no other is its instance's
+  only_one : (c : ℕ) (d : Begin) → told.calls c ≡ Some d → same_owner d.owner (Instance i) ≡ true → c ≡ number
+  only_one c d there same = stands.tells_well.one_owner c number d b there only same
 
   -- its row
   abbrev row : Row
@@ -390,7 +394,7 @@ module _ (told : Told) (was : Records) (it : Recorded) (n number worker : ℕ) (
           allows.compiles_none (stands.tells_well.low number b allows.is_open)
           (stands.tells_well.past number b allows.is_open)
           (only_call.has_begun told it b answer pinged only stands) allows.is_open
-          allows.only
+          only_one
           (ended_as asked places fail work
           ∙ (λ j. record (given work (places_are work swept is work_stands j)) {
             pings = asked_line (takes_as call answer j)
@@ -507,6 +511,8 @@ module _ (told : Told) (was : Records) (it : Recorded) (n number worker : ℕ) (
       begun_past = tells.begun_past;
       failed = tells.failed;
       going = tells.going;
+      one_owner = tells.one_owner;
+      one_key = tells.one_key;
       updates = tells.updates;
     };
   }

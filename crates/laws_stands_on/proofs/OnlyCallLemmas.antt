@@ -44,7 +44,6 @@ use Rattle.laws_stands_on.proofs.OnceLemmas.{once_altered}
 use Rattle.laws_stands_on.proofs.TableLemmas.{found_without, nat_at, nat_keys}
 use Rattle.laws_stands.specs.Once.{IsOnce}
 use Rattle.laws_stands_on.proofs.ChangedLemmas.{things_changed, thing_at_key}
-use Rattle.laws_stands_on.specs.Allows.{IsOnlyCall}
 
 -- ---- the works of a task once its call ended
 
@@ -97,7 +96,7 @@ once_ended n asked places fail works once =
 
 -- .. of which it is told who answered a ping
 module _ (told : Told) (it : Recorded) (b : Begin) (answer : Answer) (pinged : Inst → Bool)
-    (only : IsOnlyCall told b) (stands : StandsIn told it) where
+    (is_open : told.calls b.n ≡ Some b) (stands : StandsIn told it) where
   abbrev k : Known
   k = told.known
 
@@ -118,8 +117,12 @@ module _ (told : Told) (it : Recorded) (b : Begin) (answer : Answer) (pinged : I
     snapped = told.snapped;
   }
 
+  -- no other call is its owner's
+  only : (c : ℕ) (d : Begin) → told.calls c ≡ Some d → same_owner d.owner b.owner ≡ true → c ≡ b.n
+  only c d there same = stands.tells_well.one_owner c b.n d b there is_open same
+
   pub has_begun : k.begun b.n ≡ Some b
-  has_begun = stands.tells_well.begun b.n b only.is_open
+  has_begun = stands.tells_well.begun b.n b is_open
 
   -- ---- how it failed
 
@@ -205,7 +208,7 @@ module _ (told : Told) (it : Recorded) (b : Begin) (answer : Answer) (pinged : I
   still f same c = by (eqb b.n c) refl
     where
       by : (t : Bool) → eqb b.n c ≡ t → f (if t then None else told.calls c) ≡ f (told.calls c)
-      by true is = same ∙ sym (ap f (ap told.calls (sym (eqb-true b.n c is)) ∙ only.is_open))
+      by true is = same ∙ sym (ap f (ap told.calls (sym (eqb-true b.n c is)) ∙ is_open))
       by false other = refl
 
   pub other_calls : (owner : Owner) → same_owner owner b.owner ≡ false → call_of told_last owner ≡ call_of told owner
@@ -216,7 +219,7 @@ module _ (told : Told) (it : Recorded) (b : Begin) (answer : Answer) (pinged : I
 
   pub idle_as : (owner : Owner) → is_idle told_last owner
       ≡ (if same_owner owner b.owner then true else is_idle told owner)
-  idle_as owner = idle_ended told b.n b owner only.is_open only.only
+  idle_as owner = idle_ended told b.n b owner is_open only
 
   -- its owner has none
   pub own_call : same_owner b.owner b.owner ≡ true → call_of told_last b.owner ≡ None
@@ -239,8 +242,8 @@ module _ (told : Told) (it : Recorded) (b : Begin) (answer : Answer) (pinged : I
   pub one_less_call : count_by (is_task_call told b.task) (numbers_to k.last_call)
       ≡ count_by (is_task_call told_last b.task) (numbers_to k.last_call) + 1
   one_less_call = one_less (is_task_call told b.task) (is_task_call told_last b.task) b.n k.last_call
-      (stands.tells_well.low b.n b only.is_open) (stands.tells_well.past b.n b only.is_open)
-      (ap (holds (λ (d : Begin). d.task == b.task)) only.is_open ∙ eq-eqb b.task b.task refl)
+      (stands.tells_well.low b.n b is_open) (stands.tells_well.past b.n b is_open)
+      (ap (holds (λ (d : Begin). d.task == b.task)) is_open ∙ eq-eqb b.task b.task refl)
       (ap (λ t. holds (λ (d : Begin). d.task == b.task) (if t then None else told.calls b.n)) (eq-eqb b.n b.n refl))
       (λ c differs. ap (λ t. holds (λ (d : Begin). d.task == b.task) (if t then None else told.calls c)) differs)
 
@@ -280,6 +283,8 @@ module _ (told : Told) (it : Recorded) (b : Begin) (answer : Answer) (pinged : I
     begun_past = stands.tells_well.begun_past;
     failed = failed_began;
     going = λ c d is. going_same d.task ∙ stands.tells_well.going c d (was_open c d is);
+    one_owner = λ c d x y is there. stands.tells_well.one_owner c d x y (was_open c x is) (was_open d y there);
+    one_key = λ c d x y key is there. stands.tells_well.one_key c d x y key (was_open c x is) (was_open d y there);
     updates = λ t x. task_same (λ it. is_finished (it.upd x)) refl t ∙ stands.tells_well.updates t x
         ∙ sym (task_same (λ it. not (is_waiting (it.upd x)) && not (is_busy (it.upd x))) refl t);
   }

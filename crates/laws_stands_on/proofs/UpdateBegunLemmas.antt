@@ -230,6 +230,8 @@ module _ (u : Update) (told : Told) (it : Recorded) (allows : AllowsUpdate told 
       failed = λ t failure is. stands.tells_well.failed t failure (sym (task_same (λ it. it.failed) (λ it. refl) t)
           ∙ is);
       going = λ c b is. going_same b.task ∙ stands.tells_well.going c b is;
+      one_owner = stands.tells_well.one_owner;
+      one_key = stands.tells_well.one_key;
       updates = updates_told;
     };
   }

@@ -84,6 +84,8 @@ module _ (releases : List Release) (stemcells : List Stemcell) (config : Option 
       begun_past = stands.tells_well.begun_past;
       failed = stands.tells_well.failed;
       going = stands.tells_well.going;
+      one_owner = stands.tells_well.one_owner;
+      one_key = stands.tells_well.one_key;
       updates = stands.tells_well.updates;
     };
   }

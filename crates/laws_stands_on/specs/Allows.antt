@@ -33,11 +33,8 @@ pub record AllowsNext (told : Told) (begin : Begin) : Type 0 where
   pub none_failed : (told.known.task begin.task).failed ≡ None
   pub counted : (c : ℕ) → (told.known.task begin.task).calls ≡ Some c → c < 18446744073709551615
   pub idle : is_idle told begin.owner ≡ true
-
--- an open call is the only one of its owner
-pub record IsOnlyCall (told : Told) (begin : Begin) : Type 0 where
-  pub is_open : told.calls begin.n ≡ Some begin
-  pub only : (c : ℕ) (d : Begin) → told.calls c ≡ Some d → same_owner d.owner begin.owner ≡ true → c ≡ begin.n
+  pub compiles_new : (c : ℕ) (d : Begin) (key : Key) → told.calls c ≡ Some d → compiles key begin.call ≡ true →
+      compiles key d.call ≡ false
 
 -- a call of an instance may begin for an open task: it has the next number, the instance is of the task's deployment, and no
 -- other open task lists it
@@ -67,11 +64,9 @@ pub record HasPlaces (it : Recorded) (number : ℕ) (i : Inst) : Type 0 where
   pub instance : is_some (instance_of it i) ≡ true
   pub call : is_some (found nat_cmp it.calls number) ≡ true
 
--- an open call of an instance may end: it is the only one of the instance, which is recorded, and no other open task lists
--- it
+-- an open call of an instance may end: the instance is recorded, and no other open task lists it
 pub record AllowsEnd (told : Told) (begin : Begin) (answer : Answer) (i : Inst) : Type 0 where
   pub is_open : told.calls begin.n ≡ Some begin
-  pub only : (c : ℕ) (d : Begin) → told.calls c ≡ Some d → same_owner d.owner (Instance i) ≡ true → c ≡ begin.n
   pub dep : (told.known.task begin.task).dep ≡ Some i.dep
   pub changed_apart : are_distinct same_inst (told.known.task begin.task).changed ≡ true
   pub pings_apart : are_distinct same_inst (told.known.task begin.task).to_ping ≡ true

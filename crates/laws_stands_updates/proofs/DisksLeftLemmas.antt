@@ -174,6 +174,8 @@ module _ (told : Told) (it : Recorded) (i : Inst) (disks : List DiskRow) (listed
       begun_past = stands.tells_well.begun_past;
       failed = stands.tells_well.failed;
       going = stands.tells_well.going;
+      one_owner = stands.tells_well.one_owner;
+      one_key = stands.tells_well.one_key;
       updates = stands.tells_well.updates;
     };
   }

@@ -308,6 +308,8 @@ module _ (u : Update) (told : Told) (it : Recorded) (row : Row) (going : is_goin
       begun_past = stands.tells_well.begun_past;
       failed = λ x failure is. stands.tells_well.failed x failure (sym (task_same (λ it. it.failed) refl x) ∙ is);
       going = λ c b is. going_same b.task ∙ stands.tells_well.going c b is;
+      one_owner = stands.tells_well.one_owner;
+      one_key = stands.tells_well.one_key;
       updates = updates_told;
     };
   }

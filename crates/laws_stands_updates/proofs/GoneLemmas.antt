@@ -307,6 +307,8 @@ module _ (u : Update) (told : Told) (it : Recorded) (going : is_going told.known
       begun_past = stands.tells_well.begun_past;
       failed = λ x failure is. stands.tells_well.failed x failure (sym (task_same (λ it. it.failed) refl x) ∙ is);
       going = λ c b is. going_same b.task ∙ stands.tells_well.going c b is;
+      one_owner = stands.tells_well.one_owner;
+      one_key = stands.tells_well.one_key;
       updates = λ x y. task_same (λ it. is_finished (it.upd y)) refl x ∙ stands.tells_well.updates x y
           ∙ sym (task_same (λ it. not (is_waiting (it.upd y)) && not (is_busy (it.upd y))) refl x);
     };
