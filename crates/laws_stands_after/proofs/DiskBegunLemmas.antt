@@ -247,7 +247,7 @@ module _ (told : Told) (was : Records) (it : Recorded) (n number worker : ℕ) (
     obsolete = subst (λ idle. LineStands (k.task n).obsolete (λ i. not ((k.task n).gone i)) idle work.obsolete)
         idle_path work_stands.obsolete;
     disks =
-        stands_taken eqb eqb-true (k.task n).disks allows.disks_apart d (λ x. is_some (k.orphan x))
+        stands_taken eqb eqb-true (k.task n).disks (stands.tells_well.disks_apart n) d (λ x. is_some (k.orphan x))
         (λ x. is_idle told (Disk x)) (λ x. is_some (new.known.orphan x)) (λ x. is_idle new (Disk x))
         work.disks left_same idle_disks work_stands.disks;
     sweep =
@@ -411,7 +411,8 @@ module _ (told : Told) (was : Records) (it : Recorded) (n number worker : ℕ) (
           (stands.once).works;
       calls = once_altered nat_cmp number (λ _. Some b) it.calls (stands.once).calls;
     };
-    tells_well = let tells : TellsWell _ = tells_next told it b next stands in record {
+    tells_well = let tells : TellsWell _ = tells_next told it b next stands k.instances (λ i is. is) (λ i own. absurd cc)
+        in record {
       number = tells.number;
       low = tells.low;
       past = tells.past;
@@ -421,6 +422,9 @@ module _ (told : Told) (was : Records) (it : Recorded) (n number worker : ℕ) (
       going = tells.going;
       one_owner = tells.one_owner;
       one_key = tells.one_key;
+      recorded = tells.recorded;
+      counted = tells.counted;
+      disks_apart = tells.disks_apart;
       updates = tells.updates;
     };
   }

@@ -338,7 +338,7 @@ module _ (told : Told) (was : Records) (it : Recorded) (n number worker : ℕ) (
     where
       given : LineStands (k.task n).disks (λ x. is_some (k.orphan x)) (λ x. is_idle new (Disk x))
           (given_line work.disks listed_at)
-      given = stands_given eqb eqb-true (k.task n).disks allows.disks_apart d (λ x. is_some (k.orphan x))
+      given = stands_given eqb eqb-true (k.task n).disks (stands.tells_well.disks_apart n) d (λ x. is_some (k.orphan x))
           (λ x. is_idle told (Disk x)) (λ x. is_some (k.orphan x)) (λ x. is_idle new (Disk x)) work.disks
           (λ x. refl) idle_disks work_stands.disks
 
@@ -362,7 +362,7 @@ module _ (told : Told) (was : Records) (it : Recorded) (n number worker : ℕ) (
           (λ x. is_some (at eqb d (orphan_by g s (k.orphan d)) k.orphan x)) (λ x. is_idle new (Disk x))
           (last_line g (given_line work.disks listed_at) listed_at)
       by true =
-          stands_finished eqb eqb-true (k.task n).disks allows.disks_apart d (λ x. is_some (k.orphan x))
+          stands_finished eqb eqb-true (k.task n).disks (stands.tells_well.disks_apart n) d (λ x. is_some (k.orphan x))
           (λ x. is_idle new (Disk x)) (λ x. is_some (at eqb d None k.orphan x)) (λ x. is_idle new (Disk x))
           (given_line work.disks listed_at) goes_away (λ x. refl) given
       by false =
@@ -603,6 +603,9 @@ module _ (told : Told) (was : Records) (it : Recorded) (n number worker : ℕ) (
       going = tells.going;
       one_owner = tells.one_owner;
       one_key = tells.one_key;
+      recorded = tells.recorded;
+      counted = tells.counted;
+      disks_apart = tells.disks_apart;
       updates = tells.updates;
     };
   }

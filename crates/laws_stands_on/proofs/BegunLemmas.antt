@@ -117,7 +117,6 @@ module _ (told : Told) (it : Recorded) (n number worker : ℕ) (call : Call) (i 
     small = allows.small;
     going = allows.going;
     none_failed = allows.none_failed;
-    counted = allows.counted;
     idle = allows.idle;
     compiles_new = λ c d key is compiled. absurd (false≢true (sym (allows.compiles_none key) ∙ compiled));
   }
@@ -194,6 +193,16 @@ module _ (told : Told) (it : Recorded) (n number worker : ℕ) (call : Call) (i 
       ≡ (same_inst x i || is_among same_inst x k.instances)
   among_is x = any_inserted inst_cmp (same_inst x) (λ a b same. ap (same_inst x) (inst_equal a b same)) i
       k.instances
+
+  or_true : (a b : Bool) → b ≡ true → (a || b) ≡ true
+  or_true true b is = refl
+  or_true false b is = is
+
+  own_first : (x : Inst) → b.owner ≡ Instance x → (same_inst x i || is_among same_inst x k.instances) ≡ true
+  own_first x own =
+      let e : i ≡ x = cc in
+      (λ j. same_inst (sym e j) i || is_among same_inst x k.instances) ∙ ap (λ t. t || is_among same_inst x k.instances)
+      (itself i)
 
   rows : (x : Inst) → row_of begun x
       ≡ (if is_among same_inst x (inserted inst_cmp i k.instances)
@@ -402,7 +411,9 @@ module _ (told : Told) (it : Recorded) (n number worker : ℕ) (call : Call) (i 
           (stands.once).works;
       calls = once_altered nat_cmp number (λ _. Some b) it.calls (stands.once).calls;
     };
-    tells_well = let tells : TellsWell _ = next_call.tells_next told it b next stands in record {
+    tells_well = let tells : TellsWell _ = next_call.tells_next told it b next stands (inserted inst_cmp i k.instances)
+        (λ x is. among_is x ∙ or_true (same_inst x i) (is_among same_inst x k.instances) is)
+        (λ x own. among_is x ∙ own_first x own) in record {
       number = tells.number;
       low = tells.low;
       past = tells.past;
@@ -412,6 +423,9 @@ module _ (told : Told) (it : Recorded) (n number worker : ℕ) (call : Call) (i 
       going = tells.going;
       one_owner = tells.one_owner;
       one_key = tells.one_key;
+      recorded = tells.recorded;
+      counted = tells.counted;
+      disks_apart = tells.disks_apart;
       updates = tells.updates;
     };
   }

@@ -94,6 +94,9 @@ module _ (told : Told) (was : Records) (it : Recorded) (n number worker : ℕ) (
   only_one : (c : ℕ) (d : Begin) → told.calls c ≡ Some d → same_owner d.owner (Instance i) ≡ true → c ≡ number
   only_one c d there same = stands.tells_well.one_owner c number d b there only same
 
+  recorded : is_among same_inst i k.instances ≡ true
+  recorded = stands.tells_well.recorded number b i only refl
+
   -- its row
   abbrev row : Row
   row = after number call answer (k.row i)
@@ -136,7 +139,7 @@ module _ (told : Told) (was : Records) (it : Recorded) (n number worker : ℕ) (
   -- ---- what is planned
 
   row_there : row_at was i ≡ Some (k.row i)
-  row_there = stood.rows i ∙ (λ j. if allows.recorded j then Some (k.row i) else None)
+  row_there = stood.rows i ∙ (λ j. if recorded j then Some (k.row i) else None)
 
   abbrev fail : Option TaskEnd
   fail = planned.failure_of was answer b
@@ -284,8 +287,8 @@ module _ (told : Told) (was : Records) (it : Recorded) (n number worker : ℕ) (
           ∙ ap (λ x. option_and_then (λ (known : instances.Instance). known.row)
           (option_map said (instance_of it x))) (sym same)
           ∙ recorded_some (instance_of it i) (stands.rows i
-          ∙ (λ j. if allows.recorded j then Some (k.row i) else None))
-          ∙ (λ j. if sym (ap (λ x. is_among same_inst x k.instances) (sym same) ∙ allows.recorded) j
+          ∙ (λ j. if recorded j then Some (k.row i) else None))
+          ∙ (λ j. if sym (ap (λ x. is_among same_inst x k.instances) (sym same) ∙ recorded) j
           then Some (if sym is j then row else k.row x) else None)
       by false other =
           (λ j. option_and_then (λ (known : instances.Instance). known.row)
@@ -513,6 +516,9 @@ module _ (told : Told) (was : Records) (it : Recorded) (n number worker : ℕ) (
       going = tells.going;
       one_owner = tells.one_owner;
       one_key = tells.one_key;
+      recorded = tells.recorded;
+      counted = tells.counted;
+      disks_apart = tells.disks_apart;
       updates = tells.updates;
     };
   }

@@ -1,5 +1,5 @@
 -- A call of any owner begins: what is told of it and of its task.
-use Rattle.std.proofs.Common.{◌≡◌, ◌∙◌, ℕ, ◌+◌, ◌<◌, ◌≤◌, suc, Bool, true, false, ◌&&◌, not}
+use Rattle.std.proofs.Common.{◌≡◌, ◌∙◌, ℕ, ◌+◌, ◌<◌, ◌≤◌, suc, Bool, true, false, ◌&&◌, not, List}
 use Rattle.std.proofs.Common.{◌==◌, Option, Some, None, add-one, ap, refl, subst, sym, arith}
 use Rattle.std.specs.Prelude.{cond, count_by, eqb, is_some, min, nat_le, if◌then◌else◌}
 use Rattle.std.specs.Option.{option_and_then, option_map, option_or}
@@ -10,7 +10,9 @@ use Rattle.bosh_base.specs.Cloud.{numbers_to}
 use Rattle.bosh_base.specs.declared.entry.Begin.{Begin}
 use Rattle.bosh_base.specs.declared.failure.Failure.{Failure}
 use Rattle.bosh_base.specs.declared.key.Key.{Key}
+use Rattle.bosh_base.specs.declared.inst.Inst.{Inst}
 use Rattle.bosh_base.specs.declared.owner.Owner.{Owner}
+use Rattle.bosh_base.specs.declared.owner.Owner.TheVariants.{Instance}
 use Rattle.bosh_base.specs.declared.task.TaskRow.{TaskRow}
 use Rattle.bosh_history.specs.Calls.{number_of, task_with_call}
 use Rattle.bosh_history.specs.Goals.{is_waiting}
@@ -19,12 +21,13 @@ use Rattle.bosh_history.specs.Known.{Known, Task}
 use Rattle.bosh_history.specs.Snapshots.{task_row}
 use Rattle.bosh_history.specs.Steps.{compiles}
 use Rattle.bosh_history.specs.Tasks.{end_by}
-use Rattle.bosh_history.specs.Words.{at, holds}
+use Rattle.bosh_history.specs.Words.{at, holds, is_among}
 use Rattle.bosh_records.specs.Changes.{with_one_call}
 use Rattle.bosh_records.specs.Recorded.{Recorded}
 use Rattle.bosh_records.specs.Table.{changed, found, put_at, thing_in}
 use Rattle.bosh_roll.specs.Upd.{is_busy}
-use Rattle.bosh_rows.specs.Same.{same_owner}
+use Rattle.bosh_rows.specs.Same.{same_inst, same_owner}
+use Rattle.bosh_rows.specs.SoundSnapshot.{are_distinct}
 use Rattle.laws_stands.specs.Reading.{dep_of, task_of}
 use Rattle.laws_stands.specs.Stands.{StandsIn, call_of}
 use Rattle.laws_stands.specs.Told.{TellsWell, Told, is_going, is_idle}
@@ -132,17 +135,19 @@ module _ (told : Told) (it : Recorded) (b : Begin) (allows : AllowsNext told b) 
       ≡ (if nat_le 1 t && nat_le t k.tasks then Some (row_by t (task_now t)) else None)
   tasks_next t = task_is t ∙ by (eqb b.task t) refl
     where
-      one_more : (o : Option ℕ) → ((c : ℕ) → o ≡ Some c → c < 18446744073709551615)
+      one_more : (o : Option ℕ) → ((c : ℕ) → o ≡ Some c → c ≤ k.last_call)
           → option_map (λ c. min (c + 1) 18446744073709551615) o ≡ option_map (λ c. c + 1) o
       one_more None few = refl
       one_more (Some c) few = ap Some (within c (few c refl))
         where
-          within : (c : ℕ) → c < 18446744073709551615 → min (c + 1) 18446744073709551615 ≡ c + 1
-          within c few = omega arith
+          within : (c : ℕ) → c ≤ k.last_call → min (c + 1) 18446744073709551615 ≡ c + 1
+          within c few =
+              let next : b.n ≡ k.last_call + 1 = allows.next in
+              let small : b.n ≤ 18446744073709551615 = allows.small in omega arith
 
       own_row_is : with_one_call (row_by t (k.task b.task)) ≡ row_by t (task_with_call (k.task b.task))
       own_row_is = λ j. record (row_by t (k.task b.task)) {
-        calls = one_more (k.task b.task).calls allows.counted j;
+        calls = one_more (k.task b.task).calls (stands.tells_well.counted b.task) j;
       }
 
       mapped : (u : Bool) (row other : TaskRow) → with_one_call row ≡ other
@@ -286,8 +291,30 @@ module _ (told : Told) (it : Recorded) (b : Begin) (allows : AllowsNext told b) 
           ∙ one))
       by false false other others is there = stands.tells_well.one_key c d x y key is there one two
 
-  pub tells_next : TellsWell told_next
-  tells_next = record {
+  counted_next : (t c : ℕ) → (task_now t).calls ≡ Some c → c ≤ b.n
+  counted_next t c is = by (eqb b.task t) is
+    where
+      one : (o : Option ℕ) → ((d : ℕ) → o ≡ Some d → d ≤ k.last_call) → option_map (λ d. d + 1) o ≡ Some c → c ≤ b.n
+      one None few is = absurd cc
+      one (Some d) few is =
+          let few_here : d ≤ k.last_call = few d refl in
+          let e : d + 1 ≡ c = cc in
+          let next : b.n ≡ k.last_call + 1 = allows.next in omega arith
+
+      by : (u : Bool) → (if u then task_with_call (k.task b.task) else k.task t).calls ≡ Some c → c ≤ b.n
+      by true is = one (k.task b.task).calls (stands.tells_well.counted b.task) is
+      by false is = low (stands.tells_well.counted t c is)
+
+  -- .. and these instances are recorded
+  pub tells_next : (instances : List Inst)
+      → ((i : Inst) → is_among same_inst i k.instances ≡ true → is_among same_inst i instances ≡ true)
+      → ((i : Inst) → b.owner ≡ Instance i → is_among same_inst i instances ≡ true)
+      → TellsWell (record told_next { known = record told_next.known { instances = instances } })
+  tells_next instances more own = record {
+    recorded = λ c d i is. by_now told.calls (λ c d. d.owner ≡ Instance i → is_among same_inst i instances ≡ true)
+        (own i) (λ c d is own. more i (stands.tells_well.recorded c d i is own)) c d is;
+    counted = counted_next;
+    disks_apart = λ t. task_same (λ it. are_distinct eqb it.disks) (λ it. refl) t ∙ stands.tells_well.disks_apart t;
     number = by_now told.calls (λ c d. d.n ≡ c) refl stands.tells_well.number;
     low = by_now told.calls (λ c d. 1 ≤ c) (let next : b.n ≡ k.last_call + 1 = allows.next in omega arith)
         stands.tells_well.low;

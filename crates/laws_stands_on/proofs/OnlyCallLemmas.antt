@@ -30,6 +30,7 @@ use Rattle.bosh_records.specs.Table.{changed, found, thing_in, without}
 use Rattle.bosh_records.specs.declared.records.Records.{Records}
 use Rattle.bosh_roll.specs.Upd.{is_busy}
 use Rattle.bosh_rows.specs.Same.{same_owner}
+use Rattle.bosh_rows.specs.SoundSnapshot.{are_distinct}
 use Rattle.bosh_work.specs.Work as work_specs
 use Rattle.bosh_work.specs.Work.{failed_by, given}
 use Rattle.bosh_work.specs.declared.part.Places.{Places}
@@ -285,6 +286,9 @@ module _ (told : Told) (it : Recorded) (b : Begin) (answer : Answer) (pinged : I
     going = λ c d is. going_same d.task ∙ stands.tells_well.going c d (was_open c d is);
     one_owner = λ c d x y is there. stands.tells_well.one_owner c d x y (was_open c x is) (was_open d y there);
     one_key = λ c d x y key is there. stands.tells_well.one_key c d x y key (was_open c x is) (was_open d y there);
+    recorded = λ c d i is own. stands.tells_well.recorded c d i (was_open c d is) own;
+    counted = λ t c is. stands.tells_well.counted t c (sym (task_same (λ it. it.calls) refl t) ∙ is);
+    disks_apart = λ t. task_same (λ it. are_distinct eqb it.disks) refl t ∙ stands.tells_well.disks_apart t;
     updates = λ t x. task_same (λ it. is_finished (it.upd x)) refl t ∙ stands.tells_well.updates t x
         ∙ sym (task_same (λ it. not (is_waiting (it.upd x)) && not (is_busy (it.upd x))) refl t);
   }

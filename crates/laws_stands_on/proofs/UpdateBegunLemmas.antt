@@ -24,6 +24,7 @@ use Rattle.bosh_records.specs.Recorded.{Recorded}
 use Rattle.bosh_roll.specs.Upd.{is_busy}
 use Rattle.bosh_roll.specs.declared.upd.Upd.TheVariants.{Busy}
 use Rattle.bosh_rows.specs.Same.{same_inst}
+use Rattle.bosh_rows.specs.SoundSnapshot.{are_distinct}
 use Rattle.bosh_work.specs.Work as work_specs
 use Rattle.bosh_work.specs.declared.part.MachineName.{MachineName}
 use Rattle.bosh_work.specs.declared.work.Work.{Work}
@@ -232,6 +233,10 @@ module _ (u : Update) (told : Told) (it : Recorded) (allows : AllowsUpdate told 
       going = λ c b is. going_same b.task ∙ stands.tells_well.going c b is;
       one_owner = stands.tells_well.one_owner;
       one_key = stands.tells_well.one_key;
+      recorded = stands.tells_well.recorded;
+      counted = λ t c is. stands.tells_well.counted t c (sym (task_same (λ it. it.calls) (λ it. refl) t) ∙ is);
+      disks_apart = λ t. task_same (λ it. are_distinct eqb it.disks) (λ it. refl) t
+          ∙ stands.tells_well.disks_apart t;
       updates = updates_told;
     };
   }

@@ -176,6 +176,9 @@ module _ (told : Told) (it : Recorded) (i : Inst) (disks : List DiskRow) (listed
       going = stands.tells_well.going;
       one_owner = stands.tells_well.one_owner;
       one_key = stands.tells_well.one_key;
+      recorded = stands.tells_well.recorded;
+      counted = stands.tells_well.counted;
+      disks_apart = stands.tells_well.disks_apart;
       updates = stands.tells_well.updates;
     };
   }

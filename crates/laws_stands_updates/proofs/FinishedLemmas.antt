@@ -310,6 +310,9 @@ module _ (u : Update) (told : Told) (it : Recorded) (row : Row) (going : is_goin
       going = λ c b is. going_same b.task ∙ stands.tells_well.going c b is;
       one_owner = stands.tells_well.one_owner;
       one_key = stands.tells_well.one_key;
+      recorded = stands.tells_well.recorded;
+      counted = λ x c is. stands.tells_well.counted x c (sym (task_same (λ it. it.calls) refl x) ∙ is);
+      disks_apart = λ x. task_same (λ it. are_distinct eqb it.disks) refl x ∙ stands.tells_well.disks_apart x;
       updates = updates_told;
     };
   }

@@ -6,8 +6,10 @@ use Rattle.std.specs.Option.{option_and_then, option_map}
 use Rattle.std.specs.Ordering.{nat_cmp}
 use Rattle.std.proofs.lemmas.Bool.{eq-eqb, eqb-true, false≢true, true≢false}
 use Rattle.bosh_base.specs.Inst.{inst_cmp}
+use Rattle.bosh_base.specs.declared.entry.Begin.{Begin}
 use Rattle.bosh_base.specs.declared.entry.Update.{Update}
 use Rattle.bosh_base.specs.declared.inst.Inst.{Inst}
+use Rattle.bosh_base.specs.declared.owner.Owner.TheVariants.{Instance as AnInstance}
 use Rattle.bosh_base.specs.declared.row.Row.{Row}
 use Rattle.bosh_base.specs.declared.task.TaskRow.{TaskRow}
 use Rattle.bosh_compile.specs.Readiness.{same_key}
@@ -18,7 +20,7 @@ use Rattle.bosh_history.specs.Items.{is_finished, is_in_deployment}
 use Rattle.bosh_history.specs.Known.{Known, SlotName, Task}
 use Rattle.bosh_history.specs.Slots.{keys_of}
 use Rattle.bosh_history.specs.Snapshots.{task_row}
-use Rattle.bosh_history.specs.Words.{at, is_among, without}
+use Rattle.bosh_history.specs.Words.{at, holds, is_among, without}
 use Rattle.bosh_progress.specs.Tree.{first_marked}
 use Rattle.bosh_records.specs.Changes.{with_left}
 use Rattle.bosh_records.specs.Places.{part_of}
@@ -27,7 +29,7 @@ use Rattle.bosh_records.specs.declared.instances.Instance.{Instance}
 use Rattle.bosh_roll.specs.Upd.{is_busy}
 use Rattle.bosh_rows.proofs.SameLemmas.{itself}
 use Rattle.bosh_rows.specs.After.{bare}
-use Rattle.bosh_rows.specs.Same.{same_inst}
+use Rattle.bosh_rows.specs.Same.{same_inst, same_owner}
 use Rattle.bosh_rows.specs.SoundSnapshot.{are_distinct}
 use Rattle.bosh_work.specs.Line.{finished_line}
 use Rattle.bosh_work.specs.declared.line.Line.{Line}
@@ -41,7 +43,7 @@ use Rattle.laws_stands.specs.Reading.{dep_of, instance_of, row_of, work_of}
 use Rattle.laws_stands.specs.Stands.{AreSwept, StandsIn, key_of_slot}
 use Rattle.laws_stands.specs.Told.{Told, idle_in, is_going}
 use Rattle.laws_stands.specs.WorkStands.{StandsFor}
-use Rattle.laws_stands_on.proofs.CallLemmas.{inst_flip}
+use Rattle.laws_stands_on.proofs.CallLemmas.{all_numbered}
 use Rattle.laws_stands_on.proofs.LinkLemmas.{ListsSame, links_go_on}
 use Rattle.laws_stands_on.proofs.ListedLemmas.{SameListed, listed_goes_on}
 use Rattle.laws_stands_on.proofs.NextCallLemmas.{row_by}
@@ -78,7 +80,8 @@ among_without i x (y ∷ xs) = by (same_inst i y) (same_inst i x) (same_inst x y
 
 module _ (u : Update) (told : Told) (it : Recorded) (going : is_going told.known u.task ≡ true)
     (dep : (told.known.task u.task).dep ≡ Some u.inst.dep)
-    (apart : are_distinct same_inst (told.known.task u.task).obsolete ≡ true) (stands : StandsIn told it) where
+    (apart : are_distinct same_inst (told.known.task u.task).obsolete ≡ true) (idle : idle_in told u.inst ≡ true)
+    (stands : StandsIn told it) where
   abbrev n : ℕ
   n = u.task
 
@@ -251,6 +254,21 @@ module _ (u : Update) (told : Told) (it : Recorded) (going : is_going told.known
     disks = refl;
   }
 
+  -- the instance has no open call, and the others are recorded still
+  recorded_still : (c : ℕ) (b : Begin) (x : Inst) → told.calls c ≡ Some b → b.owner ≡ AnInstance x
+      → is_among same_inst x (without same_inst i k.instances) ≡ true
+  recorded_still c b x is own = among_without i x k.instances ∙ by (same_inst i x) refl
+    where
+      by : (t : Bool) → same_inst i x ≡ t → (if t then false else is_among same_inst x k.instances) ≡ true
+      by false other = stands.tells_well.recorded c b x is own
+      by true same =
+          let e : AnInstance i ≡ b.owner = ap AnInstance (inst_is i x same) ∙ sym own in
+          absurd (false≢true
+          (sym (ap (λ o. not (holds (λ (d : Begin). same_owner (AnInstance i) d.owner) o)) is
+          ∙ (λ j. not (same_owner (AnInstance i) (sym e j))) ∙ ap not (itself i))
+          ∙ all_numbered (λ c. not (holds (λ (d : Begin). same_owner (AnInstance i) d.owner) (told.calls c))) k.last_call c
+          (stands.tells_well.low c b is) (stands.tells_well.past c b is) idle))
+
   -- ---- all
 
   pub gone_stands : StandsIn told_gone (left_in u it)
@@ -309,6 +327,9 @@ module _ (u : Update) (told : Told) (it : Recorded) (going : is_going told.known
       going = λ c b is. going_same b.task ∙ stands.tells_well.going c b is;
       one_owner = stands.tells_well.one_owner;
       one_key = stands.tells_well.one_key;
+      recorded = recorded_still;
+      counted = λ x c is. stands.tells_well.counted x c (sym (task_same (λ it. it.calls) refl x) ∙ is);
+      disks_apart = λ x. task_same (λ it. are_distinct eqb it.disks) refl x ∙ stands.tells_well.disks_apart x;
       updates = λ x y. task_same (λ it. is_finished (it.upd y)) refl x ∙ stands.tells_well.updates x y
           ∙ sym (task_same (λ it. not (is_waiting (it.upd y)) && not (is_busy (it.upd y))) refl x);
     };

@@ -74,7 +74,7 @@ module _ (u : Update) (told : Told) (was now : Records) (allows : AllowsLeave to
         };
       })
       (record it { orphans = with_orphans (orphans_of i disks) it.orphans }) allows.going allows.dep
-      allows.obsolete_apart
+      allows.obsolete_apart allows.idle
       (left_stands told it i disks (all_inserted nat_cmp (numbers_of disks) k.orphans) allows.left places roomy)
 
   by_change : (change : Change) → IsPlanned was learns.roomy (entries.Gone u) change

@@ -13,7 +13,7 @@ use Rattle.bosh_rows.specs.After.{bare}
 use Rattle.bosh_rows.specs.Same.{same_inst}
 use Rattle.bosh_rows.specs.SoundSnapshot.{are_distinct}
 use Rattle.std.specs.Str.{bytes_eq}
-use Rattle.laws_stands.specs.Told.{Told, is_going, is_idle}
+use Rattle.laws_stands.specs.Told.{Told, idle_in, is_going, is_idle}
 
 -- the numbers of disks
 abbrev pub numbers_of : List DiskRow → List ℕ
@@ -50,6 +50,7 @@ pub record AllowsLeave (told : Told) (update : Update) : Type 0 where
   pub going : is_going told.known update.task ≡ true
   pub dep : (told.known.task update.task).dep ≡ Some update.inst.dep
   pub obsolete_apart : are_distinct same_inst (told.known.task update.task).obsolete ≡ true
+  pub idle : idle_in told update.inst ≡ true
   pub bare_row : is_among same_inst update.inst told.known.instances ≡ false →
       told.known.row update.inst ≡ bare update.inst
   pub left : AllowsLeft told (told.known.row update.inst).disks

@@ -1,0 +1,4 @@
+pub mod BeginsLemmas
+pub mod CallLemmas
+pub mod EndsLemmas
+pub mod TaskLemmas
