@@ -113,7 +113,7 @@ module _ (m : Moment) (records : Records) (u : Update) (at : IsAtWork m records 
   late : 3 < 4 + stage
   late = omega arith
 
-  turns : CanUpdate t (idle_at m)
+  pub turns : CanUpdate t (idle_at m)
   turns = can_update m u.task records at.swept at.work can (4 + stage) none_before late
 
   place : IsPlaced m records u.task at facts working can.groups_stand u.inst
