@@ -20,13 +20,14 @@ use Rattle.bosh_records.specs.declared.records.Records.{Records}
 use Rattle.bosh_records.specs.Arrivals.{Arrivals, arrivals}
 use Rattle.bosh_book.specs.declared.book.Book.{Book}
 use Rattle.bosh_book.specs.Appends.{Appends, unless_refused}
-use Rattle.bosh_book.specs.Current.{IsFor}
+use Rattle.bosh_book.specs.Current.{IsFor, IsOpenCall, dep_of}
+use Rattle.bosh_book.proofs.GrantLemmas.{granted_open}
 use Rattle.bosh_book.specs.Made.{NotesMade}
 use Rattle.bosh_book.specs.Uploads.{if_new}
 use Rattle.bosh_book.specs.declared.uploads.Added.{Added}
 use Rattle.bosh_book.specs.declared.uploads.Added.TheVariants.{New}
 use Rattle.std.specs.Prelude.{IfOk}
-use Rattle.bosh_book.specs.Turns.{GivesWhere, IsUpdate, Notes}
+use Rattle.bosh_book.specs.Turns.{GivesWhere, IsOpenWhere, IsUpdate, Notes}
 use Rattle.bosh_book.specs.declared.claim.Claim.{Claim}
 use Rattle.bosh_book.specs.declared.claim.Claim.TheVariants.{Work}
 use Rattle.bosh_book.specs.declared.granted.Granted.{Granted}
@@ -114,26 +115,33 @@ more_added bodies faults first mid last one other was now = record {
 }
 
 -- an entry that was planned and stored is learned
+pub note_learned : (was now : Records) (entry : Entry) (roomy : Records) (change kept : Change) → IsPlanned was roomy entry change →
+    recorded roomy ≡ roomy_for was entry (recorded was) → IsAlike was roomy → kept ≡ change →
+    recorded now ≡ learned entry kept (recorded roomy) → Learns was entry now
+note_learned was now entry roomy change kept planned room alike same is =
+    one_learned was roomy now entry change planned room alike (is ∙ ap (λ it. learned entry it (recorded roomy)) same)
+
 pub note_added : {K : Type 0} (bodies : K → Option (List (List ℕ))) (faults : K → ℕ) (was now : Book K) (entry : Entry)
-    (roomy : Records) (change kept : Change) → IsPlanned was.records roomy entry change →
-    recorded roomy ≡ roomy_for was.records entry (recorded was.records) → IsAlike was.records roomy → kept ≡ change →
-    recorded now.records ≡ learned entry kept (recorded roomy) →
+    (kept : Change) → Learns was.records entry now.records →
     Appends {T = Change} bodies faults (Ok kept) was.journal entry now.journal →
     now.standing ≡ was.standing → now.read ≡ was.read → now.mended ≡ was.mended → Adds bodies faults was (entry ∷ []) now
-note_added bodies faults was now entry roomy change kept planned room alike same is appends standing read mended =
-    let learns : Learns was.records entry now.records =
-    one_learned was.records roomy now.records entry change planned room alike
-    (is ∙ ap (λ it. learned entry it (recorded roomy)) same) in
-    record {
-      entries = appends.entries;
-      learns = all_of_one was.records now.records entry learns;
-      recorded = learned_comes was.records now.records entry learns;
-      kept = appends.kept;
-      count = appends.count;
-      standing = standing;
-      read = read;
-      mended = mended;
-    }
+note_added bodies faults was now entry kept learns appends standing read mended = record {
+  entries = appends.entries;
+  learns = all_of_one was.records now.records entry learns;
+  recorded = learned_comes was.records now.records entry learns;
+  kept = appends.kept;
+  count = appends.count;
+  standing = standing;
+  read = read;
+  mended = mended;
+}
+
+-- where nothing is noted, no call is given
+none_given : (records : Records) (result : Result (Option Claim) BookFault) → GivesWhere result [] → IsOpenWhere result records
+none_given records (Ok (Some (Work permit))) gives = absurd (let is = gives.2 in cc)
+none_given records (Ok (Some claim)) gives = tt
+none_given records (Ok None) gives = tt
+none_given records (Err fault) gives = tt
 
 pub nothing_noted : {K : Type 0} (bodies : K → Option (List (List ℕ))) (faults : K → ℕ) (book : Book K)
     (result : Result (Option Claim) BookFault) → GivesWhere result [] → Notes bodies faults book result book
@@ -142,6 +150,7 @@ nothing_noted bodies faults book result gives = record {
   are_updates = All-nil IsUpdate;
   last = [];
   gives = gives;
+  is_open = none_given book.records result gives;
   adds = nothing_added bodies faults book;
 }
 
@@ -153,6 +162,7 @@ update_noted bodies faults was now entry is adds = record {
   are_updates = All-cons IsUpdate entry [] is (All-nil IsUpdate);
   last = [];
   gives = refl;
+  is_open = tt;
   adds = adds;
 }
 
@@ -164,19 +174,24 @@ refused_noted bodies faults was now fault adds = record {
   are_updates = All-nil IsUpdate;
   last = [];
   gives = refl;
+  is_open = tt;
   adds = adds;
 }
 
 -- a call is begun and permitted
 pub call_noted : {K : Type 0} (bodies : K → Option (List (List ℕ))) (faults : K → ℕ) (was now : Book K)
     (begun : begin.Begin) (entry : Entry) (granted kept permit : Granted) → entry ≡ Begin begun → IsFor begun granted →
-    kept ≡ granted → permit ≡ kept → Adds bodies faults was (entry ∷ []) now →
+    kept ≡ granted → permit ≡ kept → dep_of was.records begun.owner ≡ Some granted.dep →
+    Learns was.records entry now.records → Adds bodies faults was (entry ∷ []) now →
     Notes bodies faults was (Ok (Some (Work permit))) now
-call_noted bodies faults was now begun entry granted kept permit begins for value same adds = record {
+call_noted bodies faults was now begun entry granted kept permit begins for value same of_dep learns adds = record {
   updates = [];
   are_updates = All-nil IsUpdate;
   last = Begin begun ∷ [];
   gives = (begun, subst (IsFor begun) (sym (same ∙ value)) for, refl);
+  is_open = subst (IsOpenCall now.records) (sym (same ∙ value))
+      (granted_open was.records now.records begun granted for of_dep
+      (subst (λ (it : Entry). Learns was.records it now.records) begins learns));
   adds = subst (λ (it : Entry). Adds bodies faults was (it ∷ []) now) begins adds;
 }
 
@@ -188,6 +203,7 @@ full_noted bodies faults was now notes = record {
   are_updates = notes.are_updates;
   last = notes.last;
   gives = notes.gives;
+  is_open = tt;
   adds = notes.adds;
 }
 
@@ -205,6 +221,7 @@ more_noted bodies faults first mid last result was now =
       are_updates = All-append IsUpdate was.updates now.updates was.are_updates now.are_updates;
       last = now.last;
       gives = now.gives;
+      is_open = now.is_open;
       adds = subst (λ (added : List Entry). Adds bodies faults first added last)
           (sym (append_assoc was.updates now.updates now.last))
           (more_added bodies faults first mid last was.updates (now.updates ++ now.last) before now.adds);

@@ -59,15 +59,6 @@ stopped [] k it Stops is stops = tt
 stopped (x ∷ items) zero it Stops is stops = subst Stops is stops
 stopped (x ∷ items) (suc k) it Stops is stops = stopped items k it Stops is stops
 
-pub some_taken : (was now : Records) (entries : List Entry) (k : ℕ) (entry : Entry) → k < length entries
-    → entry ≡ get_or entries k entry → StandAll 0 was (take k entries) now → may_stand k now entry ≡ false
-    → TakesIn was entries k now
-some_taken was now entries k entry below is it may = record {
-  within = omega (arith, below);
-  standing = it;
-  stops = stopped entries k entry (λ one. may_stand k now one ≡ false) is may;
-}
-
 -- none is left
 none_after : (items : List Entry) (k : ℕ) (Stops : Entry → Type 0) → length items ≤ k → IfSome (slice_get items k) Stops
 none_after [] k Stops all = tt
@@ -76,14 +67,6 @@ none_after (x ∷ items) (suc k) Stops all = none_after items k Stops (omega (ar
 
 same_count : (items : List Entry) (k : ℕ) → length items ≤ k → take k items ≡ take (length items) items
 same_count items k all = take_all k items all ∙ sym (take_all (length items) items (omega arith))
-
-pub all_taken : (was now : Records) (entries : List Entry) (k : ℕ) → length entries ≤ k
-    → StandAll 0 was (take k entries) now → TakesIn was entries (length entries) now
-all_taken was now entries k all it = record {
-  within = omega arith;
-  standing = subst (λ (them : List Entry). StandAll 0 was them now) (same_count entries k all) it;
-  stops = none_after entries (length entries) _ (omega arith);
-}
 
 -- ---- all
 
@@ -103,11 +86,6 @@ is_stopped first records entries count (faults.Damaged place) is taken stop =
     record { first = first; is_first = is; count = count; records = records; taken = taken; stop = stop }
 is_stopped first records entries count fault is taken stop =
     subst (λ (it : BookFault). IsStartFault entries it) (sym stop) tt
-
-pub is_quiet : (records : Records) (entries : List Entry) (count : ℕ) (fault : BookFault)
-    → StopsAs records entries count fault → IsQuiet fault
-is_quiet records entries count (faults.Damaged place) stop = tt
-is_quiet records entries count fault stop = subst IsQuiet (sym stop) tt
 
 -- what came by them
 came_by : (place : ℕ) (was now : Records) (entries : List Entry) → StandAll place was entries now
@@ -134,29 +112,11 @@ next_of items k it below is =
     let number : suc k ≡ k + 1 = omega arith in
     next_one items k it below is ∙ ap (λ n. it ∷ drop n items) number
 
-pub brought_here : (entries : List Entry) (k : ℕ) (entry : Entry) (number : ℕ) → k < length entries
-    → entry ≡ get_or entries k entry → nat_le number (releases_in entry) ≡ true
-    → place_from k (drop k entries) number ≡ k
-brought_here entries k entry number below is here =
-    ap (λ them. place_from k them number) (next_of entries k entry below is)
-    ∙ (λ i. if here i then k else place_from (k + 1) (drop (k + 1) entries) (number - releases_in entry))
-
-pub brought_later : (entries : List Entry) (k : ℕ) (entry : Entry) (number : ℕ) → k < length entries
-    → entry ≡ get_or entries k entry → nat_le number (releases_in entry) ≡ false
-    → place_from k (drop k entries) number ≡ place_from (k + 1) (drop (k + 1) entries) (number - releases_in entry)
-brought_later entries k entry number below is later =
-    ap (λ them. place_from k them number) (next_of entries k entry below is)
-    ∙ (λ i. if later i then k else place_from (k + 1) (drop (k + 1) entries) (number - releases_in entry))
-
 none_left : (items : List Entry) (k : ℕ) → length items ≤ k → drop k items ≡ []
 none_left [] zero all = refl
 none_left [] (suc k) all = refl
 none_left (x ∷ items) zero all = absurd (omega (arith, all))
 none_left (x ∷ items) (suc k) all = none_left items k (omega (arith, all))
-
-pub brought_nowhere : (entries : List Entry) (k number : ℕ) → length entries ≤ k
-    → place_from k (drop k entries) number ≡ 0
-brought_nowhere entries k number all = ap (λ them. place_from k them number) (none_left entries k all)
 
 -- ---- releases that do not go with one another
 

@@ -1,12 +1,27 @@
 -- What is pending where a task was to open or to end.
-use Rattle.std.proofs.Common.{◌≡◌, ℕ, Some, Err}
+use Rattle.std.proofs.Common.{◌≡◌, ℕ, zero, suc, Option, Some, None, Result, Ok, Err, List, [], ◌∷◌, ◌++◌, ap, inl, inr, refl, subst, sym}
+use Rattle.std.specs.Prelude.{IfErr, IfOk}
+use Rattle.std.proofs.lemmas.List.Elements.{All-append, All-cons, All-nil}
 use Rattle.bosh_asks.specs.declared.ask.Ask.{Ask}
 use Rattle.bosh_asks.specs.declared.fault.BookFault.{BookFault}
 use Rattle.bosh_asks.specs.declared.fault.BookFault.TheVariants as faults
 use Rattle.bosh_base.specs.declared.entry.Entry.TheVariants as entries
 use Rattle.bosh_base.specs.declared.entry.TaskOpen as task_open
 use Rattle.bosh_base.specs.declared.task.TaskEnd.{TaskEnd}
-use Rattle.bosh_book.specs.Appends.{LeavesPending}
+use Rattle.bosh_base.specs.declared.entry.Entry.{Entry}
+use Rattle.bosh_book.proofs.AddsLemmas.{more_added, nothing_added}
+use Rattle.bosh_book.specs.Adds.{Adds}
+use Rattle.bosh_book.specs.Appends.{LeavesAllowed, LeavesPending}
+use Rattle.bosh_book.specs.Claims.{Begins, ClaimsPending, Follows, GoesOn, IsNext, TakesOn, Turn, Turns}
+use Rattle.bosh_book.specs.Current.{dep_of}
+use Rattle.bosh_book.specs.Made.{NotesMade}
+use Rattle.bosh_book.specs.Turns.{IsUpdate}
+use Rattle.bosh_book.specs.declared.book.Book.{Book}
+use Rattle.bosh_book.specs.declared.claim.Claim.{Claim}
+use Rattle.bosh_claim.specs.Choice.{choice_of}
+use Rattle.bosh_claim.specs.declared.choice.Choice.{Choice}
+use Rattle.bosh_claim.specs.declared.choice.Choice.TheVariants as choices
+use Rattle.bosh_journal.specs.Appends.{added}
 use Rattle.bosh_book.specs.Ends.{EndsPending, closing, coming_end}
 use Rattle.bosh_book.specs.Faults.{IsQuiet}
 use Rattle.bosh_book.specs.Opens.{IsOpeningOf, OpensPending}
@@ -29,3 +44,123 @@ pub ends_pending : {K : Type 0} (records : Records) (task : ℕ) (end : TaskEnd)
     EndsPending records task now fault
 ends_pending records task end now faults.StoreFault is pending = (end, is, pending)
 ends_pending records task end now fault is pending = tt
+
+-- ---- uploads
+
+-- nothing is pending where the store did not fail
+pub quiet_allowed : {K T : Type 0} (Allowed : Type 0) (fault : BookFault) (entry : Entry) (now : JournalView K) → IsQuiet fault →
+    LeavesAllowed {T = T} Allowed (Err fault) entry now
+quiet_allowed Allowed faults.StoreFault entry now quiet = absurd quiet
+quiet_allowed Allowed fault entry now quiet = tt
+
+left_allowed : {K T : Type 0} (Allowed : Type 0) (fault : BookFault) (entry : Entry) (now : JournalView K) → Allowed →
+    LeavesPending {T = T} (Err fault) entry now → LeavesAllowed {T = T} Allowed (Err fault) entry now
+left_allowed Allowed faults.StoreFault entry now allowed pending = (allowed, pending)
+left_allowed Allowed fault entry now allowed pending = tt
+
+-- what was made is pending where the store failed at it, and may be noted
+pub made_allowed : {K T V : Type 0} (bodies : K → Option (List (List ℕ))) (faults : K → ℕ) (entry_of : T → Entry)
+    (Allowed : Type 0) (made : Result (T × V) BookFault) (was now : Book K) (result : Result V BookFault) (entry : Entry) →
+    IfOk made (λ it. entry_of it.0 ≡ entry) → Allowed → NotesMade bodies faults entry_of made was result now →
+    LeavesAllowed Allowed result entry now.journal
+made_allowed bodies faults entry_of Allowed (Ok it) was now (Ok value) entry is allowed noted = tt
+made_allowed {V = V} bodies faults entry_of Allowed (Ok it) was now (Err fault) entry is allowed noted =
+    left_allowed {T = V} Allowed fault entry now.journal allowed
+    (subst (λ (one : Entry). LeavesPending {T = V} (Err fault) one now.journal) is noted.3)
+made_allowed {V = V} bodies faults entry_of Allowed (Err fault) was now result entry is allowed noted =
+    subst (λ (r : Result V BookFault). LeavesAllowed Allowed r entry now.journal) (sym noted.0) tt
+
+-- ---- claims
+
+module _ {K : Type 0} (bodies : K → Option (List (List ℕ))) (faults : K → ℕ) (was now : Book K) where
+  taken_pending : (entry : Entry) → TakesOn bodies faults entry was (Err faults.StoreFault) now
+      → now.journal.pending ≡ Some (added entry)
+  taken_pending (entries.Begin begun) takes = by (dep_of was.records begun.owner) takes
+    where
+      by : (dep : Option (List ℕ)) → Begins bodies faults begun dep was (Err faults.StoreFault) now
+          → now.journal.pending ≡ Some (added (entries.Begin begun))
+      by None begins = absurd (let is = begins.0 in cc)
+      by (Some dep) (inl begins) = absurd (let is = begins.0 in cc)
+      by (Some dep) (inr begins) = begins.3
+  taken_pending (entries.UpdBegin update) takes = takes.3
+  taken_pending (entries.UpdDone update) takes = takes.3
+  taken_pending (entries.Gone update) takes = takes.3
+  taken_pending entry takes = absurd (let is = takes.0 in cc)
+
+  turn_pending : (choice : Choice) → Follows bodies faults choice was (Err faults.StoreFault) now
+      → (entry : Entry) × (choice ≡ choices.Noted entry) × (now.journal.pending ≡ Some (added entry))
+  turn_pending choices.Waits follows = absurd (let is = follows.0 in cc)
+  turn_pending choices.Over follows = absurd (let is = follows.0 in cc)
+  turn_pending (choices.Noted entry) follows = (entry, refl, taken_pending entry follows)
+
+  -- an update is noted where no answer is given
+  taken_on : (entry : Entry) → TakesOn bodies faults entry was (Ok None) now → IsUpdate entry × Adds bodies faults was (entry ∷ []) now
+  taken_on (entries.Begin begun) takes = by (dep_of was.records begun.owner) takes
+    where
+      by : (dep : Option (List ℕ)) → Begins bodies faults begun dep was (Ok None) now
+          → IsUpdate (entries.Begin begun) × Adds bodies faults was (entries.Begin begun ∷ []) now
+      by None begins = absurd (let is = begins.0 in cc)
+      by (Some dep) (inl begins) = absurd (let is = begins.0 in cc)
+      by (Some dep) (inr begins) = absurd (let is = begins.0 in cc)
+  taken_on (entries.UpdBegin update) takes = (tt, takes.2)
+  taken_on (entries.UpdDone update) takes = (tt, takes.2)
+  taken_on (entries.Gone update) takes = (tt, takes.2)
+  taken_on entry takes = absurd (let is = takes.0 in cc)
+
+  followed_on : (choice : Choice) → Follows bodies faults choice was (Ok None) now
+      → (entry : Entry) × IsUpdate entry × Adds bodies faults was (entry ∷ []) now
+  followed_on choices.Waits follows = absurd (let is = follows.0 in cc)
+  followed_on choices.Over follows = absurd (let is = follows.0 in cc)
+  followed_on (choices.Noted entry) follows = (entry, taken_on entry follows)
+
+-- turn by turn
+turns_pending : {K : Type 0} (bodies : K → Option (List (List ℕ))) (faults : K → ℕ) (task worker room : ℕ) (was now : Book K) →
+    Turns bodies faults task worker room was (Err faults.StoreFault) now →
+    (entry : Entry) × IsNext bodies faults task worker was entry × (now.journal.pending ≡ Some (added entry))
+turns_pending bodies faults task worker zero was now turns = absurd (let is = turns.0 in cc)
+turns_pending {K} bodies faults task worker (suc room) was now (turned, mid, turn, rest) = by turned turn rest
+  where
+    more : (entry : Entry) → IsUpdate entry → Adds bodies faults was (entry ∷ []) mid →
+        (next : Entry) × IsNext bodies faults task worker mid next × (now.journal.pending ≡ Some (added next)) →
+        (next : Entry) × IsNext bodies faults task worker was next × (now.journal.pending ≡ Some (added next))
+    more entry is adds (next, (others, are, last, after, chosen), pending) = (
+      next,
+      (
+        entry ∷ others,
+        All-cons IsUpdate entry others is are,
+        last,
+        more_added bodies faults was mid last (entry ∷ []) others adds after,
+        chosen,
+      ),
+      pending,
+    )
+
+    by : (turned : Result (Option Claim) BookFault) → Turn bodies faults task worker was turned mid →
+        GoesOn (λ it. Turns bodies faults task worker room it (Err faults.StoreFault) now) turned mid (Err faults.StoreFault) now →
+        (entry : Entry) × IsNext bodies faults task worker was entry × (now.journal.pending ≡ Some (added entry))
+    by (Ok (Some claim)) turn rest = absurd (let is = rest.0 in cc)
+    by (Ok None) (inl turn) rest = absurd (let is = turn.0 in cc)
+    by (Ok None) (inr turn) rest =
+        let went = followed_on bodies faults was mid (choice_of was.records task worker) turn in
+        more went.0 went.1 went.2 (turns_pending bodies faults task worker room mid now rest)
+    by (Err fault) turn rest = last fault turn rest.0 rest.1
+      where
+        last : (fault : BookFault) → Turn bodies faults task worker was (Err fault) mid → (Err faults.StoreFault ≡ Err fault) → now ≡ mid →
+            (entry : Entry) × IsNext bodies faults task worker was entry × (now.journal.pending ≡ Some (added entry))
+        last faults.StoreFault (inl turn) is same = absurd (let no = turn.0 in cc)
+        last faults.StoreFault (inr turn) is same =
+            let it = turn_pending bodies faults was mid (choice_of was.records task worker) turn in (
+              it.0,
+              ([], All-nil IsUpdate, was, nothing_added bodies faults was, it.1),
+              subst (λ (b : Book K). b.journal.pending ≡ Some (added it.0)) (sym same) it.2,
+            )
+        last fault turn is same = absurd (let no = is in cc)
+
+-- what was to come next is pending where the store failed
+pub claims_pending : {K : Type 0} (bodies : K → Option (List (List ℕ))) (faults : K → ℕ) (task worker room : ℕ) (was now : Book K)
+    (result : Result Claim BookFault) → Turns bodies faults task worker room was result now →
+    IfErr result (ClaimsPending bodies faults task worker was now)
+claims_pending bodies faults task worker room was now (Ok claim) turns = tt
+claims_pending bodies faults task worker room was now (Err faults.StoreFault) turns =
+    turns_pending bodies faults task worker room was now turns
+claims_pending bodies faults task worker room was now (Err fault) turns = tt

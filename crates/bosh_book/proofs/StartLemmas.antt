@@ -15,7 +15,8 @@ use Rattle.bosh_asks.specs.declared.fault.BookFault.{BookFault}
 use Rattle.bosh_book.specs.declared.book.Book.{Book}
 use Rattle.bosh_asks.specs.declared.fault.BookFault.TheVariants as faults
 use Rattle.bosh_book.specs.Faults.{FailsAs, IsNoteFault, IsStartFault}
-use Rattle.bosh_book.specs.Starts.{Finishes, Interrupts, InterruptsWhere, Starts, StartsFrom, Takes}
+use Rattle.bosh_book.specs.Appends.{LeavesPending}
+use Rattle.bosh_book.specs.Starts.{Finishes, Interrupts, InterruptsWhere, IsNextPending, Starts, StartsFrom, Takes}
 use Rattle.bosh_book.specs.Starts.{interruption, open_tasks, standing_after}
 use Rattle.bosh_journal.specs.JournalView.{JournalView}
 use Rattle.bosh_journal.specs.Kept.{IsKept}
@@ -83,13 +84,39 @@ one_more_ended bodies faults first mid last tasks k task below is was now =
     subst (λ (added : List Entry). Adds bodies faults first added last) (sym (map_more interruption tasks k task below is))
     (more_added bodies faults first mid last (map interruption (take k tasks)) (interruption task ∷ []) was now)
 
+dropped : (k : ℕ) (items : List ℕ) (it : ℕ) → k < length items → it ≡ get_or items k it
+    → drop k items ≡ it ∷ drop (suc k) items
+dropped zero [] it below is = absurd (omega (arith, below))
+dropped (suc k) [] it below is = absurd (omega (arith, below))
+dropped zero (x ∷ items) it below is = λ i. sym is i ∷ items
+dropped (suc k) (x ∷ items) it below is = dropped k items it (omega (arith, below)) is
+
+next_pending : {K T : Type 0} (fault : BookFault) (journal : JournalView K) (tasks : List ℕ) (k task : ℕ)
+    → k < length tasks → task ≡ get_or tasks k task
+    → LeavesPending {T = T} (Err fault) (interruption task) journal → IsNextPending fault (drop k tasks) journal
+next_pending {K} fault journal tasks k task below is leaves =
+    subst (λ (rest : List ℕ). IsNextPending fault rest journal) (sym (dropped k tasks task below is)) (by fault leaves)
+  where
+    by : (fault : BookFault) → LeavesPending {T = _} (Err fault) (interruption task) journal
+        → IsNextPending fault (task ∷ drop (suc k) tasks) journal
+    by faults.StoreFault leaves = leaves
+    by fault leaves = tt
+
 -- the next one is refused
 pub some_ended : {K T : Type 0} (bodies : K → Option (List (List ℕ))) (faults : K → ℕ) (first mid last : Book K)
-    (tasks : List ℕ) (k : ℕ) (fault : BookFault) → Adds bodies faults first (map interruption (take k tasks)) mid
-    → Adds bodies faults mid [] last → Interrupts {T = T} bodies faults tasks first (Err fault) last
-some_ended bodies faults first mid last tasks k fault was now = record {
+    (tasks : List ℕ) (k task : ℕ) (fault : BookFault) → k < length tasks → task ≡ get_or tasks k task
+    → Adds bodies faults first (map interruption (take k tasks)) mid
+    → Adds bodies faults mid [] last → LeavesPending {T = T} (Err fault) (interruption task) last.journal
+    → Interrupts {T = T} bodies faults tasks first (Err fault) last
+some_ended bodies faults first mid last tasks k task fault below is was now pending = record {
   ended = map interruption (take k tasks);
-  are_ended = (take k tasks, drop k tasks, parted k tasks, refl);
+  are_ended = (
+    take k tasks,
+    drop k tasks,
+    parted k tasks,
+    refl,
+    next_pending fault last.journal tasks k task below is pending,
+  );
   adds =
       subst (λ (added : List Entry). Adds bodies faults first added last) (append-nil (map interruption (take k tasks)))
       (more_added bodies faults first mid last (map interruption (take k tasks)) [] was now);
@@ -109,10 +136,16 @@ all_ended bodies faults first last tasks k value all was = record {
 
 -- there was no memory to tell which are open
 pub none_ended : {K T : Type 0} (bodies : K → Option (List (List ℕ))) (faults : K → ℕ) (tasks : List ℕ) (book : Book K)
-    (fault : BookFault) → Interrupts {T = T} bodies faults tasks book (Err fault) book
-none_ended bodies faults tasks book fault = record {
+    (fault : BookFault) → fault ≡ faults.Memory → Interrupts {T = T} bodies faults tasks book (Err fault) book
+none_ended {K} bodies faults tasks book fault is = record {
   ended = [];
-  are_ended = ([], tasks, refl, refl);
+  are_ended = (
+    [],
+    tasks,
+    refl,
+    refl,
+    subst (λ (it : BookFault). IsNextPending {K = K} it tasks book.journal) (sym is) tt,
+  );
   adds = nothing_added bodies faults book;
 }
 

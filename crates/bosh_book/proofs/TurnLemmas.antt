@@ -72,9 +72,6 @@ less_room was now short it = by short it.longer it.read
         room_left was ≡ suc (room_left now)
     by short longer read = grind (arith, nat_tests)
 
-pub no_room : {K : Type 0} (book : Book K) → is_long book ≡ true → room_left book ≡ 0
-no_room book long = grind (arith, nat_tests)
-
 -- ---- turns
 
 -- the turns so far
@@ -85,10 +82,6 @@ pub record AreTaken {K : Type 0}
     pub rest :
         (result : Result Claim BookFault) (last : Book K) → Turns bodies faults task worker (room_left now) now result last
         → Turns bodies faults task worker (room_left first) first result last
-
-pub none_taken : {K : Type 0} (bodies : K → Option (List (List ℕ))) (faults : K → ℕ) (task worker : ℕ) (book : Book K) →
-    AreNoted bodies faults book book → AreTaken bodies faults task worker book book
-none_taken bodies faults task worker book noted = record { noted = noted; rest = λ result last turns. turns }
 
 -- a turn that gave an answer is the last one
 pub answered_last : {K : Type 0} (bodies : K → Option (List (List ℕ))) (faults : K → ℕ)
@@ -114,14 +107,6 @@ refused_last bodies faults task worker first mid last fault short taken turn =
     (subst (λ (room : ℕ). Turns bodies faults task worker room mid (Err fault) last) (sym (has_room mid short))
     (Err fault, last, turn, (refl, refl)))
 
--- there is no room for another one
-pub full_last : {K : Type 0} (bodies : K → Option (List (List ℕ))) (faults : K → ℕ) (task worker : ℕ) (first mid : Book K) →
-    is_long mid ≡ true → AreTaken bodies faults task worker first mid →
-    Turns bodies faults task worker (room_left first) first (Err Full) mid
-full_last bodies faults task worker first mid long taken =
-    taken.rest (Err Full) mid
-    (subst (λ (room : ℕ). Turns bodies faults task worker room mid (Err Full) mid) (sym (no_room mid long)) (refl, refl))
-
 -- after another one there is less room
 pub went_on : {K : Type 0} (bodies : K → Option (List (List ℕ))) (faults : K → ℕ)
     (task worker : ℕ) (first mid last : Book K) (found : Option Claim) → found ≡ None → is_long mid ≡ false →
@@ -140,12 +125,3 @@ went_on bodies faults task worker first mid last found is short taken notes whol
           (sym (less_room mid last short (turn_longer bodies faults task worker mid last went)))
           (Ok None, last, went, after));
     }
-
--- .. and that is why it ends
-pub less_left : {K : Type 0} (bodies : K → Option (List (List ℕ))) (faults : K → ℕ) (task worker : ℕ) (mid last : Book K)
-    (found : Option Claim) → found ≡ None → is_long mid ≡ false → Turn bodies faults task worker mid (Ok found) last →
-    room_left mid ≡ suc (room_left last)
-less_left bodies faults task worker mid last found is short turn =
-    less_room mid last short
-    (turn_longer bodies faults task worker mid last
-    (subst (λ (it : Option Claim). Turn bodies faults task worker mid (Ok it) last) is turn))

@@ -19,6 +19,11 @@ abbrev pub LeavesPending : {K T : Type 0} → Result T BookFault → Entry → J
 LeavesPending (Err StoreFault) entry now = now.pending ≡ Some (added entry)
 LeavesPending answer entry now = Unit {0}
 
+-- .. which is one that may be noted
+abbrev pub LeavesAllowed : {K T : Type 0} → Type 0 → Result T BookFault → Entry → JournalView K → Type 0
+LeavesAllowed Allowed (Err StoreFault) entry now = Allowed × (now.pending ≡ Some (added entry))
+LeavesAllowed Allowed answer entry now = Unit {0}
+
 -- It has the entry at its end, unless that was refused. Its store holds its entries, if it held those before, and no
 -- fault of the store is forgotten.
 pub record Appends {K T : Type 0}

@@ -1,19 +1,22 @@
 -- What a claim does, turn by turn: what comes next in the task is noted (this project's profile).
-use Rattle.std.specs.Prelude.{◌≡◌, ◌⊎◌, ℕ, zero, suc, List, Option, Some, None, Result, Ok, Err}
+use Rattle.std.specs.Prelude.{◌≡◌, ◌⊎◌, ℕ, zero, suc, All, List, Option, Some, None, Result, Ok, Err}
 use Rattle.bosh_asks.specs.declared.fault.BookFault.{BookFault}
-use Rattle.bosh_asks.specs.declared.fault.BookFault.TheVariants.{Full, Memory}
+use Rattle.bosh_asks.specs.declared.fault.BookFault.TheVariants.{Full, Memory, StoreFault}
 use Rattle.bosh_base.specs.declared.entry.Begin as begin
 use Rattle.bosh_base.specs.declared.entry.Entry.{Entry}
 use Rattle.bosh_base.specs.declared.entry.Entry.TheVariants.{Begin, UpdBegin, UpdDone, Gone}
+use Rattle.bosh_book.specs.Adds.{Adds}
 use Rattle.bosh_book.specs.Current.{dep_of, permit_of}
 use Rattle.bosh_book.specs.Made.{Noted}
 use Rattle.bosh_book.specs.Running.{room_left}
+use Rattle.bosh_book.specs.Turns.{IsUpdate}
 use Rattle.bosh_book.specs.declared.book.Book.{Book}
 use Rattle.bosh_book.specs.declared.claim.Claim.{Claim}
 use Rattle.bosh_book.specs.declared.claim.Claim.TheVariants as claims
 use Rattle.bosh_claim.specs.Choice.{choice_of}
 use Rattle.bosh_claim.specs.declared.choice.Choice.{Choice}
 use Rattle.bosh_claim.specs.declared.choice.Choice.TheVariants as choices
+use Rattle.bosh_journal.specs.Appends.{added}
 
 -- nothing is noted, and this is answered
 abbrev pub Answers : {K T : Type 0} → Result T BookFault → Book K → Result T BookFault → Book K → Type 0
@@ -66,7 +69,20 @@ Turns {K} bodies faults task worker (suc room) was result now =
     (turned : Result (Option Claim) BookFault) × (mid : Book K) × Turn bodies faults task worker was turned mid
     × GoesOn (λ it. Turns bodies faults task worker room it result now) turned mid result now
 
+-- once some updates were noted, an entry comes next
+abbrev pub IsNext : {K : Type 0} → (K → Option (List (List ℕ))) → (K → ℕ) → ℕ → ℕ → Book K → Entry → Type 0
+IsNext {K} bodies faults task worker was entry =
+    (updates : List Entry) × All IsUpdate updates × ((mid : Book K) × Adds bodies faults was updates mid
+    × (choice_of mid.records task worker ≡ choices.Noted entry))
+
 -- what a claim does
 abbrev pub Claims : {K : Type 0} → (K → Option (List (List ℕ))) → (K → ℕ) → ℕ → ℕ →
     Book K → Result Claim BookFault → Book K → Type 0
 Claims bodies faults task worker was result now = Turns bodies faults task worker (room_left was) was result now
+
+-- Where the store failed in it, updates were noted, and what was to come next then is pending.
+abbrev pub ClaimsPending : {K : Type 0} → (K → Option (List (List ℕ))) → (K → ℕ) → ℕ → ℕ →
+    Book K → Book K → BookFault → Type 0
+ClaimsPending {K} bodies faults task worker was now StoreFault =
+    (entry : Entry) × IsNext bodies faults task worker was entry × (now.journal.pending ≡ Some (added entry))
+ClaimsPending bodies faults task worker was now fault = Unit {0}

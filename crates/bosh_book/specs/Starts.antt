@@ -4,6 +4,7 @@ use Rattle.std.specs.Prelude.{Result, Ok, Err, IfErr, OnOk, is_none}
 use Rattle.std.specs.List.{filter}
 use Rattle.std.specs.Option.{option_map_or}
 use Rattle.bosh_asks.specs.declared.fault.BookFault.{BookFault}
+use Rattle.bosh_asks.specs.declared.fault.BookFault.TheVariants.{StoreFault}
 use Rattle.bosh_base.specs.declared.entry.Entry.{Entry}
 use Rattle.bosh_base.specs.declared.entry.Entry.TheVariants as entries
 use Rattle.bosh_base.specs.declared.failure.Failure.TheVariants.{Interrupted}
@@ -16,6 +17,8 @@ use Rattle.bosh_book.specs.Folds.{IsRead}
 use Rattle.bosh_book.specs.declared.standing.Standing.{Standing}
 use Rattle.bosh_book.specs.declared.standing.Standing.TheVariants.{Running, Unread}
 use Rattle.bosh_fold.specs.Learns.{LearnsAll}
+use Rattle.bosh_journal.specs.Appends.{added}
+use Rattle.bosh_journal.specs.JournalView.{JournalView}
 use Rattle.bosh_journal.specs.Kept.{IsKept}
 use Rattle.bosh_journal.specs.Reads.{Reads}
 use Rattle.bosh_journal.specs.declared.fault.JournalFault.{JournalFault}
@@ -83,17 +86,24 @@ open_tasks records = open_in records.tasks.places.entries
 abbrev pub interruption : ℕ → Entry
 interruption task = entries.TaskError (record { task = task; cause = Interrupted })
 
+-- where the store failed, the end of the next task is pending
+abbrev pub IsNextPending : {K : Type 0} → BookFault → List ℕ → JournalView K → Type 0
+IsNextPending StoreFault (task ∷ rest) journal = journal.pending ≡ Some (added (interruption task))
+IsNextPending StoreFault [] journal = ⊥
+IsNextPending fault rest journal = Unit {0}
+
 -- each of some tasks is ended, in their order, or the first ones are, where that was refused
-abbrev pub AreInterrupted : {T : Type 0} → Result T BookFault → List ℕ → List Entry → Type 0
-AreInterrupted (Ok value) tasks ended = ended ≡ map interruption tasks
-AreInterrupted (Err fault) tasks ended = (done rest : List ℕ) × (tasks ≡ done ++ rest) × (ended ≡ map interruption done)
+abbrev pub AreInterrupted : {K T : Type 0} → Result T BookFault → List ℕ → List Entry → JournalView K → Type 0
+AreInterrupted (Ok value) tasks ended journal = ended ≡ map interruption tasks
+AreInterrupted (Err fault) tasks ended journal =
+    (done rest : List ℕ) × (tasks ≡ done ++ rest) × (ended ≡ map interruption done) × IsNextPending fault rest journal
 
 -- the tasks that are open are ended as interrupted
 pub record Interrupts {K T : Type 0}
     (bodies : K → Option (List (List ℕ))) (faults : K → ℕ) (tasks : List ℕ) (was : Book K) (result : Result T BookFault)
     (now : Book K) : Type 0 where
   pub ended : List Entry
-  pub are_ended : AreInterrupted result tasks ended
+  pub are_ended : AreInterrupted result tasks ended now.journal
   pub adds : Adds bodies faults was ended now
 
 -- where entries were taken in they are; else nothing changes
@@ -104,16 +114,17 @@ InterruptsWhere bodies faults (Ok value) was result now =
 InterruptsWhere bodies faults (Err fault) was result now = now ≡ was
 
 -- .. and so none is ended
-abbrev pub AreInterruptedWhere : {S T : Type 0} → Result S BookFault → Result T BookFault → List ℕ → List Entry → Type 0
-AreInterruptedWhere (Ok value) result tasks ended = AreInterrupted result tasks ended
-AreInterruptedWhere (Err fault) result tasks ended = ended ≡ []
+abbrev pub AreInterruptedWhere : {K S T : Type 0} → Result S BookFault → Result T BookFault → List ℕ → List Entry →
+    JournalView K → Type 0
+AreInterruptedWhere (Ok value) result tasks ended journal = AreInterrupted result tasks ended journal
+AreInterruptedWhere (Err fault) result tasks ended journal = ended ≡ []
 
 -- .. and their number is told, and how many entries there are now
 pub record Finishes {K S T : Type 0}
     (bodies : K → Option (List (List ℕ))) (faults : K → ℕ) (was : Book K) (taken : Result S BookFault)
     (result : Result T BookFault) (now : Book K) : Type 0 where
   pub ended : List Entry
-  pub are_ended : AreInterruptedWhere taken result (open_tasks was.records) ended
+  pub are_ended : AreInterruptedWhere taken result (open_tasks was.records) ended now.journal
   pub entries : now.journal.entries ≡ was.journal.entries ++ ended
   pub learns : LearnsAll was.records ended now.records
   pub read : now.read ≡ length now.journal.entries

@@ -5,10 +5,11 @@ use Rattle.bosh_base.specs.declared.entry.Begin as begin
 use Rattle.bosh_base.specs.declared.entry.Entry.{Entry}
 use Rattle.bosh_base.specs.declared.entry.Entry.TheVariants.{Begin, UpdBegin, UpdDone, Gone}
 use Rattle.bosh_book.specs.Adds.{Adds}
-use Rattle.bosh_book.specs.Current.{IsFor}
+use Rattle.bosh_book.specs.Current.{IsFor, IsOpenCall}
 use Rattle.bosh_book.specs.declared.book.Book.{Book}
 use Rattle.bosh_book.specs.declared.claim.Claim.{Claim}
 use Rattle.bosh_book.specs.declared.claim.Claim.TheVariants.{Work}
+use Rattle.bosh_records.specs.declared.records.Records.{Records}
 
 -- the beginning or the end of an update, or that an instance has nothing left
 abbrev pub IsUpdate : Entry → Type 0
@@ -28,11 +29,16 @@ GivesWhere (Ok (Some claim)) last = Gives claim last
 GivesWhere (Ok None) last = last ≡ []
 GivesWhere (Err fault) last = last ≡ []
 
+-- the call that is given is open by the records
+abbrev pub IsOpenWhere : Result (Option Claim) BookFault → Records → Type 0
+IsOpenWhere (Ok (Some (Work permit))) records = IsOpenCall records permit
+IsOpenWhere result records = Unit {0}
+
 abbrev pub some : Result Claim BookFault → Result (Option Claim) BookFault
 some (Ok claim) = Ok (Some claim)
 some (Err fault) = Err fault
 
--- Updates are noted, and then what the answer says.
+-- Updates are noted, and then what the answer says: a call that is given is open then.
 pub record Notes {K : Type 0}
     (bodies : K → Option (List (List ℕ))) (faults : K → ℕ) (was : Book K)
     (result : Result (Option Claim) BookFault) (now : Book K) : Type 0 where
@@ -40,4 +46,5 @@ pub record Notes {K : Type 0}
   pub are_updates : All IsUpdate updates
   pub last : List Entry
   pub gives : GivesWhere result last
+  pub is_open : IsOpenWhere result now.records
   pub adds : Adds bodies faults was (updates ++ last) now

@@ -5,6 +5,7 @@ ghost use Rattle.bosh_book.specs.Appends.{LeavesPending, unless_refused};
 ghost use Rattle.bosh_book.specs.Running.{is_full, is_long, is_stopped};
 ghost use Rattle.bosh_book.specs.Faults.{FailsAs, IsNoteFault};
 ghost use Rattle.bosh_book.specs.Made.{NotesMade};
+ghost use Rattle.bosh_fold.specs.Learns.{Learns};
 ghost use Rattle.bosh_journal.specs.Director.{is_directors};
 
 use crate::Book;
@@ -26,6 +27,7 @@ impl<K: Keeper> Book<K> {
         requires directors { IsTrue (is_directors entry.now) }
         requires whole { self.old.journal.is_broken ≡ false }
         ensures adds { Adds K.bodies K.faults self.old (unless_refused result entry.now) self.new }
+        ensures learned { OnOk result (Learns self.old.records entry.now self.new.records) }
         ensures failed { FailsAs K.faults result self.old.journal self.new.journal }
         ensures fault { IfErr result IsNoteFault }
         ensures pending { LeavesPending result entry.now self.new.journal }
@@ -59,6 +61,7 @@ impl<K: Keeper> Book<K> {
         requires whole { self.old.journal.is_broken ≡ false }
         ensures value { IfOk result (λ it. it ≡ value) }
         ensures adds { Adds K.bodies K.faults self.old (unless_refused result entry.now) self.new }
+        ensures learned { OnOk result (Learns self.old.records entry.now self.new.records) }
         ensures failed { FailsAs K.faults result self.old.journal self.new.journal }
         ensures fault { IfErr result IsNoteFault }
         ensures pending { LeavesPending result entry.now self.new.journal }

@@ -3,7 +3,7 @@ ghost use Rattle.std.specs.Option.{option_copied};
 ghost use Rattle.bosh_asks.specs.declared.fault.BookFault.TheVariants as faults;
 ghost use Rattle.bosh_base.specs.declared.entry.Entry.TheVariants as entries;
 ghost use Rattle.bosh_book.specs.Adds.{Adds};
-ghost use Rattle.bosh_book.specs.Appends.{LeavesPending};
+ghost use Rattle.bosh_book.specs.Appends.{LeavesAllowed};
 ghost use Rattle.bosh_book.specs.Running.{is_stopped};
 ghost use Rattle.bosh_book.specs.Current.{IsCurrent, IsOpenCall};
 ghost use Rattle.bosh_book.specs.Faults.{FailsAs, IsSettleFault, MayEnd};
@@ -43,7 +43,7 @@ impl<K: Keeper> Book<K> {
         ensures whole { OnOk result (self.new.journal.is_broken ≡ self.old.journal.is_broken) }
         ensures failed { IfErr result (λ back.
             FailsAs {T = Unit {0}} K.faults (Err back.2) self.old.journal self.new.journal) }
-        ensures pending { IfErr result (λ back. LeavesPending {T = Unit {0}} (Err back.2)
+        ensures pending { IfErr result (λ back. LeavesAllowed {T = Unit {0}} (MayEnd self.old permit answer) (Err back.2)
             (entries.End (record { n = permit.n; answer = answer })) self.new.journal) }
     {
         match self.end_call(&permit, &answer) {
@@ -55,6 +55,7 @@ impl<K: Keeper> Book<K> {
         }
     }
 
+    #[tactic(auto, using(crate::proofs::PendingLemmas::made_allowed, crate::proofs::PendingLemmas::quiet_allowed))]
     fn end_call(&mut self, permit: &Permit, answer: &Answer) -> Result<(), BookFault>
         ensures ok { OnOk result (Adds K.bodies K.faults self.old
             (entries.End (record { n = permit.now.n; answer = answer.now }) ∷ []) self.new) }
@@ -63,7 +64,7 @@ impl<K: Keeper> Book<K> {
         ensures fault { IfErr result (IsSettleFault self.old permit.now answer.now) }
         ensures stopped { is_stopped self.old ≡ true → IfErr result (λ fault. fault ≡ faults.Stopped) }
         ensures failed { FailsAs K.faults result self.old.journal self.new.journal }
-        ensures pending { LeavesPending result
+        ensures pending { LeavesAllowed (MayEnd self.old permit.now answer.now) result
             (entries.End (record { n = permit.now.n; answer = answer.now })) self.new.journal }
     {
         self.check_running()?;

@@ -2,7 +2,7 @@ ghost use Rattle.std.specs.Prelude.{◌≡◌, ◌⊎◌, IfErr, IfOk, IfSome, I
 ghost use Rattle.std.specs.Option.{option_copied};
 ghost use Rattle.bosh_asks.specs.declared.fault.BookFault.TheVariants as faults;
 ghost use Rattle.bosh_book.specs.Adds.{Adds, IsRecorded};
-ghost use Rattle.bosh_book.specs.Appends.{unless_refused};
+ghost use Rattle.bosh_book.specs.Appends.{LeavesPending, unless_refused};
 ghost use Rattle.bosh_book.specs.Faults.{FailsAs, IsNoteFault, IsStartFault};
 ghost use Rattle.bosh_book.specs.Starts.{Compacts, ComesOut, Finishes, IsShortened, IsShortenedWhere, Interrupts, InterruptsWhere};
 ghost use Rattle.bosh_book.specs.Starts.{IsNotLoaded, IsNotReloaded, Starts, StartsFrom, Takes};
@@ -171,6 +171,7 @@ impl<K: Keeper> Book<K> {
     }
 
     // Ends each task that is open.
+    #[tactic(auto, using(crate::proofs::StartLemmas::none_ended))]
     fn interrupt(&mut self) -> Result<(), BookFault>
         requires { self.old.journal.is_broken ≡ false }
         ensures interrupts { Interrupts K.bodies K.faults (open_tasks self.old.records) self.old result self.new }
@@ -204,6 +205,7 @@ impl<K: Keeper> Book<K> {
     fn interrupt_one(&mut self, task: u64) -> Result<(), BookFault>
         requires { self.old.journal.is_broken ≡ false }
         ensures adds { Adds K.bodies K.faults self.old (unless_refused result (interruption task)) self.new }
+        ensures pending { LeavesPending result (interruption task) self.new.journal }
         ensures failed { FailsAs K.faults result self.old.journal self.new.journal }
         ensures fault { IfErr result IsNoteFault }
     {

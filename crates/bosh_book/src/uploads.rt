@@ -6,7 +6,7 @@ ghost use Rattle.bosh_asks.specs.declared.fault.BookFault.TheVariants as faults;
 ghost use Rattle.bosh_base.specs.Version.{IsVersion};
 ghost use Rattle.bosh_base.specs.declared.entry.Entry.TheVariants as entries;
 ghost use Rattle.bosh_book.specs.Adds.{Adds};
-ghost use Rattle.bosh_book.specs.Appends.{LeavesPending, unless_refused};
+ghost use Rattle.bosh_book.specs.Appends.{LeavesAllowed, unless_refused};
 ghost use Rattle.bosh_book.specs.Faults.{FailsAs, IsConfigFault, IsDiffering, IsNoConfig, IsQuiet, IsUploadFault};
 ghost use Rattle.bosh_book.specs.Running.{is_stopped};
 ghost use Rattle.bosh_book.specs.Uploads.{AreSame, GoesWith, IsAdded, IsOther, IsUpload};
@@ -36,12 +36,13 @@ pub enum Added {
 impl<K: Keeper> Book<K> {
     /// Records a release. One of its name and version that is there already has to be the same, and it has to go with
     /// those that are there. One that is not sound by itself, or whose version is none, goes with none.
-    #[tactic(auto, using(crate::proofs::FaultLemmas::fails_quietly))]
+    #[tactic(auto, using(crate::proofs::FaultLemmas::fails_quietly, crate::proofs::PendingLemmas::made_allowed, crate::proofs::PendingLemmas::quiet_allowed))]
     pub fn upload(&mut self, release: Release) -> Result<Added, BookFault>
         ensures adds { Adds K.bodies K.faults self.old (if_new result (entries.Release release)) self.new }
         ensures told { IfOk result (IsUpload self.old.records.releases.items release) }
         ensures failed { FailsAs K.faults result self.old.journal self.new.journal }
-        ensures pending { LeavesPending result (entries.Release release) self.new.journal }
+        ensures pending { LeavesAllowed (IsUpload self.old.records.releases.items release New) result
+            (entries.Release release) self.new.journal }
         ensures fault { IfErr result (IsUploadFault self.old (name_and_version release.name release.version)
             (IsOther self.old.records.releases.items release)) }
         ensures stopped { is_stopped self.old ≡ true → IfErr result (λ fault. fault ≡ faults.Stopped) }
@@ -67,12 +68,13 @@ impl<K: Keeper> Book<K> {
 
     /// Records a stemcell, where it is not there yet. What is no version is taken for another one than those that are
     /// there.
+    #[tactic(auto, using(crate::proofs::PendingLemmas::made_allowed, crate::proofs::PendingLemmas::quiet_allowed))]
     pub fn add_stemcell(&mut self, os: &Name, version: &[u8]) -> Result<Added, BookFault>
         ensures adds { Adds K.bodies K.faults self.old
             (if_new result (entries.Stemcell (record { os = os.now; version = version.now }))) self.new }
         ensures told { IfOk result (IsAdded self.old.records.stemcells.items os.now version.now) }
         ensures failed { FailsAs K.faults result self.old.journal self.new.journal }
-        ensures pending { LeavesPending result
+        ensures pending { LeavesAllowed (IsAdded self.old.records.stemcells.items os.now version.now New) result
             (entries.Stemcell (record { os = os.now; version = version.now })) self.new.journal }
         ensures fault { IfErr result (IsUploadFault self.old (name_and_version os.now version.now) (¬ IsVersion version.now)) }
         ensures stopped { is_stopped self.old ≡ true → IfErr result (λ fault. fault ≡ faults.Stopped) }
@@ -89,11 +91,12 @@ impl<K: Keeper> Book<K> {
 
     /// Puts a cloud config in the place of the one that is there. A file that spells none is refused as if there were
     /// none.
-    #[tactic(auto, using(crate::proofs::AddsLemmas::made_added, crate::proofs::FaultLemmas::fails_quietly))]
+    #[tactic(auto, using(crate::proofs::AddsLemmas::made_added, crate::proofs::FaultLemmas::fails_quietly, crate::proofs::PendingLemmas::made_allowed, crate::proofs::PendingLemmas::quiet_allowed))]
     pub fn set_config(&mut self, file: &[u8]) -> Result<(), BookFault>
         ensures adds { Adds K.bodies K.faults self.old (unless_refused result (entries.Config file.now)) self.new }
         ensures failed { FailsAs K.faults result self.old.journal self.new.journal }
-        ensures pending { LeavesPending result (entries.Config file.now) self.new.journal }
+        ensures pending { LeavesAllowed (is_some (config_in file.now) ≡ true) result (entries.Config file.now)
+            self.new.journal }
         ensures spells { OnOk result (is_some (config_in file.now) ≡ true) }
         ensures fault { IfErr result (IsConfigFault self.old file.now) }
         ensures stopped { is_stopped self.old ≡ true → IfErr result (λ fault. fault ≡ faults.Stopped) }

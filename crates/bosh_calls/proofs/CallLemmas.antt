@@ -1,9 +1,9 @@
 -- What becomes of a call that is performed.
-use Rattle.std.proofs.Common.{◌≡◌, ℕ, Bool, true, false, Option, Some, None, List, [], ◌∷◌, refl, sym, ◌∙◌, ap}
-use Rattle.std.proofs.lemmas.Bool.{false≢true}
+use Rattle.std.proofs.Common.{◌≡◌, ℕ, Bool, true, false, Option, Some, None, List, [], ◌∷◌, refl, ◌∙◌, ap}
+use Rattle.std.proofs.lemmas.Bool.{eq-eqb, false≢true}
 use Rattle.std.specs.Prelude.{◌==◌, find, if◌then◌else◌}
 use Rattle.std.specs.Option.{option_and_then, option_map}
-use Rattle.bosh_calls.specs.Calls.{is_free, is_of, is_performable, performed, place_of, with_performed}
+use Rattle.bosh_calls.specs.Calls.{begun, is_free, is_of, is_performable, performed, place_of, with_begun, with_performed}
 use Rattle.bosh_calls.specs.declared.calls.OpenCall.{OpenCall}
 
 -- it is found where it was
@@ -40,3 +40,17 @@ pub place_performed : (n place : ℕ) (calls : List OpenCall) → is_performable
 place_performed n place calls free =
     ap (option_and_then (λ it. it.place)) (found_performed n place calls)
     ∙ placed n place calls (find (is_of n) calls) refl free
+
+-- a call that has begun is found
+found_begun : (n : ℕ) (calls : List OpenCall) → find (is_of n) (with_begun n calls) ≡ Some (begun n)
+found_begun n [] = rw (eq-eqb n n refl) refl
+found_begun n (it ∷ calls) = each (it.n == n) refl (found_begun n calls)
+  where
+    each : (b : Bool) → (it.n == n) ≡ b → find (is_of n) (with_begun n calls) ≡ Some (begun n) →
+        find (is_of n) (with_begun n (it ∷ calls)) ≡ Some (begun n)
+    each true same rest = rw same rest
+    each false other rest = rw other (rw other rest)
+
+-- .. and can be performed
+pub begun_performable : (n : ℕ) (calls : List OpenCall) → is_performable (with_begun n calls) n ≡ true
+begun_performable n calls = ap is_free (found_begun n calls)

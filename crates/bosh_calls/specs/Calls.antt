@@ -1,5 +1,5 @@
 -- Which calls are open, and which of them were performed.
-use Rattle.std.specs.Prelude.{ℕ, ◌==◌, Bool, true, false, not, is_some, if◌then◌else◌, List, [], ◌∷◌, ◌++◌, filter, find, map, Option, Some, None}
+use Rattle.std.specs.Prelude.{ℕ, ◌==◌, Bool, false, not, is_some, if◌then◌else◌, List, [], ◌∷◌, ◌++◌, filter, find, map, Option, Some, None}
 use Rattle.std.specs.Option.{option_and_then}
 use Rattle.bosh_calls.specs.declared.calls.OpenCall.{OpenCall}
 

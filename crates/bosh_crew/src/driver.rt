@@ -2,14 +2,16 @@ ghost use Rattle.std.specs.Prelude.{◌≡◌, ◌≢◌, ◌⊎◌, ◌↔◌, 
 ghost use Rattle.bosh_asks.specs.declared.fault.BookFault.TheVariants as book;
 ghost use Rattle.bosh_crew.specs.Carried.{Carries, GoesRound, IsLeft};
 ghost use Rattle.bosh_crew.specs.Driven.{AreEnded, Goes, IsEnded, IsStuck};
+ghost use Rattle.bosh_crew.specs.Places.{IsAt};
 ghost use Rattle.bosh_crew.specs.declared.driver.Round.TheVariants.{Ended, Moved};
 ghost use Rattle.bosh_world.specs.Silent.{IsSilent};
 ghost use Rattle.bosh_world.specs.declared.fault.SiteFault.TheVariants.{Book};
 
-use bosh_book::{BookFault, Claim, Permit};
+use crate::{Place, Step, advance};
+use bosh_book::BookFault;
 use bosh_ports::Keeper;
 use bosh_records::Records;
-use bosh_world::{HeldCall, Site, SiteFault};
+use bosh_world::{Site, SiteFault};
 
 /// Who makes the calls.
 const WORKER: u8 = 0;
@@ -30,7 +32,7 @@ enum Round {
 /// task that waits.
 pub fn drive<K: Keeper, L: Keeper>(site: &mut Site<K, L>, tasks: &[u64]) -> Result<(), SiteFault>
     ensures ended { OnOk result (AreEnded site.new tasks.now) }
-    ensures carries { Carries K.bodies K.faults L.bodies L.faults tasks.now site.old result site.new }
+    ensures carries { Carries K.bodies K.faults L.bodies L.faults tasks.now 0 site.old result site.new }
     ensures goes { Goes site.old site.new }
     ensures silent { IsSilent site.old site.new }
     ensures stuck { IfErr result (IsStuck site.new) }
@@ -55,7 +57,7 @@ fn locked(task: u64) -> SiteFault
 // Takes a step of each task that has no end.
 fn go_round<K: Keeper, L: Keeper>(site: &mut Site<K, L>, tasks: &[u64]) -> Result<Round, SiteFault>
     ensures ended { IfOk result (λ round. round ≡ Ended → AreEnded site.new tasks.now) }
-    ensures goes_round { GoesRound K.bodies K.faults L.bodies L.faults tasks.now site.old result site.new }
+    ensures goes_round { GoesRound K.bodies K.faults L.bodies L.faults tasks.now 0 site.old result site.new }
     ensures goes { Goes site.old site.new }
     ensures silent { IsSilent site.old site.new }
     ensures stuck { IfErr result (IsStuck site.new) }
@@ -78,8 +80,8 @@ fn attend<K: Keeper, L: Keeper>(
 ) -> Result<Round, SiteFault>
     ensures ended { IfOk result (λ now. now ≡ Ended → (round ≡ Ended)
         × (site.new.book.records ≡ site.old.book.records) × IsEnded site.old.book.records task) }
-    ensures goes_round { (tasks : List ℕ) → Contains tasks task → IsLeft K.bodies K.faults tasks round site.old →
-        GoesRound K.bodies K.faults L.bodies L.faults tasks site.old result site.new }
+    ensures goes_round { (tasks : List ℕ) → Contains tasks task → IsLeft K.bodies K.faults tasks 0 round site.old →
+        GoesRound K.bodies K.faults L.bodies L.faults tasks 0 site.old result site.new }
     ensures goes { Goes site.old site.new }
     ensures silent { IsSilent site.old site.new }
     ensures stuck { IfErr result (IsStuck site.new) }
@@ -87,7 +89,7 @@ fn attend<K: Keeper, L: Keeper>(
     if has_ended(site.book().records(), task) {
         return Ok(round);
     }
-    match take_step(site, task) {
+    match take_steps(site, Place::Empty, task) {
         Ok(step) => Ok(both(round, step)),
         Err(fault) => Err(fault),
     }
@@ -114,71 +116,24 @@ fn has_ended(records: &Records, task: u64) -> bool
     }
 }
 
-// Makes the next call of a task, or ends it.
-fn take_step<K: Keeper, L: Keeper>(site: &mut Site<K, L>, task: u64) -> Result<Round, SiteFault>
-    ensures moved { IfOk result (λ round. round ≢ Ended) }
-    ensures goes_round { (tasks : List ℕ) → Contains tasks task →
-        GoesRound K.bodies K.faults L.bodies L.faults tasks site.old result site.new }
-    ensures goes { Goes site.old site.new }
-    ensures silent { IsSilent site.old site.new }
-    ensures stuck { IfErr result (IsStuck site.new) }
-{
-    match site.claim(task, WORKER) {
-        Ok(Claim::Work(permit)) => make_call(site, permit),
-        Ok(Claim::Over) => end(site, task),
-        Ok(Claim::Wait) => Ok(Round::Waits(task)),
-        Err(fault) => Err(fault),
-    }
-}
-
-fn end<K: Keeper, L: Keeper>(site: &mut Site<K, L>, task: u64) -> Result<Round, SiteFault>
-    ensures moved { IfOk result (λ round. round ≢ Ended) }
-    ensures goes_round { (tasks : List ℕ) → Contains tasks task →
-        GoesRound K.bodies K.faults L.bodies L.faults tasks site.old result site.new }
-    ensures goes { Goes site.old site.new }
-    ensures silent { IsSilent site.old site.new }
-    ensures stuck { IfErr result (IsStuck site.new) }
-{
-    match site.end_task(task) {
-        Ok(_) => Ok(Round::Moved),
-        Err(fault) => Err(fault),
-    }
-}
-
-// Makes the call of a permit. Where that is refused, the call is given up.
-fn make_call<K: Keeper, L: Keeper>(
+// Makes the next call of a task, or ends it: steps are taken until nothing is at hand.
+fn take_steps<K: Keeper, L: Keeper>(
     site: &mut Site<K, L>,
-    permit: Permit,
+    place: Place,
+    task: u64,
 ) -> Result<Round, SiteFault>
+    requires { IsAt site.old place }
     ensures moved { IfOk result (λ round. round ≢ Ended) }
-    ensures goes_round { (tasks : List ℕ) →
-        GoesRound K.bodies K.faults L.bodies L.faults tasks site.old result site.new }
+    ensures goes_round { (tasks : List ℕ) → Contains tasks task →
+        GoesRound K.bodies K.faults L.bodies L.faults tasks 0 site.old result site.new }
     ensures goes { Goes site.old site.new }
     ensures silent { IsSilent site.old site.new }
     ensures stuck { IfErr result (IsStuck site.new) }
 {
-    match site.perform(permit) {
-        Ok(call) => settle(site, call),
-        Err((permit, fault)) => {
-            site.abandon(permit);
-            Err(fault)
-        }
-    }
-}
-
-fn settle<K: Keeper, L: Keeper>(site: &mut Site<K, L>, call: HeldCall) -> Result<Round, SiteFault>
-    ensures moved { IfOk result (λ round. round ≢ Ended) }
-    ensures goes_round { (tasks : List ℕ) →
-        GoesRound K.bodies K.faults L.bodies L.faults tasks site.old result site.new }
-    ensures goes { Goes site.old site.new }
-    ensures silent { IsSilent site.old site.new }
-    ensures stuck { IfErr result (IsStuck site.new) }
-{
-    match site.settle(call) {
-        Ok(()) => Ok(Round::Moved),
-        Err((call, fault)) => {
-            site.abandon_held(call);
-            Err(fault)
-        }
+    match advance(site, place, task, WORKER) {
+        Ok(Step::Moved(Place::Empty)) => Ok(Round::Moved),
+        Ok(Step::Moved(place)) => take_steps(site, place, task),
+        Ok(Step::Waits) => Ok(Round::Waits(task)),
+        Err(fault) => Err(fault),
     }
 }

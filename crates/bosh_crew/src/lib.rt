@@ -2,5 +2,9 @@
 #![tactic(auto)]
 
 mod driver;
+mod place;
+mod step;
 
 pub use driver::drive;
+pub use place::Place;
+pub use step::{Step, advance};

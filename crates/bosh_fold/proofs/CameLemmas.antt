@@ -25,18 +25,18 @@ use Rattle.bosh_plan.specs.declared.ending.Told.TheVariants.{Nothing, There, Abs
 use Rattle.bosh_records.specs.Arrivals.{Arrivals}
 use Rattle.bosh_records.specs.Readers.{machine_cmp, since_in}
 use Rattle.bosh_records.specs.Recorded.{Recorded}
-use Rattle.bosh_records.specs.Table.{thing_in, without}
+use Rattle.bosh_records.specs.Table.{thing_in}
 use Rattle.bosh_records.specs.declared.machines.Machine.{Machine}
 use Rattle.bosh_records.specs.declared.records.Since.{Since}
 use Rattle.bosh_work.specs.declared.part.MachineName.{MachineName}
 use Rattle.bosh_work.specs.declared.work.Work.{Work}
-use Rattle.bosh_fold.specs.Calls.{answered_in, built_in, closed_call, deleted_in, disk_told, dropped_machine, ended_by, failed_in}
-use Rattle.bosh_fold.specs.Calls.{given_by, machine_told, opened_call, other_told, pinged_by, swept_in, told_of, with_call}
-use Rattle.bosh_fold.specs.Calls.{with_compiling, with_doubt, with_subject}
+use Rattle.bosh_fold.specs.Calls.{built_in, closed_call, deleted_in, disk_told, dropped_machine, ended_by, failed_in}
+use Rattle.bosh_fold.specs.Calls.{given_by, machine_told, opened_call, pinged_by, swept_in, told_of, with_call}
+use Rattle.bosh_fold.specs.Calls.{with_compiling, with_subject}
 use Rattle.bosh_fold.specs.Learned.{learned}
 use Rattle.bosh_fold.specs.Planned.{arrivals_after}
-use Rattle.bosh_fold.specs.Tasks.{calls_of, cleared, closed_task, deployed, deployment_done, dropped_at, forgotten_call}
-use Rattle.bosh_fold.specs.Tasks.{forgotten_in, goal_set, goal_set_at, interrupted_in, is_deletion, shared_at, since_of}
+use Rattle.bosh_fold.specs.Tasks.{calls_of, cleared, deployed, deployment_done, dropped_at, forgotten_call}
+use Rattle.bosh_fold.specs.Tasks.{goal_set, goal_set_at, interrupted_in, is_deletion, shared_at, since_of}
 use Rattle.bosh_fold.specs.Updates.{other_in, update_in, with_row_of}
 use Rattle.bosh_fold.specs.declared.change.Change.{Change}
 use Rattle.bosh_fold.specs.declared.change.Change.TheVariants as changes

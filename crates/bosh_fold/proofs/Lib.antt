@@ -2,3 +2,4 @@ pub mod BringsLemmas
 pub mod CameLemmas
 pub mod ForgetLemmas
 pub mod LearnsLemmas
+pub mod OpenLemmas

@@ -2,7 +2,6 @@
 use Rattle.std.specs.Prelude.{[], ◌∷◌, ◌++◌, Some}
 use Rattle.bosh_base.specs.declared.entry.Entry.{Entry}
 use Rattle.bosh_records.specs.Recorded.{Recorded}
-use Rattle.bosh_work.specs.Work.{taken}
 use Rattle.bosh_fold.specs.declared.change.Change.{Change}
 use Rattle.bosh_fold.specs.declared.change.Change.TheVariants as changes
 use Rattle.bosh_records.specs.Recorded.{recorded}

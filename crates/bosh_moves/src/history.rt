@@ -295,22 +295,24 @@ impl History {
 }
 
 impl History {
-    /// What a call of the book did is told, and the halt that came of it, as far as there is memory.
+    /// What a call of the book did is told, and the halt that came of it, as far as there is memory. Whether all of it was
+    /// told.
     pub fn follow(
         &mut self,
         alloc: Global,
         entries: &[Entry],
         effects: &[Entry],
         halt: Option<Cause>,
-    )
+    ) -> bool
         requires of { IsOf self.old entries.now }
         requires running { self.old.is_halted ≡ false }
-        ensures { Follows self.old entries.now effects.now halt self.new }
+        ensures follows { Follows self.old entries.now effects.now halt self.new }
+        ensures told { result ≡ true → IsTold self.new × (self.new.entries ≡ length entries.now) }
     {
         self.stand(halt);
         match self.tell(alloc, entries, effects) {
-            Ok(()) => {}
-            Err(_) => {}
+            Ok(()) => true,
+            Err(_) => false,
         }
     }
 

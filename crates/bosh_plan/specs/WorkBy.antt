@@ -1,6 +1,6 @@
 -- What is left to do of a task that opens.
 use Rattle.std.specs.Prelude.{ℕ, Bool, false, true, ◌&&◌, List, [], Option, Some, None, fold, is_some, length, map, min, not, replicate, if◌then◌else◌}
-use Rattle.std.specs.List.{enumerate_from, filter, filter_map}
+use Rattle.std.specs.List.{enumerate_from, filter}
 use Rattle.std.specs.Option.{option_map_or}
 use Rattle.std.specs.Str.{bytes_eq}
 use Rattle.bosh_base.specs.contracts.inst.InstPartialEq.TheImpl as inst_test

@@ -1,12 +1,11 @@
-ghost use Rattle.std.specs.Prelude.{◌≡◌, IfOk, OnOk};
-ghost use Rattle.bosh_records.specs.Recorded.{kept, recorded};
-ghost use Rattle.bosh_plan.specs.Begun.{compile_row_of, doubt_of, machine_begun, next_key, row_begun, row_or_bare, subject_of};
-ghost use Rattle.bosh_plan.specs.Roomy.{roomy_for_call, roomy_for_owner};
+ghost use Rattle.std.specs.Prelude.{◌≡◌, IfOk, None, OnOk};
 ghost use Rattle.bosh_base.specs.Inst.{inst_cmp};
 ghost use Rattle.bosh_records.specs.Instances.{unknown};
 ghost use Rattle.bosh_records.specs.Readers.{machine_cmp};
+ghost use Rattle.bosh_records.specs.Recorded.{kept, recorded};
 ghost use Rattle.bosh_records.specs.Table.{with_room};
-ghost use Rattle.std.specs.Prelude.{None};
+ghost use Rattle.bosh_plan.specs.Begun.{compile_row_of, doubt_of, machine_begun, next_key, row_begun, row_or_bare, subject_of};
+ghost use Rattle.bosh_plan.specs.Roomy.{roomy_for_call, roomy_for_owner};
 
 use crate::fault::recorded;
 use bosh_base::{

@@ -1,5 +1,5 @@
 -- What a call of the book leaves of a site, where it was told.
-use Rattle.std.proofs.Common.{◌≡◌, ◌⊎◌, ℕ, Bool, true, false, Option, Some, None, Result, Ok, Err, List, [], ◌∷◌, ◌++◌, inl, inr, refl, sym, ◌∙◌, ap, subst, append-nil, arith}
+use Rattle.std.proofs.Common.{◌≡◌, ◌⊎◌, ℕ, Bool, true, false, Option, Some, None, Result, Ok, Err, List, [], ◌∷◌, ◌++◌, inl, inr, refl, sym, ◌∙◌, ap, subst, append-nil, arith, not, ◌||◌}
 use Rattle.std.specs.Prelude.{IfErr, IfOk, OnErr}
 use Rattle.std.specs.Result.{IsErrAnd}
 use Rattle.std.proofs.lemmas.List.Elements.{All-nil}
@@ -17,13 +17,18 @@ use Rattle.bosh_book.specs.Ends as ends
 use Rattle.bosh_book.specs.Ends.{IsTold, closing}
 use Rattle.bosh_book.specs.Faults.{FailsAs, IsSettleFault}
 use Rattle.bosh_book.specs.Opens as opens
-use Rattle.bosh_book.specs.Running.{is_full, is_stopped}
+use Rattle.bosh_book.specs.Running.{is_full, is_running, is_stopped}
+use Rattle.bosh_book.specs.declared.standing.Standing.TheVariants.{Unread}
+use Rattle.bosh_calls.proofs.CallLemmas.{begun_performable}
+use Rattle.bosh_calls.specs.Calls.{is_performable}
+use Rattle.bosh_calls.specs.declared.calls.OpenCall.{OpenCall}
 use Rattle.bosh_book.specs.Turns as turns
 use Rattle.bosh_book.specs.Turns.{IsUpdate, some}
 use Rattle.bosh_book.specs.Appends.{unless_refused}
 use Rattle.bosh_book.specs.Uploads.{if_new}
 use Rattle.bosh_book.specs.declared.book.Book.{Book}
 use Rattle.bosh_book.specs.declared.claim.Claim.{Claim}
+use Rattle.bosh_book.specs.declared.claim.Claim.TheVariants.{Over, Wait, Work}
 use Rattle.bosh_book.specs.declared.uploads.Added.{Added}
 use Rattle.bosh_book.specs.declared.uploads.Added.TheVariants.{New, Same}
 use Rattle.bosh_moves.specs.Story.{Follows, HistoryView, story}
@@ -37,8 +42,8 @@ use Rattle.bosh_world.proofs.SiteLemmas.{SameRest, noted, notes_if, refuses_if}
 use Rattle.bosh_world.specs.Faults.{answered_as, fault_as, halt_by, halt_of}
 use Rattle.bosh_world.specs.IsSite.{IsSite}
 use Rattle.bosh_world.specs.Refuses.{IsBooks, IsUnheld, Refuses, RefusesClaim}
-use Rattle.bosh_world.specs.Steps.{Claims, Comes, EndsTask, Notes, OpensTask, bodies_of, entries_for}
-use Rattle.bosh_world.specs.Told.{story_of}
+use Rattle.bosh_world.specs.Steps.{Claims, Comes, EndsTask, Notes, OpensTask, bodies_of, calls_claimed, entries_for}
+use Rattle.bosh_world.specs.Told.{IsGiven, story_of}
 use Rattle.bosh_world.specs.declared.fault.SiteFault.{SiteFault}
 use Rattle.bosh_world.specs.declared.fault.SiteFault.TheVariants.{Memory}
 use Rattle.bosh_world.specs.declared.site.Site.{Site}
@@ -252,6 +257,38 @@ claims_told {k = k} {l = l} bodies faults was now task worker result answer spru
       by_turns = by_full (is_full was.book) (is_full was.book) refl claimed (λ filled. absurd (let never : Ok claim ≡ Err book.Full = full filled in cc));
     }
     each (Err fault) notes claimed full follows = tt
+
+-- a book that goes on was read
+read_runs : {K : Type 0} (book : Book K) → is_stopped book ≡ false → (book.standing ≡ Unread → ⊥)
+read_runs book runs unread =
+    by book.journal.is_broken ((λ i. book.journal.is_broken || not (is_running (sym unread i))) ∙ runs)
+  where
+    by : (broken : Bool) → (broken || not (is_running Unread)) ≡ false → ⊥
+    by true is = false≢true (sym is)
+    by false is = false≢true (sym is)
+
+-- the call that was given can be performed: it is open by the records, and among the calls
+pub given_told : {K L : Type 0} {k : keeper.Ghosts K} {l : keeper.Ghosts L} (bodies : K → Option (List (List ℕ)))
+    (faults : K → ℕ) (was now : Site K L k l) (result : Result Claim SiteFault) (answer : Result Claim BookFault)
+    (sprung : Option Rig) → result ≡ answered_as sprung answer → is_stopped was.book ≡ false →
+    turns.Notes (bodies_of bodies) (faults_of faults) was.book (some answer) now.book →
+    now.calls.unsettled ≡ calls_claimed answer was.calls.unsettled → IfOk result (IsGiven now)
+given_told {K} {L} {k} {l} bodies faults was now result answer sprung is runs notes calls =
+    subst (λ (r : Result Claim SiteFault). IfOk r (IsGiven now)) (sym is) (each answer notes calls)
+  where
+    each : (a : Result Claim BookFault) → turns.Notes (bodies_of bodies) (faults_of faults) was.book (some a) now.book →
+        now.calls.unsettled ≡ calls_claimed a was.calls.unsettled → IfOk (answered_as sprung a) (IsGiven now)
+    each (Ok (Work permit)) notes calls = (
+      (
+        λ unread. read_runs was.book runs (sym notes.adds.standing ∙ unread),
+        notes.is_open,
+      ),
+      ap (λ (unsettled : List OpenCall). is_performable unsettled permit.n) calls
+          ∙ begun_performable permit.n was.calls.unsettled,
+    )
+    each (Ok Wait) notes calls = tt
+    each (Ok Over) notes calls = tt
+    each (Err fault) notes calls = tt
 
 -- a claim is refused
 pub claim_refused : {K L : Type 0} {k : keeper.Ghosts K} {l : keeper.Ghosts L} (bodies : K → Option (List (List ℕ)))

@@ -1,6 +1,7 @@
 pub mod BookLemmas
 pub mod CallLemmas
 pub mod LoadLemmas
+pub mod PendLemmas
 pub mod PerformLemmas
 pub mod PushLemmas
 pub mod RestartLemmas

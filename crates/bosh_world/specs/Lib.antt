@@ -3,13 +3,14 @@ pub mod Anew
 pub mod Arms
 pub mod Faults
 pub mod Holds
+pub mod IsSite
 pub mod Jobs
 pub mod Loads
+pub mod Pending
 pub mod Performing
 pub mod Refuses
 pub mod Restarts
-pub mod Told
 pub mod Silent
-pub mod IsSite
 pub mod Steps
 pub mod Stopping
+pub mod Told

@@ -2,6 +2,8 @@
 use Rattle.std.specs.Prelude.{◌≡◌, true, List}
 use Rattle.bosh_base.specs.declared.moves.Move.{Move}
 use Rattle.bosh_book.specs.Current.{IsCurrent}
+use Rattle.bosh_book.specs.declared.claim.Claim.{Claim}
+use Rattle.bosh_book.specs.declared.claim.Claim.TheVariants.{Work}
 use Rattle.bosh_book.specs.declared.granted.Granted.{Granted}
 use Rattle.bosh_moves.specs.Story.{story}
 use Rattle.bosh_calls.specs.Calls.{is_performable}
@@ -15,3 +17,8 @@ story_of site = story site.history site.book.journal.entries site.cloud.effects
 -- a permit whose call can be performed: it is open, and was not performed yet
 abbrev pub IsPerformable : {K L : Type 0} {k : keeper.Ghosts K} {l : keeper.Ghosts L} → Site K L k l → Granted → Type 0
 IsPerformable site permit = IsCurrent site.book permit × (is_performable site.calls.unsettled permit.n ≡ true)
+
+-- the call that a claim gave can be performed
+abbrev pub IsGiven : {K L : Type 0} {k : keeper.Ghosts K} {l : keeper.Ghosts L} → Site K L k l → Claim → Type 0
+IsGiven site (Work permit) = IsPerformable site permit
+IsGiven site claim = Unit {0}

@@ -3,6 +3,7 @@ ghost use Rattle.bosh_base.specs.History.{Extends};
 ghost use Rattle.bosh_base.specs.declared.entry.Entry.TheVariants as entries;
 ghost use Rattle.bosh_book.specs.Faults.{MayEnd};
 ghost use Rattle.bosh_world.specs.Holds.{IsHeld};
+ghost use Rattle.bosh_world.specs.Pending.{IsAllowed, Pends};
 ghost use Rattle.bosh_world.specs.Refuses.{IsUnheld, Refuses};
 ghost use Rattle.bosh_world.specs.Steps.{Notes, calls_settled};
 ghost use Rattle.bosh_world.specs.Silent.{IsSilent, moves_of};
@@ -15,6 +16,7 @@ use bosh_ports::Keeper;
 impl<K: Keeper, L: Keeper> Site<K, L> {
     /// Notes the answer of a call. A refusal gives the call back. One that was not performed with this answer, or is not
     /// open, is refused as `Locked`.
+    #[tactic(auto, using(crate::proofs::PendLemmas::pends_still))]
     pub fn settle(&mut self, call: HeldCall) -> Result<(), (HeldCall, SiteFault)>
         ensures held { OnOk result (IsHeld self.old call) }
         ensures may_end { OnOk result (MayEnd self.old.book call.permit call.answer) }
@@ -24,6 +26,9 @@ impl<K: Keeper, L: Keeper> Site<K, L> {
         ensures refused { IfErr result (λ back. (back.0 ≡ call)
             × Refuses K.bodies K.faults self.old [] back.1 self.new) }
         ensures fault { IfErr result (λ back. IsUnheld self.old call back.1) }
+        ensures pending { Pends self.old
+            (IsAllowed (MayEnd self.old.book call.permit call.answer)
+            (entries.End (record { n = call.permit.n; answer = call.answer }))) self.new }
         ensures grows { Extends (moves_of self.old) (moves_of self.new) }
         ensures silent { IsSilent self.old self.new }
     {
@@ -56,6 +61,9 @@ impl<K: Keeper, L: Keeper> Site<K, L> {
         ensures refused { IfErr result (λ back. (back.0 ≡ call)
             × Refuses K.bodies K.faults self.old [] back.1 self.new) }
         ensures fault { IfErr result (λ back. IsUnheld self.old call back.1) }
+        ensures pending { Pends self.old
+            (IsAllowed (MayEnd self.old.book call.permit call.answer)
+            (entries.End (record { n = call.permit.n; answer = call.answer }))) self.new }
         ensures grows { Extends (moves_of self.old) (moves_of self.new) }
         ensures silent { IsSilent self.old self.new }
     {

@@ -6,6 +6,8 @@ ghost use Rattle.bosh_base.specs.Version.{IsVersion};
 ghost use Rattle.bosh_base.specs.declared.entry.Entry.TheVariants as entries;
 ghost use Rattle.bosh_book.specs.Faults.{IsConfigFault, IsUploadFault};
 ghost use Rattle.bosh_book.specs.Uploads.{IsAdded, IsOther, IsUpload};
+ghost use Rattle.bosh_book.specs.declared.uploads.Added.TheVariants.{New};
+ghost use Rattle.bosh_world.specs.Pending.{IsAllowed, Pends};
 ghost use Rattle.bosh_world.specs.Refuses.{IsBooks, Refuses};
 ghost use Rattle.bosh_world.specs.Steps.{Notes, entries_for};
 ghost use Rattle.bosh_world.specs.Silent.{IsSilent, moves_of};
@@ -19,6 +21,7 @@ use bosh_ports::Keeper;
 impl<K: Keeper, L: Keeper> Site<K, L> {
     /// Records a release. One of its name and version that is there already has to be the same, and it has to go with
     /// those that are there. One that is not sound by itself, or whose version is none, goes with none.
+    #[tactic(auto, using(crate::proofs::PendLemmas::pends_still))]
     pub fn upload(&mut self, release: Release) -> Result<Added, SiteFault>
         ensures notes { IfOk result (λ added.
             Notes K.bodies K.faults self.old (entries_for added (entries.Release release)) None self.new) }
@@ -27,6 +30,8 @@ impl<K: Keeper, L: Keeper> Site<K, L> {
         ensures refused { IfErr result (λ fault. Refuses K.bodies K.faults self.old [] fault self.new) }
         ensures fault { IfErr result (IsBooks (IsUploadFault self.old.book
             (name_and_version release.name release.version) (IsOther self.old.book.records.releases.items release))) }
+        ensures pending { Pends self.old (IsAllowed (IsUpload self.old.book.records.releases.items release New)
+            (entries.Release release)) self.new }
         ensures grows { Extends (moves_of self.old) (moves_of self.new) }
         ensures silent { IsSilent self.old self.new }
     {
@@ -44,6 +49,7 @@ impl<K: Keeper, L: Keeper> Site<K, L> {
 
     /// Records a stemcell, where it is not there yet. What is no version is taken for another one than those that are
     /// there.
+    #[tactic(auto, using(crate::proofs::PendLemmas::pends_still))]
     pub fn add_stemcell(&mut self, os: &Name, version: &[u8]) -> Result<Added, SiteFault>
         ensures notes { IfOk result (λ added. Notes K.bodies K.faults self.old
             (entries_for added (entries.Stemcell (record { os = os.now; version = version.now }))) None self.new) }
@@ -52,6 +58,8 @@ impl<K: Keeper, L: Keeper> Site<K, L> {
         ensures refused { IfErr result (λ fault. Refuses K.bodies K.faults self.old [] fault self.new) }
         ensures fault { IfErr result (IsBooks (IsUploadFault self.old.book
             (name_and_version os.now version.now) (¬ IsVersion version.now))) }
+        ensures pending { Pends self.old (IsAllowed (IsAdded self.old.book.records.stemcells.items os.now version.now New)
+            (entries.Stemcell (record { os = os.now; version = version.now }))) self.new }
         ensures grows { Extends (moves_of self.old) (moves_of self.new) }
         ensures silent { IsSilent self.old self.new }
     {
@@ -69,6 +77,7 @@ impl<K: Keeper, L: Keeper> Site<K, L> {
 
     /// Puts a cloud config in the place of the one that is there. A file that spells none is refused as if there were
     /// none.
+    #[tactic(auto, using(crate::proofs::PendLemmas::pends_still))]
     pub fn set_config(&mut self, file: &[u8]) -> Result<(), SiteFault>
         ensures notes { OnOk result (
             Notes K.bodies K.faults self.old (entries.Config file.now ∷ []) None self.new) }
@@ -76,6 +85,7 @@ impl<K: Keeper, L: Keeper> Site<K, L> {
         ensures calls { self.new.calls ≡ self.old.calls }
         ensures refused { IfErr result (λ fault. Refuses K.bodies K.faults self.old [] fault self.new) }
         ensures fault { IfErr result (IsBooks (IsConfigFault self.old.book file.now)) }
+        ensures pending { Pends self.old (IsAllowed (is_some (config_in file.now) ≡ true) (entries.Config file.now)) self.new }
         ensures grows { Extends (moves_of self.old) (moves_of self.new) }
         ensures silent { IsSilent self.old self.new }
     {

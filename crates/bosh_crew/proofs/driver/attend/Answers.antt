@@ -8,7 +8,7 @@ returns-then-has_ended-clause-goes_round g c = λ tasks there left. (stays c.arg
 pub returns-in-Ok-clause-goes_round : goal.returns-in-Ok-clause-goes_round
 returns-in-Ok-clause-goes_round g c = λ tasks there left. (
   (c.in-Ok.ensures.goes_round tasks there).0,
-  left_by g.K.Keeper.bodies g.K.Keeper.faults tasks c.both.result c.in-Ok.step c.take_step.new.site c.both.ensures.last
+  left_by g.K.Keeper.bodies g.K.Keeper.faults tasks 0 c.both.result c.in-Ok.step c.take_steps.new.site c.both.ensures.last
       (c.in-Ok.ensures.goes_round tasks there).1,
 )
 

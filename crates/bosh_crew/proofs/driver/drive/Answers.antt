@@ -20,13 +20,13 @@ loop-preserved g c = record {
   goes = extends_more (moves_of c.args.site.now) (moves_of c.loop.site) (moves_of c.go_round.new.site)
       c.go_round.ensures.goes.0 c.loop.invariant.goes c.go_round.ensures.goes.1;
   silent = c.go_round.ensures.silent ∙ c.loop.invariant.silent;
-  reaches = reached_then g.K.Keeper.bodies g.K.Keeper.faults g.L.Keeper.bodies g.L.Keeper.faults c.args.tasks.now
+  reaches = reached_then g.K.Keeper.bodies g.K.Keeper.faults g.L.Keeper.bodies g.L.Keeper.faults c.args.tasks.now 0
       c.args.site.now c.loop.site c.go_round.new.site c.loop.invariant.reaches c.in-Ok-Moved.ensures.goes_round.0;
 }
 
 pub returns-in-Ok-Ended-clause-carries : goal.returns-in-Ok-Ended-clause-carries
 returns-in-Ok-Ended-clause-carries g c = (
-  reached_then g.K.Keeper.bodies g.K.Keeper.faults g.L.Keeper.bodies g.L.Keeper.faults c.args.tasks.now c.args.site.now
+  reached_then g.K.Keeper.bodies g.K.Keeper.faults g.L.Keeper.bodies g.L.Keeper.faults c.args.tasks.now 0 c.args.site.now
       c.loop.site c.go_round.new.site c.loop.invariant.reaches c.in-Ok-Ended.ensures.goes_round.0,
   c.in-Ok-Ended.ensures.ended c.in-Ok-Ended.field-0-is,
 )
@@ -34,17 +34,17 @@ returns-in-Ok-Ended-clause-carries g c = (
 pub returns-in-Ok-Waits-clause-carries : goal.returns-in-Ok-Waits-clause-carries
 returns-in-Ok-Waits-clause-carries g c = (
   c.go_round.new.site,
-  reached_then g.K.Keeper.bodies g.K.Keeper.faults g.L.Keeper.bodies g.L.Keeper.faults c.args.tasks.now c.args.site.now
+  reached_then g.K.Keeper.bodies g.K.Keeper.faults g.L.Keeper.bodies g.L.Keeper.faults c.args.tasks.now 0 c.args.site.now
       c.loop.site c.go_round.new.site c.loop.invariant.reaches c.in-Ok-Waits.ensures.goes_round.0,
   waits c.in-Ok-Waits.task
-      (subst (λ (round : Round). IsLeft g.K.Keeper.bodies g.K.Keeper.faults c.args.tasks.now round c.go_round.new.site)
+      (subst (λ (round : Round). IsLeft g.K.Keeper.bodies g.K.Keeper.faults c.args.tasks.now 0 round c.go_round.new.site)
       c.in-Ok-Waits.field-0-is c.in-Ok-Waits.ensures.goes_round.1) c.locked.ensures refl,
 )
 
 pub returns-in-Err-clause-carries : goal.returns-in-Err-clause-carries
 returns-in-Err-clause-carries g c = (
   c.in-Err.ensures.goes_round.0,
-  reached_then g.K.Keeper.bodies g.K.Keeper.faults g.L.Keeper.bodies g.L.Keeper.faults c.args.tasks.now c.args.site.now
+  reached_then g.K.Keeper.bodies g.K.Keeper.faults g.L.Keeper.bodies g.L.Keeper.faults c.args.tasks.now 0 c.args.site.now
       c.loop.site c.in-Err.ensures.goes_round.0 c.loop.invariant.reaches c.in-Err.ensures.goes_round.1,
   c.in-Err.ensures.goes_round.2,
 )

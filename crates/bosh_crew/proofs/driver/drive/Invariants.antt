@@ -8,5 +8,5 @@ abbrev pub invariant-loop : goal.invariant-loop
 invariant-loop g l = record {
   goes : Extends (moves_of l.fn.site) (moves_of l.site);
   silent : IsSilent l.fn.site l.site;
-  reaches : Reaches g.K.Keeper.bodies g.K.Keeper.faults g.L.Keeper.bodies g.L.Keeper.faults l.tasks l.fn.site l.site;
+  reaches : Reaches g.K.Keeper.bodies g.K.Keeper.faults g.L.Keeper.bodies g.L.Keeper.faults l.tasks 0 l.fn.site l.site;
 }

@@ -34,7 +34,7 @@ loop-task-preserved g c =
           (subst (λ (r : Records). All (IsEnded r) (take c.loop-task.task-index c.args.tasks.now)) (sym stood.1)
           (c.loop-task.invariant.ended stood.0))
           (subst (λ (r : Records). IsEnded r (slice_index_or c.args.tasks.now c.loop-task.task-index 0)) (sym stood.1) stood.2);
-      reaches = reached_then g.K.Keeper.bodies g.K.Keeper.faults g.L.Keeper.bodies g.L.Keeper.faults c.args.tasks.now c.args.site.now
+      reaches = reached_then g.K.Keeper.bodies g.K.Keeper.faults g.L.Keeper.bodies g.L.Keeper.faults c.args.tasks.now 0 c.args.site.now
           c.loop-task.site c.attend.new.site c.loop-task.invariant.reaches goes.0;
       left = goes.1;
     }
@@ -42,7 +42,7 @@ loop-task-preserved g c =
 pub returns-in-Err-clause-goes_round : goal.returns-in-Err-clause-goes_round
 returns-in-Err-clause-goes_round g c =
     let within : c.loop-task.task-index < length c.args.tasks.now = let t = c.loop-task-test.true in omega (arith, t) in
-    round_then g.K.Keeper.bodies g.K.Keeper.faults g.L.Keeper.bodies g.L.Keeper.faults c.args.tasks.now c.args.site.now c.loop-task.site
+    round_then g.K.Keeper.bodies g.K.Keeper.faults g.L.Keeper.bodies g.L.Keeper.faults c.args.tasks.now 0 c.args.site.now c.loop-task.site
     c.attend.new.site (Err c.in-Err.fault) c.loop-task.invariant.reaches
     (c.in-Err.ensures.goes_round c.args.tasks.now (task_at c.args.tasks.now c.loop-task.task-index within)
     c.loop-task.invariant.left)

@@ -13,6 +13,6 @@ invariant-loop-task g l = record {
   goes : Extends (moves_of l.fn.site) (moves_of l.site);
   silent : IsSilent l.fn.site l.site;
   ended : l.round ≡ Ended → All (IsEnded l.site.book.records) (take l.task-index l.tasks);
-  reaches : Reaches g.K.Keeper.bodies g.K.Keeper.faults g.L.Keeper.bodies g.L.Keeper.faults l.tasks l.fn.site l.site;
-  left : IsLeft g.K.Keeper.bodies g.K.Keeper.faults l.tasks l.round l.site;
+  reaches : Reaches g.K.Keeper.bodies g.K.Keeper.faults g.L.Keeper.bodies g.L.Keeper.faults l.tasks 0 l.fn.site l.site;
+  left : IsLeft g.K.Keeper.bodies g.K.Keeper.faults l.tasks 0 l.round l.site;
 }

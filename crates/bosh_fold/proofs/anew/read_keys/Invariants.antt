@@ -1,5 +1,4 @@
 use Rattle.std.proofs.Common.{◌≡◌, take}
-use Rattle.std.specs.Prelude.{fold}
 use Rattle.bosh_records.specs.Recorded.{recorded}
 use Rattle.bosh_fold.specs.Anew.{keys_read}
 use Rattle.bosh_fold.proofs.anew.read_keys.Given as goal

@@ -7,15 +7,15 @@ use Rattle.bosh_plan.proofs.opening.make_room.Given as goal
 
 abbrev pub invariant-loop-want : goal.invariant-loop-want
 invariant-loop-want l =
-    (kept (recorded l.records) ≡ kept (recorded l.initial.records))
+    (kept (recorded l.records) ≡ kept (recorded l.fn.records))
     × (record (recorded l.records) {
       instances = fold want_room (recorded l.records).instances (iter_rest l.want-iterator);
-    } ≡ record (recorded l.initial.records) {
-      instances = fold want_room (recorded l.initial.records).instances l.goal.rows;
+    } ≡ record (recorded l.fn.records) {
+      instances = fold want_room (recorded l.fn.records).instances l.fn.goal.rows;
     })
 
 abbrev pub invariant-loop-work : goal.invariant-loop-work
 invariant-loop-work l =
-    (kept (recorded l.records) ≡ kept (recorded l.initial.records))
+    (kept (recorded l.records) ≡ kept (recorded l.fn.records))
     × (record (recorded l.records) { keys = fold key_room (recorded l.records).keys (iter_rest l.work-iterator) }
-    ≡ roomy_for_goal l.goal (recorded l.initial.records))
+    ≡ roomy_for_goal l.fn.goal (recorded l.fn.records))

@@ -6,6 +6,10 @@ use Rattle.bosh_book.specs.Faults.{IsUploadFault}
 use Rattle.bosh_ports.specs.Rigged.{faults_of}
 use Rattle.bosh_world.proofs.CallLemmas.{books_told, follows_at, new_err, new_ok, not_stopped, notes_told, refuses_told, site_stays}
 use Rattle.bosh_world.specs.Faults.{halt_of}
+use Rattle.bosh_world.proofs.PendLemmas.{alloweds_as, pends_told}
+use Rattle.bosh_world.specs.Pending.{IsAllowed}
+use Rattle.bosh_book.specs.Uploads.{IsAdded}
+use Rattle.bosh_book.specs.declared.uploads.Added.TheVariants.{New}
 use Rattle.bosh_world.specs.Steps.{bodies_of, entries_for}
 use Rattle.bosh_world.proofs.site.Site.add_stemcell.Goals as goal
 
@@ -67,3 +71,8 @@ returns-clause-fault g c =
     books_told
     (IsUploadFault c.args.self.now.book (name_and_version c.args.os.now c.args.version.now) (¬ IsVersion c.args.version.now))
     c.told.result c.add_stemcell-added.result c.sprung.result c.told.ensures.answer c.add_stemcell-added.ensures.fault
+
+pub returns-clause-pending : goal.returns-clause-pending
+returns-clause-pending g c =
+    pends_told c.args.self.now _ (IsAllowed (IsAdded c.args.self.now.book.records.stemcells.items c.args.os.now c.args.version.now New) (entries.Stemcell (record { os = c.args.os.now; version = c.args.version.now }))) c.sprung.result c.add_stemcell-added.result c.told.ensures.follows.halted
+    (alloweds_as (IsAdded c.args.self.now.book.records.stemcells.items c.args.os.now c.args.version.now New) (entries.Stemcell (record { os = c.args.os.now; version = c.args.version.now })) c.add_stemcell-added.new.self.journal c.add_stemcell-added.result c.add_stemcell-added.ensures.pending)

@@ -3,6 +3,8 @@ use Rattle.bosh_book.specs.Faults.{IsOpenFault}
 use Rattle.bosh_ports.specs.Rigged.{faults_of}
 use Rattle.bosh_world.proofs.CallLemmas.{books_told, follows_at, not_stopped, opens_told, refuses_told, site_stays, standing_opens}
 use Rattle.bosh_world.specs.Faults.{halt_of}
+use Rattle.bosh_world.proofs.PendLemmas.{openings_as, pends_told}
+use Rattle.bosh_world.specs.Pending.{IsOpening}
 use Rattle.bosh_world.specs.Steps.{bodies_of}
 use Rattle.bosh_world.proofs.site.Site.begin_task.Goals as goal
 
@@ -60,3 +62,8 @@ returns-clause-fault g c =
     books_told
     (IsOpenFault c.args.self.now.book c.args.ask.now)
     c.told.result c.begin_task-task.result c.sprung.result c.told.ensures.answer c.begin_task-task.ensures.fault
+
+pub returns-clause-pending : goal.returns-clause-pending
+returns-clause-pending g c =
+    pends_told c.args.self.now _ (IsOpening c.args.self.now.book.records c.args.ask.now) c.sprung.result c.begin_task-task.result c.told.ensures.follows.halted
+    (openings_as c.args.self.now.book.records c.args.ask.now c.begin_task-task.new.self.journal c.begin_task-task.result c.begin_task-task.ensures.pending)

@@ -1,6 +1,8 @@
 use Rattle.bosh_book.specs.Faults.{IsClaimFault}
 use Rattle.bosh_ports.specs.Rigged.{faults_of}
-use Rattle.bosh_world.proofs.CallLemmas.{books_told, claim_refused, claims_told, follows_at, not_stopped, site_stays}
+use Rattle.bosh_world.proofs.CallLemmas.{books_told, claim_refused, claims_told, follows_at, given_told, not_stopped, site_stays}
+use Rattle.bosh_world.proofs.PendLemmas.{claims_as, pends_told}
+use Rattle.bosh_world.specs.Pending.{IsClaimed}
 use Rattle.bosh_world.specs.Faults.{halt_of}
 use Rattle.bosh_world.proofs.site.Site.claim_reserved.Goals as goal
 
@@ -31,6 +33,12 @@ returns-clause-claims g c =
     c.args.self.now.cloud.effects c.effects.result.now (halt_of c.sprung.result c.claim-claimed.result) c.entries.ensures
     c.effects.ensures c.told.ensures.follows)
 
+pub returns-clause-performable : goal.returns-clause-performable
+returns-clause-performable g c =
+    given_told g.K.Keeper.bodies g.K.Keeper.faults c.args.self.now _ c.told.result c.claim-claimed.result c.sprung.result
+    c.told.ensures.answer (c.args.self.now.is_site.book_runs c.requires.running) c.claim-claimed.ensures.notes
+    c.begin_given.ensures
+
 pub returns-clause-refused : goal.returns-clause-refused
 returns-clause-refused g c =
     claim_refused g.K.Keeper.bodies g.K.Keeper.faults c.args.self.now _ c.told.result c.claim-claimed.result c.sprung.result
@@ -53,3 +61,8 @@ pub returns-clause-fault : goal.returns-clause-fault
 returns-clause-fault g c =
     books_told (IsClaimFault c.args.self.now.book c.claim-claimed.new.self) c.told.result c.claim-claimed.result c.sprung.result c.told.ensures.answer
     c.claim-claimed.ensures.fault
+
+pub returns-clause-pending : goal.returns-clause-pending
+returns-clause-pending g c =
+    pends_told c.args.self.now _ (IsClaimed g.K.Keeper.bodies g.K.Keeper.faults c.args.task c.args.worker c.args.self.now) c.sprung.result c.claim-claimed.result c.told.ensures.follows.halted
+    (claims_as g.K.Keeper.bodies g.K.Keeper.faults c.args.task c.args.worker c.args.self.now _ c.claim-claimed.result c.claim-claimed.ensures.pending)

@@ -3,6 +3,8 @@ use Rattle.bosh_book.specs.Faults.{IsEndFault}
 use Rattle.bosh_ports.specs.Rigged.{faults_of}
 use Rattle.bosh_world.proofs.CallLemmas.{books_told, ends_told, follows_at, not_stopped, refuses_told, site_stays, standing_ends}
 use Rattle.bosh_world.specs.Faults.{halt_of}
+use Rattle.bosh_world.proofs.PendLemmas.{closings_as, pends_told}
+use Rattle.bosh_world.specs.Pending.{IsClosing}
 use Rattle.bosh_world.specs.Steps.{bodies_of}
 use Rattle.bosh_world.proofs.site.Site.end_task.Goals as goal
 
@@ -60,3 +62,8 @@ returns-clause-fault g c =
     books_told
     (IsEndFault c.args.self.now.book c.args.task)
     c.told.result c.end_task-end.result c.sprung.result c.told.ensures.answer c.end_task-end.ensures.fault
+
+pub returns-clause-pending : goal.returns-clause-pending
+returns-clause-pending g c =
+    pends_told c.args.self.now _ (IsClosing c.args.self.now.book.records c.args.task) c.sprung.result c.end_task-end.result c.told.ensures.follows.halted
+    (closings_as c.args.self.now.book.records c.args.task c.end_task-end.new.self.journal c.end_task-end.result c.end_task-end.ensures.pending)

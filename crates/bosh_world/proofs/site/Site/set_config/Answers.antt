@@ -4,6 +4,11 @@ use Rattle.bosh_book.specs.Faults.{IsConfigFault}
 use Rattle.bosh_ports.specs.Rigged.{faults_of}
 use Rattle.bosh_world.proofs.CallLemmas.{books_told, follows_at, not_stopped, notes_told, refuses_told, set_err, set_ok, site_stays}
 use Rattle.bosh_world.specs.Faults.{halt_of}
+use Rattle.bosh_world.proofs.PendLemmas.{alloweds_as, pends_told}
+use Rattle.bosh_world.specs.Pending.{IsAllowed}
+use Rattle.std.proofs.Common.{◌≡◌, true}
+use Rattle.std.specs.Prelude.{is_some}
+use Rattle.bosh_asks.specs.Goals.{config_in}
 use Rattle.bosh_world.specs.Steps.{bodies_of}
 use Rattle.bosh_world.proofs.site.Site.set_config.Goals as goal
 
@@ -62,3 +67,8 @@ returns-clause-fault g c =
     books_told
     (IsConfigFault c.args.self.now.book c.args.file.now)
     c.told.result c.set_config-set.result c.sprung.result c.told.ensures.answer c.set_config-set.ensures.fault
+
+pub returns-clause-pending : goal.returns-clause-pending
+returns-clause-pending g c =
+    pends_told c.args.self.now _ (IsAllowed (is_some (config_in c.args.file.now) ≡ true) (entries.Config c.args.file.now)) c.sprung.result c.set_config-set.result c.told.ensures.follows.halted
+    (alloweds_as (is_some (config_in c.args.file.now) ≡ true) (entries.Config c.args.file.now) c.set_config-set.new.self.journal c.set_config-set.result c.set_config-set.ensures.pending)

@@ -1,11 +1,13 @@
 use Rattle.std.proofs.Common.{[], ◌∷◌, Err, None, ap, ◌∙◌}
 use Rattle.bosh_base.specs.declared.entry.Entry.TheVariants as entries
-use Rattle.bosh_book.specs.Faults.{IsSettleFault}
+use Rattle.bosh_book.specs.Faults.{IsSettleFault, MayEnd}
 use Rattle.bosh_moves.proofs.SilentLemmas.{follows_silent}
 use Rattle.bosh_ports.specs.Rigged.{faults_of}
 use Rattle.bosh_world.proofs.CallLemmas.{follows_at, not_stopped, refuses_as, site_stays, unheld_by}
+use Rattle.bosh_world.proofs.PendLemmas.{allowed_as, pends_by}
 use Rattle.bosh_world.proofs.SiteLemmas.{noted}
 use Rattle.bosh_world.specs.Faults.{halt_by}
+use Rattle.bosh_world.specs.Pending.{IsAllowed}
 use Rattle.bosh_world.proofs.site.Site.settle_held.Goals as goal
 
 pub invariant_of-self-in-Err : goal.invariant_of-self-in-Err
@@ -30,12 +32,12 @@ returns-in-Ok-clause-settled g c =
     })
     c.in-Ok.ensures.ok
     (follows_at c.args.self.now.history c.follow.new.self c.settle.new.self.journal.entries c.entries.result.now
-    c.args.self.now.cloud.effects c.effects.result.now None c.entries.ensures c.effects.ensures c.follow.ensures)
+    c.args.self.now.cloud.effects c.effects.result.now None c.entries.ensures c.effects.ensures c.follow.ensures.follows)
 
 pub returns-in-Ok-clause-silent : goal.returns-in-Ok-clause-silent
 returns-in-Ok-clause-silent g c =
     follows_silent c.args.self.now.history c.follow.new.self c.entries.result.now c.effects.result.now None
-    c.follow.ensures
+    c.follow.ensures.follows
 
 pub returns-in-Err-clause-refused : goal.returns-in-Err-clause-refused
 returns-in-Err-clause-refused g c = (
@@ -64,3 +66,13 @@ pub returns-in-Err-clause-fault : goal.returns-in-Err-clause-fault
 returns-in-Err-clause-fault g c =
     unheld_by c.args.self.now c.args.call c.sprung.result c.refused-fault.result c.in-Err.fault
     c.refused-fault.ensures.answer c.in-Err.ensures.fault
+
+pub returns-in-Err-clause-pending : goal.returns-in-Err-clause-pending
+returns-in-Err-clause-pending g c =
+    pends_by c.args.self.now _
+    (IsAllowed (MayEnd c.args.self.now.book c.args.call.permit c.args.call.answer)
+    (entries.End (record { n = c.args.call.permit.n; answer = c.args.call.answer }))) c.sprung.result c.in-Err.fault
+    c.refused-fault.ensures.follows.halted
+    (allowed_as {T = Unit {0}} (MayEnd c.args.self.now.book c.args.call.permit c.args.call.answer)
+    (entries.End (record { n = c.args.call.permit.n; answer = c.args.call.answer })) c.settle.new.self.journal c.in-Err.fault
+    c.in-Err.ensures.pending)

@@ -6,4 +6,4 @@ use Rattle.bosh_world.proofs.site.Site.stop_book.Goals as goal
 pub returns-clause-silent : goal.returns-clause-silent
 returns-clause-silent g c =
     follows_silent c.args.self.now.history c.follow.new.self c.entries.result.now c.effects.result.now (Some causes.Stop)
-    c.follow.ensures
+    c.follow.ensures.follows

@@ -22,9 +22,9 @@ returns-clause-refused g c =
     (λ j. c.args.self.now.opening)
     (follows_at c.args.self.now.history c.follow.new.self c.args.self.now.book.journal.entries c.entries.result.now
     c.take_effects-came.new.cloud.effects c.effects.result.now (Some c.in-Some.cause) c.entries.ensures c.effects.ensures
-    c.follow.ensures)
+    c.follow.ensures.follows)
 
 pub returns-clause-silent : goal.returns-clause-silent
 returns-clause-silent g c =
     follows_silent c.args.self.now.history c.follow.new.self c.entries.result.now c.effects.result.now
-    (Some c.in-Some.cause) c.follow.ensures
+    (Some c.in-Some.cause) c.follow.ensures.follows

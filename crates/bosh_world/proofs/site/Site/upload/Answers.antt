@@ -2,10 +2,13 @@ use Rattle.std.proofs.Common.{[]}
 use Rattle.bosh_asks.specs.Faults.{name_and_version}
 use Rattle.bosh_base.specs.declared.entry.Entry.TheVariants as entries
 use Rattle.bosh_book.specs.Faults.{IsUploadFault}
-use Rattle.bosh_book.specs.Uploads.{IsOther}
 use Rattle.bosh_ports.specs.Rigged.{faults_of}
 use Rattle.bosh_world.proofs.CallLemmas.{books_told, follows_at, new_err, new_ok, not_stopped, notes_told, refuses_told, site_stays}
 use Rattle.bosh_world.specs.Faults.{halt_of}
+use Rattle.bosh_world.proofs.PendLemmas.{alloweds_as, pends_told}
+use Rattle.bosh_world.specs.Pending.{IsAllowed}
+use Rattle.bosh_book.specs.Uploads.{IsOther, IsUpload}
+use Rattle.bosh_book.specs.declared.uploads.Added.TheVariants.{New}
 use Rattle.bosh_world.specs.Steps.{bodies_of, entries_for}
 use Rattle.bosh_world.proofs.site.Site.upload.Goals as goal
 
@@ -66,3 +69,8 @@ returns-clause-fault g c =
     (IsUploadFault c.args.self.now.book (name_and_version c.args.release.name c.args.release.version)
     (IsOther c.args.self.now.book.records.releases.items c.args.release))
     c.told.result c.upload-added.result c.sprung.result c.told.ensures.answer c.upload-added.ensures.fault
+
+pub returns-clause-pending : goal.returns-clause-pending
+returns-clause-pending g c =
+    pends_told c.args.self.now _ (IsAllowed (IsUpload c.args.self.now.book.records.releases.items c.args.release New) (entries.Release c.args.release)) c.sprung.result c.upload-added.result c.told.ensures.follows.halted
+    (alloweds_as (IsUpload c.args.self.now.book.records.releases.items c.args.release New) (entries.Release c.args.release) c.upload-added.new.self.journal c.upload-added.result c.upload-added.ensures.pending)
