@@ -1,12 +1,14 @@
 mod BeginLemmas
 mod CallLemmas
 mod DiskLemmas
+mod DoneLemmas
 mod FailureLemmas
+mod GoneLemmas
 mod ListedLemmas
 mod PlaceLemmas
 mod PresentLemmas
 mod SlotLemmas
 mod SweepLemmas
-mod UpdateLemmas
+pub mod UpdateLemmas
 mod UploadLemmas
-mod WorkingLemmas
+pub mod WorkingLemmas

@@ -12,6 +12,7 @@ pub mod NextKeyLemmas
 pub mod NoneLemmas
 pub mod PhaseLemmas
 pub mod PremiseLemmas
+pub mod SameGroupLemmas
 pub mod SlotLemmas
 pub mod StageLemmas
 pub mod SweepLemmas

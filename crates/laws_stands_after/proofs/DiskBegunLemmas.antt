@@ -52,7 +52,7 @@ use Rattle.laws_stands_on.proofs.TableLemmas.{nat_at, nat_keys, thing_changed}
 use Rattle.laws_stands_on.proofs.ChangedLemmas.{eqb_flip, some_mapped, thing_at_key, things_changed}
 use Rattle.laws_stands_on.proofs.NextCallLemmas.{calls_next, dep_same, going_same, other_calls, other_idle, own_call}
 use Rattle.laws_stands_on.proofs.NextCallLemmas.{same_count, same_failed, task_same, tasks_next, tells_next}
-use Rattle.laws_stands_on.proofs.SameGroupLemmas.{groups_as}
+use Rattle.laws_stands.proofs.SameGroupLemmas.{groups_as}
 use Rattle.laws_stands.specs.Once.{IsOnce}
 use Rattle.laws_stands_on.specs.Allows.{AllowsNext}
 use Rattle.laws_stands_after.specs.Disks.{AllowsDisk}

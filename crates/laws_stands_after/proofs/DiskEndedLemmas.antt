@@ -68,7 +68,7 @@ use Rattle.laws_stands_on.proofs.NextCallLemmas.{row_by}
 use Rattle.laws_stands_on.proofs.OnlyCallLemmas.{calls_last, ended_works, ended_works_are, failed_is, failure_is}
 use Rattle.laws_stands_on.proofs.OnlyCallLemmas.{going_same, has_begun, idle_as, one_less_call, other_calls, own_call}
 use Rattle.laws_stands_on.proofs.OnlyCallLemmas.{once_ended, same_count, still, task_same, tells_last}
-use Rattle.laws_stands_on.proofs.SameGroupLemmas.{groups_as}
+use Rattle.laws_stands.proofs.SameGroupLemmas.{groups_as}
 use Rattle.laws_stands_after.specs.Disks.{AllowsDisk}
 
 -- ---- the call

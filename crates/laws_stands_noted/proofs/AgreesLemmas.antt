@@ -246,17 +246,18 @@ module _ (outside : Outside) (m : Moment) (told : Told) (agrees : Agrees m told)
   not_snapshot (entries.Snapshot s) may = absurd may
   not_snapshot entry may = refl
 
+  -- before the entry is told
+  abbrev rest : stop.Stop → Moment
+  rest s = fold taking (with_written m s.wrote) s.took
+
   -- the entry that was kept is known, and each call that is told is of a task that was opened
   pub stop_agrees : (s : stop.Stop) → Stops outside m s → Agrees (stopping m s) (told_kept told s.kept)
   stop_agrees s stops = by s.kept stops.kept
     where
-      abbrev rest : Moment
-      rest = fold taking (with_written m s.wrote) s.took
-
-      known_is : rest.known ≡ m.known
+      known_is : (rest s).known ≡ m.known
       known_is = taken_known (with_written m s.wrote) s.took ∙ (written_same m s.wrote).known
 
-      by : (o : Option Entry) → MayKeep outside m o → Agrees (forgetting (keeping rest o)) (told_kept told o)
+      by : (o : Option Entry) → MayKeep outside m o → Agrees (forgetting (keeping (rest s) o)) (told_kept told o)
       by None may = record {
         known_is = agrees.known_is ∙ sym known_is;
         snapped = subst (λ k. told.snapped ≤ k) (ap (λ k. k.tasks) (sym known_is)) low_snapped;

@@ -36,7 +36,8 @@ use Rattle.laws_facts.specs.OpenCalls.{fits_known, is_on_orphan}
 use Rattle.laws_facts.specs.Owners.{works}
 use Rattle.laws_items.proofs.ItemFrames.{truth_from}
 use Rattle.laws_items.proofs.ListLemmas.{all_from, all_in, among_is}
-use Rattle.laws_items.proofs.ListedLemmas.{Lists, disks, implied, instances, lists, names_its_own}
+use Rattle.laws_items.proofs.ListedLemmas.{Lists, disks as of_none, implied, instances as of_deployment}
+use Rattle.laws_items.proofs.ListedLemmas.{lists, names_its_own}
 use Rattle.laws_items.proofs.OwnerLemmas.{same_owner_is}
 use Rattle.laws_items.specs.Lists.{IsIn}
 use Rattle.laws_stands.proofs.MemberLemmas.{inst_is}
@@ -198,8 +199,8 @@ module _ (m : Moment) (snapped : ℕ) (u : Update) (all : Holds m) (working : wo
       none_in (x ∷ xs) none is = false≢true none
 
       by : Lists (known.task u.task) → AllowsFinish (told_at m snapped) u
-      by (disks it) = absurd (none_in (known.task u.task).changed it.none_changes among)
-      by (instances it) =
+      by (of_none it) = absurd (none_in (known.task u.task).changed it.none_changes among)
+      by (of_deployment it) =
           let current : known.goal (u.inst).dep ≡ (known.task u.task).goal =
           ((facts.tasks u.task).working working).current (u.inst).dep dep in
           let wanted : (want : GoalRow) × (want_in (known.task u.task).goal u.inst ≡ Some want) =

@@ -13,7 +13,6 @@ pub mod NextCallLemmas
 pub mod OnceLemmas
 pub mod OnlyCallLemmas
 pub mod RoomyLemmas
-pub mod SameGroupLemmas
 pub mod TableLemmas
 pub mod UpdateBegunLemmas
 pub mod UploadLemmas

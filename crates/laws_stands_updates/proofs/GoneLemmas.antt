@@ -48,7 +48,7 @@ use Rattle.laws_stands_on.proofs.LinkLemmas.{ListsSame, links_go_on}
 use Rattle.laws_stands_on.proofs.ListedLemmas.{SameListed, listed_goes_on}
 use Rattle.laws_stands_on.proofs.NextCallLemmas.{row_by}
 use Rattle.laws_stands_on.proofs.OnceLemmas.{once_altered}
-use Rattle.laws_stands_on.proofs.SameGroupLemmas.{groups_as}
+use Rattle.laws_stands.proofs.SameGroupLemmas.{groups_as}
 use Rattle.laws_stands_on.proofs.TableLemmas.{nat_at, nat_keys, thing_changed}
 use Rattle.laws_stands_on.proofs.WorksLemmas.{of_task, of_task_is, of_task_same, works_go_on, works_were}
 use Rattle.laws_stands_updates.proofs.InstanceLemmas.{instance_altered, kept_of, part_kept}
