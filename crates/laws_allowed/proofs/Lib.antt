@@ -9,6 +9,7 @@ mod PlaceLemmas
 mod PresentLemmas
 mod SlotLemmas
 mod SweepLemmas
+mod TaskDoneLemmas
 pub mod UpdateLemmas
 mod UploadLemmas
 pub mod WorkingLemmas

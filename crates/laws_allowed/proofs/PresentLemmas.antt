@@ -40,7 +40,7 @@ use Rattle.laws_stands.specs.GroupsStand.{CanUpdate, gone_on, names_of}
 use Rattle.laws_stands.specs.Linked.{same_machine}
 
 -- the phase, by what is over
-abbrev phase_by : Bool → Bool → Bool → Bool → Bool → Option ℕ → Option Phase
+abbrev pub phase_by : Bool → Bool → Bool → Bool → Bool → Option ℕ → Option Phase
 phase_by pings disks sweep compiles obsolete stage =
     if not pings then Some phases.Ask
     else (if not disks then Some phases.DeleteDisks

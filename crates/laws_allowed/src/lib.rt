@@ -86,3 +86,11 @@ pub fn an_instance_that_may_leave_is_allowed_to()
         → MayNote outside m (entries.Gone update) → may_follow m (entries.Gone update) ≡ true
         → allowed records (entries.Gone update) ≡ true }
 {}
+
+/// That a task is done is allowed where it may be noted.
+pub fn a_task_that_may_be_done_is_allowed_to()
+    ensures { (outside : Outside) (m : Moment) (told : Told) (records : Records) (task : ℕ)
+        → Stands told records → Agrees m told → KnownFacts m → m.known.last_call < 18446744073709551615
+        → MayNote outside m (entries.TaskDone task) → may_follow m (entries.TaskDone task) ≡ true
+        → allowed records (entries.TaskDone task) ≡ true }
+{}
