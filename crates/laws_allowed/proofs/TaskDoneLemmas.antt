@@ -1,6 +1,6 @@
 -- That a task is done is allowed where it may be noted.
 use Rattle.std.proofs.Common.{◌≡◌, ◌∙◌, ℕ, ◌<◌, Bool, true, false, ◌&&◌, ◌||◌, not, List, [], ◌∷◌, ◌==◌, filter, map}
-use Rattle.std.proofs.Common.{Option, Some, None, ap, refl, sym, inl, inr}
+use Rattle.std.proofs.Common.{Option, Some, None, ap, arith, refl, sym, inl, inr}
 use Rattle.std.specs.Prelude.{cond, find, is_none, is_some, nat_lt, if◌then◌else◌}
 use Rattle.std.specs.BTreeMap.{is_at}
 use Rattle.std.specs.List.{list_all, list_any}

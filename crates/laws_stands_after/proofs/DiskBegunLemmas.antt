@@ -56,6 +56,7 @@ use Rattle.laws_stands.proofs.SameGroupLemmas.{groups_as}
 use Rattle.laws_stands.specs.Once.{IsOnce}
 use Rattle.laws_stands_on.specs.Allows.{AllowsNext}
 use Rattle.laws_stands_after.specs.Disks.{AllowsDisk}
+use Rattle.laws_stands_on.proofs.TaskLemmas.{dep_recorded}
 
 -- ---- what is planned
 
@@ -196,16 +197,7 @@ module _ (told : Told) (was : Records) (it : Recorded) (n number worker : ℕ) (
       else work_of it t) (nat_at n t)
 
   dep_is : dep_of it n ≡ None
-  dep_is =
-      ap (option_and_then (λ (row : TaskRow). row.dep)) (stands.tasks n
-      ∙ (λ j. if opened (nat_le 1 n) (nat_le n k.tasks) (is_open k n) next.going j then Some (task_row k n)
-      else None))
-      ∙ allows.dep
-    where
-      opened : (a b c : Bool) → (a && (b && c)) ≡ true → (a && b) ≡ true
-      opened true true c is = refl
-      opened true false c is = is
-      opened false b c is = is
+  dep_is = dep_recorded told it n stands next.going ∙ allows.dep
 
   -- the place at which the work of the task lists it
   abbrev places : Places

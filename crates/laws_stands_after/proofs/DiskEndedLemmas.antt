@@ -70,6 +70,7 @@ use Rattle.laws_stands_on.proofs.OnlyCallLemmas.{going_same, has_begun, idle_as,
 use Rattle.laws_stands_on.proofs.OnlyCallLemmas.{once_ended, same_count, still, task_same, tells_last}
 use Rattle.laws_stands.proofs.SameGroupLemmas.{groups_as}
 use Rattle.laws_stands_after.specs.Disks.{AllowsDisk}
+use Rattle.laws_stands_on.proofs.TaskLemmas.{dep_recorded}
 
 -- ---- the call
 
@@ -293,16 +294,7 @@ module _ (told : Told) (was : Records) (it : Recorded) (n number worker : ℕ) (
       by false o = refl
 
   dep_is : dep_of it n ≡ None
-  dep_is =
-      ap (option_and_then (λ (row : TaskRow). row.dep)) (stands.tasks n
-      ∙ (λ j. if opened (nat_le 1 n) (nat_le n k.tasks) (is_open k n)
-      (stands.tells_well.going number b only) j then Some (task_row k n) else None))
-      ∙ allows.dep
-    where
-      opened : (a b c : Bool) → (a && (b && c)) ≡ true → (a && b) ≡ true
-      opened true true c is = refl
-      opened true false c is = is
-      opened false b c is = is
+  dep_is = dep_recorded told it n stands (stands.tells_well.going number b only) ∙ allows.dep
 
   -- the place at which the work of its task lists it
   abbrev listed_at : Option ℕ

@@ -63,6 +63,7 @@ use Rattle.laws_stands_on.proofs.CallLemmas.{inst_flip}
 use Rattle.laws_stands_on.proofs.NextCallLemmas as next_call
 use Rattle.laws_stands_on.proofs.WorkLemmas.{after_call_begun, compiles_itself}
 use Rattle.laws_stands_on.specs.Allows.{AllowsCall, AllowsNext, HasPlaces}
+use Rattle.laws_stands_on.proofs.TaskLemmas.{dep_recorded, part_listed}
 
 -- taking its places changes no list of a work
 lines_same : {T : Type 0} (line : Line T) (o : Option ℕ) → (taken_line line o).items ≡ line.items
@@ -261,16 +262,7 @@ module _ (told : Told) (it : Recorded) (n number worker : ℕ) (call : Call) (i 
       k.machines) (λ it. refl) t)
 
   dep_is : dep_of it n ≡ Some i.dep
-  dep_is =
-      ap (option_and_then (λ (row : TaskRow). row.dep)) (stands.tasks n
-      ∙ (λ j. if opened (nat_le 1 n) (nat_le n k.tasks) (is_open k n) allows.going j then Some (task_row k n)
-      else None))
-      ∙ allows.dep
-    where
-      opened : (a b c : Bool) → (a && (b && c)) ≡ true → (a && b) ≡ true
-      opened true true c is = refl
-      opened true false c is = is
-      opened false b c is = is
+  dep_is = dep_recorded told it n stands allows.going ∙ allows.dep
 
   -- ---- works
 
@@ -286,21 +278,11 @@ module _ (told : Told) (it : Recorded) (n number worker : ℕ) (call : Call) (i 
   places_are : (work : Work) (swept : List MachineName) → work_of it n ≡ Some work
       → StandsFor told (k.task n) n swept work
       → places_in noted (Instance i) ≡ places_of (k.task n) i
-  places_are work swept is work_stands = λ j. record { part = (part_is i ∙ part) j; sweep = None; deleting = None }
-    where
-      part : part_of it i ≡ record {
-        ping = place_of same_inst i (k.task n).to_ping;
-        leaving = place_of same_inst i (k.task n).obsolete;
-        change = change_place (k.task n).changed i;
-      }
-      part = λ j. record {
-        ping = (stands.linked.pings n work i is dep_is ∙ ap (place_of same_inst i) (work_stands.pings).items_are) j;
-        leaving =
-            (stands.linked.leaving n work i is dep_is ∙ ap (place_of same_inst i) (work_stands.obsolete).items_are)
-            j;
-        change = (stands.linked.changes n work i is dep_is
-            ∙ ap (λ changed. change_place changed i) work_stands.changed_are) j;
-      }
+  places_are work swept is work_stands = λ j. record {
+    part = (part_is i ∙ part_listed told it n stands i swept work dep_is is work_stands) j;
+    sweep = None;
+    deleting = None;
+  }
 
   own_work : (o : Option Work) → work_of it n ≡ o → IsWork told n o
       → IsWork new n (option_map (λ work. taken work (places_in noted (Instance i))) o)

@@ -71,6 +71,7 @@ use Rattle.laws_stands_on.specs.Allows.{AllowsEnd}
 use Rattle.laws_stands_on.proofs.OnceLemmas.{once_altered, once_without}
 use Rattle.laws_stands_on.proofs.AnsweredLemmas.{ended_as, ended_work, ends_same, none_built}
 use Rattle.laws_stands_on.proofs.AnsweredLemmas.{none_known, pinged_as, takes_as, takes_ping}
+use Rattle.laws_stands_on.proofs.TaskLemmas.{dep_recorded, part_listed}
 
 module _ (told : Told) (was : Records) (it : Recorded) (n number worker : ℕ) (call : Call) (answer : Answer)
     (i : Inst)
@@ -340,39 +341,15 @@ module _ (told : Told) (was : Records) (it : Recorded) (n number worker : ℕ) (
   going = stands.tells_well.going number b allows.is_open
 
   dep_is : dep_of it n ≡ Some i.dep
-  dep_is =
-      ap (option_and_then (λ (row : TaskRow). row.dep)) (stands.tasks n
-      ∙ (λ j. if opened (nat_le 1 n) (nat_le n k.tasks) (is_open k n) going j then Some (task_row k n)
-      else None))
-      ∙ allows.dep
-    where
-      opened : (a b c : Bool) → (a && (b && c)) ≡ true → (a && b) ≡ true
-      opened true true c is = refl
-      opened true false c is = is
-      opened false b c is = is
+  dep_is = dep_recorded told it n stands going ∙ allows.dep
 
   places_are : (work : Work) (swept : List MachineName) → work_of it n ≡ Some work
       → StandsFor told (k.task n) n swept work → places ≡ places_of (k.task n) i
   places_are work swept is work_stands = λ j. record {
-    part = (closed_part ∙ part) j;
+    part = (closed_part ∙ part_listed told it n stands i swept work dep_is is work_stands) j;
     sweep = None;
-    deleting =
-        None;
+    deleting = None;
   }
-    where
-      part : part_of it i ≡ record {
-        ping = place_of same_inst i (k.task n).to_ping;
-        leaving = place_of same_inst i (k.task n).obsolete;
-        change = change_place (k.task n).changed i;
-      }
-      part = λ j. record {
-        ping = (stands.linked.pings n work i is dep_is ∙ ap (place_of same_inst i) (work_stands.pings).items_are) j;
-        leaving =
-            (stands.linked.leaving n work i is dep_is ∙ ap (place_of same_inst i) (work_stands.obsolete).items_are)
-            j;
-        change = (stands.linked.changes n work i is dep_is
-            ∙ ap (λ changed. change_place changed i) work_stands.changed_are) j;
-      }
 
   failed_is : (work : Work) → work.failed ≡ option_map (end_of k) (k.task n).failed
       → (ended_work asked places fail work).failed ≡ option_map (end_of new.known) (new.known.task n).failed

@@ -34,11 +34,12 @@ use Rattle.laws_stands.specs.Stands.{AreSwept, IsWork, StandsIn, key_of_slot}
 use Rattle.laws_stands.specs.Told.{Told, is_going, telling}
 use Rattle.laws_stands.specs.WorkStands.{StandsFor}
 use Rattle.laws_stands_on.proofs.LinkLemmas.{changed_work, links_go_on}
-use Rattle.laws_stands_on.proofs.ListedLemmas.{SameListed, listed_goes_on}
+use Rattle.laws_stands_on.proofs.ListedLemmas.{SameListed, listed_goes_on, untouched}
 use Rattle.laws_stands_on.proofs.OnceLemmas.{once_altered}
 use Rattle.laws_stands_on.proofs.TableLemmas.{nat_at, nat_keys, thing_changed}
 use Rattle.laws_stands_on.proofs.WorkLemmas.{after_update_begun}
 use Rattle.laws_stands_on.specs.Allows.{AllowsUpdate}
+use Rattle.laws_stands_on.proofs.TaskLemmas.{dep_recorded}
 
 module _ (u : Update) (told : Told) (it : Recorded) (allows : AllowsUpdate told u) (stands : StandsIn told it) where
   abbrev n : ℕ
@@ -80,18 +81,7 @@ module _ (u : Update) (told : Told) (it : Recorded) (allows : AllowsUpdate told 
       else work_of it t) (nat_at n t)
 
   dep_is : dep_of it n ≡ Some i.dep
-  dep_is =
-      ap (option_and_then (λ (row : TaskRow). row.dep))
-      (stands.tasks n ∙ (λ j. if opened j then Some (task_row k n) else None))
-      ∙ allows.dep
-    where
-      opened : (nat_le 1 n && nat_le n k.tasks) ≡ true
-      opened = by (nat_le 1 n) (nat_le n k.tasks) (is_open k n) allows.going
-        where
-          by : (a b c : Bool) → (a && (b && c)) ≡ true → (a && b) ≡ true
-          by true true c is = refl
-          by true false c is = is
-          by false b c is = is
+  dep_is = dep_recorded told it n stands allows.going ∙ allows.dep
 
   -- the work of the task itself
   own_work : (o : Option Work) → work_of it n ≡ o → IsWork told n o
@@ -111,20 +101,7 @@ module _ (u : Update) (told : Told) (it : Recorded) (allows : AllowsUpdate told 
   own_work None is gone = λ later. going_same n ∙ gone later
 
   same_for : (t : ℕ) (swept : List MachineName) → SameListed told new (k.task t) t swept
-  same_for t swept = record {
-    pings = λ j x is. refl;
-    obsolete = λ j x is. refl;
-    changed = λ j x is. refl;
-    disks = λ j d is. refl;
-    orphans = λ j d is. refl;
-    sweep = λ j name is. refl;
-    slots = λ j name is. refl;
-    compiled = λ key. refl;
-    worked = λ key. refl;
-    machines = refl;
-    failed = refl;
-    calls = refl;
-  }
+  same_for t swept = untouched told new.known refl refl refl refl refl refl (k.task t) t swept
 
   -- .. and of another task
   other_work : (t : ℕ) → eqb n t ≡ false → (o : Option Work) → IsWork told t o → IsWork new t o

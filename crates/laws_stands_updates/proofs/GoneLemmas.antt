@@ -45,13 +45,14 @@ use Rattle.laws_stands.specs.Told.{Told, idle_in, is_going}
 use Rattle.laws_stands.specs.WorkStands.{StandsFor}
 use Rattle.laws_stands_on.proofs.CallLemmas.{all_numbered}
 use Rattle.laws_stands_on.proofs.LinkLemmas.{ListsSame, links_go_on}
-use Rattle.laws_stands_on.proofs.ListedLemmas.{SameListed, listed_goes_on}
+use Rattle.laws_stands_on.proofs.ListedLemmas.{SameListed, listed_goes_on, untouched}
 use Rattle.laws_stands_on.proofs.NextCallLemmas.{row_by}
 use Rattle.laws_stands_on.proofs.OnceLemmas.{once_altered}
 use Rattle.laws_stands.proofs.SameGroupLemmas.{groups_as}
 use Rattle.laws_stands_on.proofs.TableLemmas.{nat_at, nat_keys, thing_changed}
 use Rattle.laws_stands_on.proofs.WorksLemmas.{of_task, of_task_is, of_task_same, works_go_on, works_were}
 use Rattle.laws_stands_updates.proofs.InstanceLemmas.{instance_altered, kept_of, part_kept}
+use Rattle.laws_stands_on.proofs.TaskLemmas.{dep_recorded}
 
 -- an instance that goes is among no others
 among_without : (i x : Inst) (xs : List Inst)
@@ -133,16 +134,7 @@ module _ (u : Update) (told : Told) (it : Recorded) (going : is_going told.known
       k.machines) refl x)
 
   dep_is : dep_of it n ≡ Some i.dep
-  dep_is =
-      ap (option_and_then (λ (row : TaskRow). row.dep))
-      (stands.tasks n ∙ (λ j. if opened (nat_le 1 n) (nat_le n k.tasks) (is_open k n) going j then Some (task_row k n)
-      else None))
-      ∙ dep
-    where
-      opened : (a b c : Bool) → (a && (b && c)) ≡ true → (a && b) ≡ true
-      opened true true c is = refl
-      opened true false c is = is
-      opened false b c is = is
+  dep_is = dep_recorded told it n stands going ∙ dep
 
   -- ---- the instance
 
@@ -182,20 +174,7 @@ module _ (u : Update) (told : Told) (it : Recorded) (going : is_going told.known
       ∙ of_task_is n gone x (work_of it x)
 
   same_for : (x : ℕ) (swept : List MachineName) → SameListed told told_gone (k.task x) x swept
-  same_for x swept = record {
-    pings = λ j y is. refl;
-    obsolete = λ j y is. refl;
-    changed = λ j y is. refl;
-    disks = λ j d is. refl;
-    orphans = λ j d is. refl;
-    sweep = λ j name is. refl;
-    slots = λ j name is. refl;
-    compiled = λ key. refl;
-    worked = λ key. refl;
-    machines = refl;
-    failed = refl;
-    calls = refl;
-  }
+  same_for x swept = untouched told told_gone.known refl refl refl refl refl refl (k.task x) x swept
 
   left_as : (x : Inst) → not (at same_inst i true t.gone x) ≡ at same_inst i false (λ x. not (t.gone x)) x
   left_as x = by (same_inst i x)
