@@ -1,7 +1,7 @@
 -- The end of an update that may be noted is allowed, also where a call of the task failed.
-use Rattle.std.proofs.Common.{◌≡◌, ◌∙◌, ℕ, ◌+◌, ◌<◌, Bool, true, false, ◌&&◌, ◌||◌, not, List, [], ◌∷◌, Option, Some}
+use Rattle.std.proofs.Common.{◌≡◌, ◌∙◌, ℕ, ◌+◌, ◌<◌, Bool, true, false, ◌&&◌, ◌||◌, not, Some}
 use Rattle.std.proofs.Common.{None, ap, refl, sym, arith}
-use Rattle.std.specs.Prelude.{is_none, nat_lt, slice_index_or, if◌then◌else◌}
+use Rattle.std.specs.Prelude.{is_none, slice_index_or, if◌then◌else◌}
 use Rattle.std.specs.Option.{option_and_then, option_map_or}
 use Rattle.std.proofs.lemmas.Bool.{and_parts, eq-eqb, false≢true}
 use Rattle.bosh_base.specs.declared.entry.Entry.TheVariants as entries
@@ -12,8 +12,8 @@ use Rattle.bosh_claim.specs.Step.{step_of}
 use Rattle.bosh_claim.specs.Updating.{at_change, ends_in, ends_now, ends_update, if_present, is_in_turn, is_left, is_stage}
 use Rattle.bosh_claim.specs.Updating.{of_present}
 use Rattle.bosh_claim.specs.declared.phase.Phase.TheVariants as phases
-use Rattle.bosh_history.specs.Goals.{canaries_first, changed_in, is_waiting}
-use Rattle.bosh_history.specs.Items.{is_finished, is_to_change, is_to_go, none_left_before, phase_of, stage_of}
+use Rattle.bosh_history.specs.Goals.{changed_in, is_waiting}
+use Rattle.bosh_history.specs.Items.{is_finished, is_to_go, none_left_before, phase_of, stage_of}
 use Rattle.bosh_history.specs.Known.{Known, Task, plan_in, want_in}
 use Rattle.bosh_history.specs.Moments.{Moment}
 use Rattle.bosh_history.specs.Notes.{EndsUpdate}
@@ -26,7 +26,6 @@ use Rattle.bosh_roll.specs.Upd.{is_busy}
 use Rattle.bosh_roll.specs.declared.upd.Upd.{Upd}
 use Rattle.bosh_roll.specs.declared.upd.Upd.TheVariants.{Busy, Failed, Finished, Todo}
 use Rattle.bosh_rows.specs.CallOf.{call_of, next_call}
-use Rattle.bosh_rows.specs.NextStep.{next_step}
 use Rattle.bosh_rows.specs.Same.{same_inst}
 use Rattle.laws_allowed.proofs.PlaceLemmas.{IsPlaced, placed}
 use Rattle.laws_allowed.proofs.PresentLemmas.{unfailed, unfailed_update, updates_now}
@@ -40,7 +39,6 @@ use Rattle.laws_stands.proofs.AskLemmas.{step_is}
 use Rattle.laws_stands.proofs.GroupLemmas.{IsMember, by_item, in_turn_as}
 use Rattle.laws_stands.proofs.MarkLemmas.{at_place}
 use Rattle.laws_stands.proofs.PremiseLemmas.{changing_phase}
-use Rattle.laws_stands.proofs.StageLemmas.{HasLeft}
 use Rattle.laws_stands.specs.Agrees.{Agrees}
 use Rattle.laws_stands.specs.Choosing.{CanChoose, idle_at}
 use Rattle.laws_stands.specs.GroupsStand.{CanUpdate, GroupStands}

@@ -1,5 +1,5 @@
 -- That an instance leaves is allowed where it may be noted, also where a call of the task failed.
-use Rattle.std.proofs.Common.{◌≡◌, ◌∙◌, ℕ, ◌<◌, Bool, true, false, ◌&&◌, not, Option, Some, None, ap, refl, sym, arith}
+use Rattle.std.proofs.Common.{◌≡◌, ◌∙◌, ℕ, ◌<◌, true, false, ◌&&◌, not, Some, None, ap, refl, sym, arith}
 use Rattle.std.specs.Prelude.{is_none, slice_get, if◌then◌else◌}
 use Rattle.std.specs.Option.{option_and_then, option_map_or}
 use Rattle.std.proofs.lemmas.Bool.{and_parts}
@@ -10,14 +10,13 @@ use Rattle.bosh_claim.specs.Phase.{present}
 use Rattle.bosh_claim.specs.Step.{step_of}
 use Rattle.bosh_claim.specs.Updating.{is_leave, leaves, leaves_in}
 use Rattle.bosh_claim.specs.declared.phase.Phase.TheVariants as phases
-use Rattle.bosh_history.specs.Items.{is_to_go, none_left_before, phase_of}
+use Rattle.bosh_history.specs.Items.{none_left_before}
 use Rattle.bosh_history.specs.Known.{Known, Task, want_in}
 use Rattle.bosh_history.specs.Moments.{Moment}
 use Rattle.bosh_history.specs.Notes.{Leaves}
 use Rattle.bosh_history.specs.Recovered.{may_follow}
 use Rattle.bosh_history.specs.Steps.{want_of}
 use Rattle.bosh_history.specs.Words.{holds, is_among}
-use Rattle.bosh_base.specs.declared.owner.Owner.TheVariants.{Instance}
 use Rattle.bosh_records.specs.Readers.{instance_at}
 use Rattle.bosh_records.specs.declared.instances.Instance as instance
 use Rattle.bosh_records.specs.declared.records.Records.{Records}

@@ -1,20 +1,18 @@
 -- That a task is done is allowed where it may be noted.
 use Rattle.std.proofs.Common.{◌≡◌, ◌∙◌, ℕ, ◌<◌, Bool, true, false, ◌&&◌, ◌||◌, not, List, [], ◌∷◌, ◌==◌, filter, map}
 use Rattle.std.proofs.Common.{Option, Some, None, ap, arith, refl, sym, inl, inr}
-use Rattle.std.specs.Prelude.{cond, find, is_none, is_some, nat_lt, if◌then◌else◌}
+use Rattle.std.specs.Prelude.{cond, is_none, is_some, nat_lt, if◌then◌else◌}
 use Rattle.std.specs.BTreeMap.{is_at}
 use Rattle.std.specs.List.{list_all, list_any}
 use Rattle.std.specs.Option.{option_and_then, option_eq, option_map, option_map_or}
-use Rattle.std.specs.Ordering.{nat_cmp}
 use Rattle.std.specs.Str.{bytes_eq}
 use Rattle.std.specs.declared.cmp.Ordering.{Ordering}
-use Rattle.std.proofs.lemmas.Bool.{and_parts, eq-eqb, eqb-true, false≢true, or_cases, true≢false}
+use Rattle.std.proofs.lemmas.Bool.{and_parts, eqb-true, false≢true, or_cases, true≢false}
 use Rattle.std.proofs.lemmas.Bool.Decides.{nat_tests}
 use Rattle.std.proofs.lemmas.Slice.Eq.{bytes_eq-Decides}
 use Rattle.bosh_base.specs.declared.entry.Entry.TheVariants as entries
 use Rattle.bosh_base.specs.declared.failure.Failure.{Failure}
 use Rattle.bosh_base.specs.declared.inst.Inst.{Inst}
-use Rattle.bosh_base.specs.declared.key.Key.{Key}
 use Rattle.bosh_base.specs.declared.key.KeyWork.{KeyWork}
 use Rattle.bosh_base.specs.declared.owner.Owner.TheVariants.{Compile, Disk}
 use Rattle.bosh_base.specs.declared.snapshot.CompileRow.{CompileRow}
@@ -22,8 +20,7 @@ use Rattle.bosh_claim.specs.Ending as ending
 use Rattle.bosh_claim.specs.Ending.{ends_task, has_machine, is_done, is_of}
 use Rattle.bosh_claim.specs.Phase.{has_to_compile, least_stage, present}
 use Rattle.bosh_claim.specs.Phase as phase
-use Rattle.bosh_history.specs.Goals.{is_waiting}
-use Rattle.bosh_history.specs.Items.{is_finished, is_in_deployment, is_leftover, is_slot_left, is_to_ping, slots_of}
+use Rattle.bosh_history.specs.Items.{is_finished, is_in_deployment, is_leftover, is_slot_left, is_to_ping}
 use Rattle.bosh_history.specs.Known.{Known, Slot, SlotName, Task}
 use Rattle.bosh_history.specs.Moments.{Moment}
 use Rattle.bosh_history.specs.Notes.{EndsTask}
@@ -32,7 +29,7 @@ use Rattle.bosh_history.specs.Recovered.{may_follow}
 use Rattle.bosh_history.specs.Slots.{is_compiled, keys_of, may_take, next_key}
 use Rattle.bosh_history.specs.Steps.{is_idle}
 use Rattle.bosh_history.specs.Words.{holds, is_among}
-use Rattle.bosh_records.specs.Readers.{dep_of_task, machine_cmp}
+use Rattle.bosh_records.specs.Readers.{machine_cmp}
 use Rattle.bosh_records.specs.Table.{found, thing_in, things}
 use Rattle.bosh_records.specs.declared.machines.Machine.{Machine}
 use Rattle.bosh_records.specs.declared.records.Records.{Records}
@@ -40,7 +37,7 @@ use Rattle.bosh_rows.proofs.SameLemmas.{itself}
 use Rattle.bosh_rows.specs.Same.{same_inst}
 use Rattle.bosh_work.specs.declared.part.MachineName.{MachineName}
 use Rattle.laws_allowed.proofs.FailureLemmas.{open_is}
-use Rattle.laws_allowed.proofs.ListedLemmas.{kept_none, slot_name, waiting_unfinished}
+use Rattle.laws_allowed.proofs.ListedLemmas.{kept_none, waiting_unfinished}
 use Rattle.laws_allowed.proofs.PresentLemmas.{phase_by}
 use Rattle.laws_allowed.proofs.WorkingLemmas.{IsAtWork, at_work}
 use Rattle.laws_choices.proofs.ReadLemmas.{dep_is}
@@ -70,11 +67,11 @@ use Rattle.laws_stands_on.proofs.TableLemmas.{TellsKeys}
 -- ---- what stands in a table stands at a key
 
 pub record StandsAt {K V : Type 0} (cmp : K → K → Ordering) (places : List (K × Option V)) (test : V → Bool) : Type 0
-    where
-  pub key : K
-  pub value : V
-  pub there : thing_in cmp places key ≡ Some value
-  pub passes : test value ≡ true
+  where
+    pub key : K
+    pub value : V
+    pub there : thing_in cmp places key ≡ Some value
+    pub passes : test value ≡ true
 
 stands_at : {K V : Type 0} (cmp : K → K → Ordering) → TellsKeys cmp → ((k : K) → is_at (cmp k) k ≡ true)
     → (places : List (K × Option V)) → IsOnce cmp places → (test : V → Bool)

@@ -1,7 +1,7 @@
 -- A call of a disk that belongs to no instance begins.
 use Rattle.std.proofs.Common.{◌≡◌, ◌∙◌, ℕ, ◌+◌, Bool, true, false, ◌&&◌, not, List, ◌==◌, filter, map}
 use Rattle.std.proofs.Common.{Option, Some, None, ap, refl, sym, subst}
-use Rattle.std.specs.Prelude.{eqb, is_some, min, nat_le, if◌then◌else◌}
+use Rattle.std.specs.Prelude.{eqb, is_some, min, if◌then◌else◌}
 use Rattle.std.specs.Option.{option_and_then, option_map}
 use Rattle.std.specs.Ordering.{nat_cmp}
 use Rattle.std.proofs.lemmas.Bool.{eq-eqb, eqb-true, false≢true}
@@ -10,15 +10,12 @@ use Rattle.bosh_base.specs.declared.call.Call.TheVariants.{DeleteDisk}
 use Rattle.bosh_base.specs.declared.entry.Begin.{Begin}
 use Rattle.bosh_base.specs.declared.entry.Entry.TheVariants as entries
 use Rattle.bosh_base.specs.declared.owner.Owner.TheVariants.{Compile, Disk, Instance}
-use Rattle.bosh_base.specs.declared.task.TaskRow.{TaskRow}
 use Rattle.bosh_compile.specs.Readiness.{same_key}
 use Rattle.bosh_fold.specs.Calls.{counted, noted_call, opened_call, taken_by, with_call, with_subject}
 use Rattle.bosh_history.specs.Calls.{orphan_begun, task_with_call}
-use Rattle.bosh_history.specs.Held.{is_open}
 use Rattle.bosh_history.specs.Items.{is_in_deployment}
 use Rattle.bosh_history.specs.Known.{Known, SlotName, Task}
 use Rattle.bosh_history.specs.Slots.{keys_of}
-use Rattle.bosh_history.specs.Snapshots.{task_row}
 use Rattle.bosh_history.specs.Words.{at}
 use Rattle.bosh_plan.specs.Begun.{subject_of}
 use Rattle.bosh_progress.specs.Tree.{first_marked}
@@ -405,20 +402,20 @@ module _ (told : Told) (was : Records) (it : Recorded) (n number worker : ℕ) (
     };
     tells_well = let tells : TellsWell _ = tells_next told it b next stands k.instances (λ i is. is) (λ i own. absurd cc)
         in record {
-      number = tells.number;
-      low = tells.low;
-      past = tells.past;
-      begun = tells.begun;
-      begun_past = tells.begun_past;
-      failed = tells.failed;
-      going = tells.going;
-      one_owner = tells.one_owner;
-      one_key = tells.one_key;
-      recorded = tells.recorded;
-      counted = tells.counted;
-      disks_apart = tells.disks_apart;
-      updates = tells.updates;
-    };
+          number = tells.number;
+          low = tells.low;
+          past = tells.past;
+          begun = tells.begun;
+          begun_past = tells.begun_past;
+          failed = tells.failed;
+          going = tells.going;
+          one_owner = tells.one_owner;
+          one_key = tells.one_key;
+          recorded = tells.recorded;
+          counted = tells.counted;
+          disks_apart = tells.disks_apart;
+          updates = tells.updates;
+        };
   }
 
   -- .. as it is learned

@@ -14,18 +14,15 @@ use Rattle.bosh_base.specs.declared.entry.Entry.TheVariants as entries
 use Rattle.bosh_base.specs.declared.inst.Inst.{Inst}
 use Rattle.bosh_base.specs.declared.owner.Owner.TheVariants.{Compile, Disk, Instance}
 use Rattle.bosh_base.specs.declared.task.TaskEnd.{TaskEnd}
-use Rattle.bosh_base.specs.declared.task.TaskRow.{TaskRow}
 use Rattle.bosh_compile.specs.Readiness.{same_key}
 use Rattle.bosh_fold.specs.Calls.{closed_call, disk_told, ended_by, ended_in, failed_in, given_by, other_told}
 use Rattle.bosh_fold.specs.Calls.{pinged_by}
 use Rattle.bosh_history.specs.Calls as known_calls
 use Rattle.bosh_history.specs.Calls.{call_ended, least_failure, orphan_after, orphan_told, shows_gone, shows_there}
 use Rattle.bosh_history.specs.Calls.{task_after_ping, task_told}
-use Rattle.bosh_history.specs.Held.{is_open}
 use Rattle.bosh_history.specs.Items.{is_in_deployment}
 use Rattle.bosh_history.specs.Known.{Known, SlotName, Task}
 use Rattle.bosh_history.specs.Slots.{keys_of}
-use Rattle.bosh_history.specs.Snapshots.{task_row}
 use Rattle.bosh_history.specs.Steps.{compiles}
 use Rattle.bosh_history.specs.Words as words
 use Rattle.bosh_history.specs.Words.{at, holds, is_among}

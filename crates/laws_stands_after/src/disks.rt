@@ -16,7 +16,6 @@ ghost use Rattle.laws_stands.specs.Stands.{Stands, StandsIn};
 ghost use Rattle.laws_stands.specs.Told.{Told, telling};
 ghost use Rattle.laws_stands_after.specs.Disks.{AllowsDisk};
 ghost use Rattle.laws_stands_on.specs.Allows.{AllowsNext};
-ghost use Rattle.laws_stands.specs.Once.{IsOnce};
 
 /// It stands after a call of a disk began that may begin, as it was planned, where there is a place for the call.
 pub fn what_is_recorded_stands_after_a_call_of_a_disk_begins()

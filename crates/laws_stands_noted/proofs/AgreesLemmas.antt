@@ -1,12 +1,11 @@
 -- What is told goes on to agree with a moment, move by move.
-use Rattle.std.proofs.Common.{◌≡◌, ◌∙◌, ℕ, ◌≤◌, Bool, true, false, ◌&&◌, not, List, [], ◌∷◌, Option, Some, None, ap, refl}
+use Rattle.std.proofs.Common.{◌≡◌, ◌∙◌, ℕ, ◌≤◌, Bool, true, false, not, List, [], ◌∷◌, Option, Some, None, ap, refl}
 use Rattle.std.proofs.Common.{arith, subst, sym}
 use Rattle.std.specs.Prelude.{◌==◌, eqb, fold, nat_le, if◌then◌else◌}
-use Rattle.std.specs.List.{list_all, list_any}
-use Rattle.std.specs.Option.{option_and_then, option_map}
-use Rattle.std.proofs.lemmas.Bool.{and_parts, eq-eqb, eqb-true, false≢true, leb-true, true≢false}
+use Rattle.std.specs.List.{list_any}
+use Rattle.std.specs.Option.{option_map}
+use Rattle.std.proofs.lemmas.Bool.{and_parts, eqb-true, false≢true, leb-true}
 use Rattle.bosh_base.specs.Cloud.{numbers_to}
-use Rattle.bosh_base.specs.declared.answer.Answer.TheVariants as answers
 use Rattle.bosh_base.specs.declared.entry.Begin.{Begin}
 use Rattle.bosh_base.specs.declared.entry.Entry.{Entry}
 use Rattle.bosh_base.specs.declared.entry.Entry.TheVariants as entries
@@ -20,7 +19,7 @@ use Rattle.bosh_history.specs.Moments.{Moment, OpenCall, calls_after, forgetting
 use Rattle.bosh_history.specs.Moments.{performing, stopping, taking, with_written, writing}
 use Rattle.bosh_history.specs.Notes.{MayNote, Outside}
 use Rattle.bosh_history.specs.Permitted.{IsPermitted, MayKeep, Stops}
-use Rattle.bosh_history.specs.Words.{at, holds}
+use Rattle.bosh_history.specs.Words.{holds}
 use Rattle.laws_claims.proofs.FactLemmas.{call_numbered}
 use Rattle.laws_facts.proofs.LossLemmas.{tasks_grow}
 use Rattle.laws_facts.specs.KnownFacts.{KnownFacts}

@@ -11,14 +11,13 @@ use Rattle.bosh_base.specs.declared.owner.Owner.TheVariants.{Disk, Instance}
 use Rattle.bosh_fold.specs.Calls.{begun_in}
 use Rattle.bosh_fold.specs.Learned.{learned}
 use Rattle.bosh_fold.specs.Learns.{Learns}
-use Rattle.bosh_fold.specs.Planned.{IsBeginning, IsPlanned}
+use Rattle.bosh_fold.specs.Planned.{IsBeginning}
 use Rattle.bosh_fold.specs.declared.change.Change.{Change}
 use Rattle.bosh_fold.specs.declared.change.Change.TheVariants as changes
 use Rattle.bosh_history.specs.Moments.{Moment}
 use Rattle.bosh_history.specs.Notes.{Begins}
 use Rattle.bosh_history.specs.Recovered.{may_follow}
 use Rattle.bosh_plan.specs.Begun.{subject_of}
-use Rattle.bosh_plan.specs.Roomy.{roomy_for_call}
 use Rattle.bosh_plan.specs.declared.beginning.Subject.{Subject}
 use Rattle.bosh_plan.specs.declared.beginning.Subject.TheVariants as subjects
 use Rattle.bosh_records.specs.Recorded.{Recorded, recorded}

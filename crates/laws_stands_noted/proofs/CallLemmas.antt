@@ -1,9 +1,9 @@
 -- A call of an instance or of a disk that may be noted is one after which what is recorded stands.
-use Rattle.std.proofs.Common.{◌≡◌, ◌∙◌, ℕ, ◌+◌, ◌<◌, ◌≤◌, Bool, true, false, ◌&&◌, not, List, Option, Some, None}
-use Rattle.std.proofs.Common.{ap, refl, sym, subst, arith}
-use Rattle.std.specs.Prelude.{◌==◌, eqb, is_some, if◌then◌else◌}
+use Rattle.std.proofs.Common.{◌≡◌, ◌∙◌, ℕ, ◌+◌, ◌<◌, ◌≤◌, Bool, true, false, ◌&&◌, Option, Some, None}
+use Rattle.std.proofs.Common.{ap, refl, sym, arith}
+use Rattle.std.specs.Prelude.{eqb, is_some, if◌then◌else◌}
 use Rattle.std.specs.Option.{option_eq, option_map}
-use Rattle.std.proofs.lemmas.Bool.{and_parts, eqb-true, false≢true, true≢false}
+use Rattle.std.proofs.lemmas.Bool.{and_parts, false≢true, true≢false}
 use Rattle.bosh_base.specs.ExactParts.{Decides-call}
 use Rattle.bosh_base.specs.declared.call.Call.{Call}
 use Rattle.bosh_base.specs.declared.call.Call.TheVariants as calls
@@ -15,7 +15,7 @@ use Rattle.bosh_base.specs.declared.owner.Owner.TheVariants.{Disk, Instance}
 use Rattle.bosh_base.specs.declared.row.Row.{Row}
 use Rattle.bosh_base.specs.declared.row.Vm.{Vm}
 use Rattle.bosh_base.specs.declared.snapshot.Orphan.{Orphan}
-use Rattle.bosh_history.specs.Items.{is_item, is_to_ping, phase_of}
+use Rattle.bosh_history.specs.Items.{is_item, is_to_ping}
 use Rattle.bosh_history.specs.Known.{Known, Task}
 use Rattle.bosh_history.specs.Moments.{Moment, OpenCall}
 use Rattle.bosh_history.specs.Notes.{Begins}
@@ -30,11 +30,11 @@ use Rattle.laws_claims.proofs.OwnLemmas.{dep_of_instance}
 use Rattle.laws_facts.proofs.InstanceLemmas.{after_own}
 use Rattle.laws_facts.specs.CallFacts.{CallFacts}
 use Rattle.laws_facts.specs.KnownFacts.{KnownFacts}
-use Rattle.laws_facts.specs.OpenCalls.{call_of_row, fits_known, fits_row, is_on_orphan}
+use Rattle.laws_facts.specs.OpenCalls.{call_of_row, fits_known, is_on_orphan}
 use Rattle.laws_facts.specs.Owners.{works}
 use Rattle.laws_items.proofs.ListedLemmas.{names_its_own}
 use Rattle.laws_items.proofs.PhaseLemmas.{IsLeft, of_item}
-use Rattle.laws_items.proofs.PingLemmas.{IsPlain, is_compilation, plain_call}
+use Rattle.laws_items.proofs.PingLemmas.{is_compilation, plain_call}
 use Rattle.laws_row_facts.specs.Calls.{row_before}
 use Rattle.laws_row_facts.specs.Words.{same_call}
 use Rattle.laws_stands_after.specs.Disks.{AllowsDisk}

@@ -1,7 +1,6 @@
 -- The end of a call of an instance or of a disk, as it is learned.
-use Rattle.std.proofs.Common.{◌≡◌, ◌∙◌, ℕ, Option, Some, None, ap, refl, sym, subst}
+use Rattle.std.proofs.Common.{◌≡◌, ◌∙◌, ℕ, Some, ap, sym, subst}
 use Rattle.bosh_base.specs.declared.answer.Answer.{Answer}
-use Rattle.bosh_base.specs.declared.call.Call.{Call}
 use Rattle.bosh_base.specs.declared.entry.Begin.{Begin}
 use Rattle.bosh_base.specs.declared.entry.End.{End}
 use Rattle.bosh_base.specs.declared.entry.Entry.TheVariants as entries
@@ -11,7 +10,6 @@ use Rattle.bosh_fold.specs.Calls.{ended_in}
 use Rattle.bosh_fold.specs.Learned.{learned}
 use Rattle.bosh_fold.specs.Learns.{Learns}
 use Rattle.bosh_fold.specs.declared.change.Change.{Change}
-use Rattle.bosh_fold.specs.declared.change.Change.TheVariants as changes
 use Rattle.bosh_history.specs.Moments.{Moment, OpenCall}
 use Rattle.bosh_plan.specs.Ended.{ended_of}
 use Rattle.bosh_records.specs.Recorded.{recorded}

@@ -10,7 +10,7 @@ use Rattle.bosh_fold.specs.declared.change.Change.{Change}
 use Rattle.bosh_history.specs.Moments.{Moment}
 use Rattle.bosh_history.specs.Notes.{BeginsUpdate, EndsUpdate, Leaves}
 use Rattle.bosh_history.specs.Recovered.{may_follow}
-use Rattle.bosh_records.specs.Recorded.{Recorded, recorded}
+use Rattle.bosh_records.specs.Recorded.{recorded}
 use Rattle.bosh_records.specs.declared.records.Records.{Records}
 use Rattle.laws_allowed.proofs.WorkingLemmas.{at_work}
 use Rattle.laws_choices.proofs.SameCallLemmas.{told_at, told_is}
@@ -63,42 +63,42 @@ module _ (told : Told) (was now : Records) (stands : Stands told was) where
 -- ---- updates
 
 module _ (m : Moment) (told : Told) (was now : Records) (u : Update) (stands : Stands told was) (agrees : Agrees m told)
-    where
-  told_now : KnownFacts m → works m u.task ≡ true → told_at m told.snapped ≡ told
-  told_now facts working = sym (told_is m told u.task facts working agrees stands.tells_well)
+  where
+    told_now : KnownFacts m → works m u.task ≡ true → told_at m told.snapped ≡ told
+    told_now facts working = sym (told_is m told u.task facts working agrees stands.tells_well)
 
-  pub update_begins : KnownFacts m → m.known.last_call < 18446744073709551615 → BeginsUpdate m u
-      → may_follow m (entries.UpdBegin u) ≡ true → Learns was (entries.UpdBegin u) now
-      → Stands (telling told (entries.UpdBegin u)) now
-  update_begins facts numbers noted follows learns =
-      subst (StandsIn (telling told (entries.UpdBegin u))) (sym learns.is_learned)
-      (subst (λ (change : Change). StandsIn (telling told (entries.UpdBegin u))
-      (learned (entries.UpdBegin u) change (recorded learns.roomy))) (sym learns.planned)
-      (after_begun u told (recorded learns.roomy)
-      (subst (λ told. AllowsUpdate told u) (told_now facts working)
-      (allows_update m was u (at_work m told was u.task facts stands agrees working) facts working numbers noted
-      told.snapped))
-      (roomy_stands told was (entries.UpdBegin u) now learns stands)))
-    where
-      working : works m u.task ≡ true
-      working = done_works m u.task follows noted.is_open
+    pub update_begins : KnownFacts m → m.known.last_call < 18446744073709551615 → BeginsUpdate m u
+        → may_follow m (entries.UpdBegin u) ≡ true → Learns was (entries.UpdBegin u) now
+        → Stands (telling told (entries.UpdBegin u)) now
+    update_begins facts numbers noted follows learns =
+        subst (StandsIn (telling told (entries.UpdBegin u))) (sym learns.is_learned)
+        (subst (λ (change : Change). StandsIn (telling told (entries.UpdBegin u))
+        (learned (entries.UpdBegin u) change (recorded learns.roomy))) (sym learns.planned)
+        (after_begun u told (recorded learns.roomy)
+        (subst (λ told. AllowsUpdate told u) (told_now facts working)
+        (allows_update m was u (at_work m told was u.task facts stands agrees working) facts working numbers noted
+        told.snapped))
+        (roomy_stands told was (entries.UpdBegin u) now learns stands)))
+      where
+        working : works m u.task ≡ true
+        working = done_works m u.task follows noted.is_open
 
-  pub update_done : Holds m → EndsUpdate m u → may_follow m (entries.UpdDone u) ≡ true
-      → Learns was (entries.UpdDone u) now → Stands (telling told (entries.UpdDone u)) now
-  update_done all noted follows learns =
-      after_update_done u told was now
-      (subst (λ told. AllowsFinish told u) (told_now all.known working)
-      (allows_finish m told.snapped u all working noted)) learns stands
-    where
-      working : works m u.task ≡ true
-      working = done_works m u.task follows noted.is_open
+    pub update_done : Holds m → EndsUpdate m u → may_follow m (entries.UpdDone u) ≡ true
+        → Learns was (entries.UpdDone u) now → Stands (telling told (entries.UpdDone u)) now
+    update_done all noted follows learns =
+        after_update_done u told was now
+        (subst (λ told. AllowsFinish told u) (told_now all.known working)
+        (allows_finish m told.snapped u all working noted)) learns stands
+      where
+        working : works m u.task ≡ true
+        working = done_works m u.task follows noted.is_open
 
-  pub instance_leaves : Holds m → Leaves m u → may_follow m (entries.Gone u) ≡ true → Learns was (entries.Gone u) now
-      → Stands (telling told (entries.Gone u)) now
-  instance_leaves all noted follows learns =
-      after_gone u told was now
-      (subst (λ told. AllowsLeave told u) (told_now all.known working)
-      (allows_leave m told.snapped u all working noted)) learns stands
-    where
-      working : works m u.task ≡ true
-      working = done_works m u.task follows noted.is_open
+    pub instance_leaves : Holds m → Leaves m u → may_follow m (entries.Gone u) ≡ true → Learns was (entries.Gone u) now
+        → Stands (telling told (entries.Gone u)) now
+    instance_leaves all noted follows learns =
+        after_gone u told was now
+        (subst (λ told. AllowsLeave told u) (told_now all.known working)
+        (allows_leave m told.snapped u all working noted)) learns stands
+      where
+        working : works m u.task ≡ true
+        working = done_works m u.task follows noted.is_open

@@ -1,8 +1,8 @@
 -- What is known of the tasks that work, as it is told: which are open, and which instances and disks no other one lists.
-use Rattle.std.proofs.Common.{◌≡◌, ◌∙◌, ℕ, ◌<◌, ◌≤◌, Bool, true, false, ◌&&◌, not, List, [], ◌∷◌, Some, None, ap, refl}
+use Rattle.std.proofs.Common.{◌≡◌, ◌∙◌, ℕ, ◌≤◌, Bool, true, false, ◌&&◌, not, List, [], ◌∷◌, Some, None, refl}
 use Rattle.std.proofs.Common.{arith, sym}
-use Rattle.std.specs.Prelude.{◌==◌, eqb, is_some, nat_le, nat_lt}
-use Rattle.std.specs.List.{list_all, list_any}
+use Rattle.std.specs.Prelude.{eqb, is_some, nat_le, nat_lt}
+use Rattle.std.specs.List.{list_all}
 use Rattle.std.specs.Str.{bytes_eq}
 use Rattle.std.proofs.lemmas.Bool.{and_from, and_parts, eq-eqb, false≢true, le-leb, leb-true, true≢false}
 use Rattle.std.proofs.lemmas.Bool.Decides.{nat_tests}
@@ -14,7 +14,6 @@ use Rattle.bosh_history.specs.Goals.{is_in}
 use Rattle.bosh_history.specs.Held.{is_open}
 use Rattle.bosh_history.specs.Known.{Known, Task}
 use Rattle.bosh_history.specs.Moments.{Moment}
-use Rattle.bosh_history.specs.Recovered.{is_recovering}
 use Rattle.bosh_history.specs.Words.{holds, is_among}
 use Rattle.bosh_rows.specs.Same.{same_inst}
 use Rattle.bosh_rows.specs.SoundSnapshot.{are_distinct}

@@ -1,9 +1,9 @@
 -- An update of an instance that may begin or be done, and an instance that may leave, is one after which what is recorded
 -- stands.
 use Rattle.std.proofs.Common.{◌≡◌, ◌∙◌, ℕ, ◌<◌, zero, suc, Bool, true, false, ◌&&◌, ◌||◌, not, List, [], ◌∷◌, Option, Some, None}
-use Rattle.std.proofs.Common.{ap, refl, sym, subst}
-use Rattle.std.specs.Prelude.{◌==◌, eqb, is_some, map, slice_get}
-use Rattle.std.specs.List.{list_all, list_any}
+use Rattle.std.proofs.Common.{ap, refl, sym}
+use Rattle.std.specs.Prelude.{◌==◌, eqb, is_some, slice_get}
+use Rattle.std.specs.List.{list_any}
 use Rattle.std.specs.Option.{option_map}
 use Rattle.std.specs.Str.{bytes_eq}
 use Rattle.std.proofs.lemmas.Bool.{and_parts, eq-eqb, false≢true, true≢false}
@@ -17,7 +17,7 @@ use Rattle.bosh_base.specs.declared.owner.Owner.TheVariants.{Disk, Instance}
 use Rattle.bosh_base.specs.declared.row.DiskRow.{DiskRow}
 use Rattle.bosh_base.specs.declared.snapshot.Orphan.{Orphan}
 use Rattle.bosh_history.specs.Goals.{is_in}
-use Rattle.bosh_history.specs.Items.{is_finished, is_to_change, is_to_go}
+use Rattle.bosh_history.specs.Items.{is_finished}
 use Rattle.bosh_history.specs.Known.{Known, want_in}
 use Rattle.bosh_history.specs.Moments.{Moment, OpenCall}
 use Rattle.bosh_history.specs.Notes.{BeginsUpdate, EndsUpdate, Leaves}

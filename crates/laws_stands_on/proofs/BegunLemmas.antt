@@ -1,7 +1,7 @@
 -- A call of an instance begins.
 use Rattle.std.proofs.Common.{◌≡◌, ◌∙◌, ℕ, Bool, true, false, ◌&&◌, ◌||◌, not, List}
 use Rattle.std.proofs.Common.{◌==◌, filter, map, Option, Some, None, ap, refl, sym, subst}
-use Rattle.std.specs.Prelude.{eqb, is_some, nat_le, slice_get, if◌then◌else◌}
+use Rattle.std.specs.Prelude.{eqb, is_some, slice_get, if◌then◌else◌}
 use Rattle.std.specs.Option.{option_and_then, option_map, option_map_or, unwrap_or}
 use Rattle.std.specs.Ordering.{nat_cmp}
 use Rattle.std.proofs.lemmas.Bool.{eqb-true, false≢true}
@@ -14,16 +14,13 @@ use Rattle.bosh_base.specs.declared.inst.Inst.{Inst}
 use Rattle.bosh_base.specs.declared.key.Key.{Key}
 use Rattle.bosh_base.specs.declared.owner.Owner.TheVariants.{Compile, Disk, Instance}
 use Rattle.bosh_base.specs.declared.row.Row.{Row}
-use Rattle.bosh_base.specs.declared.task.TaskRow.{TaskRow}
 use Rattle.bosh_compile.specs.Readiness.{same_key}
 use Rattle.bosh_fold.specs.Calls.{counted, noted_call, opened_call, taken_by, with_call, with_compiling, with_row}
 use Rattle.bosh_fold.specs.Calls.{with_subject}
 use Rattle.bosh_history.specs.Calls.{task_with_call}
-use Rattle.bosh_history.specs.Held.{is_open}
 use Rattle.bosh_history.specs.Items.{is_in_deployment}
 use Rattle.bosh_history.specs.Known.{Known, SlotName, Task}
 use Rattle.bosh_history.specs.Slots.{keys_of}
-use Rattle.bosh_history.specs.Snapshots.{task_row}
 use Rattle.bosh_history.specs.Steps.{compiles}
 use Rattle.bosh_history.specs.Words.{at, inserted, is_among}
 use Rattle.bosh_plan.specs.declared.beginning.Subject.TheVariants as subjects
@@ -47,8 +44,6 @@ use Rattle.laws_facts.proofs.InstanceLemmas.{inst_equal}
 use Rattle.laws_facts.proofs.OrderLemmas.{any_inserted}
 use Rattle.laws_stands.proofs.MemberLemmas.{inst_is}
 use Rattle.laws_stands.proofs.PremiseLemmas.{none_at}
-use Rattle.laws_stands.specs.GroupsStand.{change_place}
-use Rattle.laws_stands.specs.LineStands.{place_of}
 use Rattle.laws_stands.specs.Reading.{dep_of, instance_of, row_of, work_of}
 use Rattle.laws_stands.specs.Stands.{AreSwept, IsWork, StandsIn, arrivals_of, call_of, key_of_slot}
 use Rattle.laws_stands.specs.Told.{TellsWell, Told, idle_in, is_going, telling}
@@ -396,20 +391,20 @@ module _ (told : Told) (it : Recorded) (n number worker : ℕ) (call : Call) (i 
     tells_well = let tells : TellsWell _ = next_call.tells_next told it b next stands (inserted inst_cmp i k.instances)
         (λ x is. among_is x ∙ or_true (same_inst x i) (is_among same_inst x k.instances) is)
         (λ x own. among_is x ∙ own_first x own) in record {
-      number = tells.number;
-      low = tells.low;
-      past = tells.past;
-      begun = tells.begun;
-      begun_past = tells.begun_past;
-      failed = tells.failed;
-      going = tells.going;
-      one_owner = tells.one_owner;
-      one_key = tells.one_key;
-      recorded = tells.recorded;
-      counted = tells.counted;
-      disks_apart = tells.disks_apart;
-      updates = tells.updates;
-    };
+          number = tells.number;
+          low = tells.low;
+          past = tells.past;
+          begun = tells.begun;
+          begun_past = tells.begun_past;
+          failed = tells.failed;
+          going = tells.going;
+          one_owner = tells.one_owner;
+          one_key = tells.one_key;
+          recorded = tells.recorded;
+          counted = tells.counted;
+          disks_apart = tells.disks_apart;
+          updates = tells.updates;
+        };
   }
 
   -- .. as it is learned

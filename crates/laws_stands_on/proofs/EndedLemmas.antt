@@ -16,17 +16,14 @@ use Rattle.bosh_base.specs.declared.inst.Inst.{Inst}
 use Rattle.bosh_base.specs.declared.owner.Owner.TheVariants.{Compile, Disk, Instance}
 use Rattle.bosh_base.specs.declared.row.Row.{Row}
 use Rattle.bosh_base.specs.declared.task.TaskEnd.{TaskEnd}
-use Rattle.bosh_base.specs.declared.task.TaskRow.{TaskRow}
 use Rattle.bosh_compile.specs.Readiness.{same_key}
 use Rattle.bosh_fold.specs.Calls.{closed_call, ended_by, ended_in, failed_in, given_by}
 use Rattle.bosh_fold.specs.Calls.{pinged_by, with_call, with_row}
 use Rattle.bosh_history.specs.Calls as known_calls
 use Rattle.bosh_history.specs.Calls.{call_ended, least_failure, number_of, task_told}
-use Rattle.bosh_history.specs.Held.{is_open}
 use Rattle.bosh_history.specs.Items.{is_in_deployment}
 use Rattle.bosh_history.specs.Known.{Known, SlotName, Task}
 use Rattle.bosh_history.specs.Slots.{keys_of}
-use Rattle.bosh_history.specs.Snapshots.{task_row}
 use Rattle.bosh_history.specs.Steps.{compiles}
 use Rattle.bosh_history.specs.Words.{at, holds, is_among}
 use Rattle.bosh_plan.specs.Ended as planned
@@ -51,8 +48,6 @@ use Rattle.bosh_work.specs.declared.part.Places.{Places}
 use Rattle.bosh_work.specs.declared.work.Work.{Work}
 use Rattle.laws_stands.proofs.MemberLemmas.{inst_is}
 use Rattle.laws_stands.proofs.PremiseLemmas.{none_at}
-use Rattle.laws_stands.specs.GroupsStand.{change_place}
-use Rattle.laws_stands.specs.LineStands.{place_of}
 use Rattle.laws_stands.specs.Reading.{dep_of, instance_of, row_of, work_of}
 use Rattle.laws_stands.specs.Stands.{AreSwept, IsWork, Stands, StandsIn, call_of, key_of_slot}
 use Rattle.laws_stands.specs.Told.{TellsWell, Told, idle_in, is_going, is_idle, telling}

@@ -1,5 +1,5 @@
 -- A call of any owner begins: what is told of it and of its task.
-use Rattle.std.proofs.Common.{◌≡◌, ◌∙◌, ℕ, ◌+◌, ◌<◌, ◌≤◌, suc, Bool, true, false, ◌&&◌, not, List}
+use Rattle.std.proofs.Common.{◌≡◌, ◌∙◌, ℕ, ◌+◌, ◌≤◌, suc, Bool, true, false, ◌&&◌, not, List}
 use Rattle.std.proofs.Common.{◌==◌, Option, Some, None, add-one, ap, refl, subst, sym, arith}
 use Rattle.std.specs.Prelude.{cond, count_by, eqb, is_some, min, nat_le, if◌then◌else◌}
 use Rattle.std.specs.Option.{option_and_then, option_map, option_or}

@@ -1,6 +1,5 @@
 -- What changes in a table leaves each key once.
 use Rattle.std.proofs.Common.{◌≡◌, ◌∙◌, Bool, true, false, List, [], ◌∷◌, filter, Option, Some, None, ap, refl, sym}
-use Rattle.std.proofs.Common.{ℕ, map}
 use Rattle.std.specs.Prelude.{cond, fold, is_some, if◌then◌else◌}
 use Rattle.std.specs.BTreeMap.{insert_entry, is_at}
 use Rattle.std.specs.Map.{keys_of, lookup, remove_entry, set_value}
@@ -8,9 +7,9 @@ use Rattle.std.specs.Option.{option_map_or}
 use Rattle.std.specs.Ordering.{is_eq, match_ordering}
 use Rattle.std.specs.declared.cmp.Ordering.{Ordering}
 use Rattle.std.specs.declared.cmp.Ordering.TheVariants.{Equal, Greater, Less}
-use Rattle.std.proofs.lemmas.Bool.{false≢true, true≢false}
+use Rattle.std.proofs.lemmas.Bool.{true≢false}
 use Rattle.std.proofs.lemmas.Map.{keys-set_value}
-use Rattle.bosh_records.specs.Table.{altered, changed, each_thing, found, put_at, with_room, without}
+use Rattle.bosh_records.specs.Table.{altered, each_thing, found, with_room, without}
 use Rattle.laws_stands.specs.Once.{IsOnce}
 use Rattle.laws_stands_on.proofs.TableLemmas.{TellsKeys}
 

@@ -1,7 +1,6 @@
 -- The room that is made for an entry: what is recorded stands with it, and there is a place for what the entry brings.
-use Rattle.std.proofs.Common.{◌≡◌, ◌∙◌, ℕ, List, Option, Some, None, ap, refl, subst, sym, true}
+use Rattle.std.proofs.Common.{◌≡◌, ◌∙◌, ℕ, List, Option, Some, None, refl, subst, sym, true}
 use Rattle.std.specs.Prelude.{is_some}
-use Rattle.std.specs.BTreeMap.{is_at}
 use Rattle.std.specs.Ordering.{nat_cmp}
 use Rattle.std.proofs.lemmas.Bool.{eq-eqb}
 use Rattle.bosh_base.specs.Inst.{inst_cmp}
@@ -18,7 +17,7 @@ use Rattle.bosh_base.specs.declared.snapshot.Orphan.{Orphan}
 use Rattle.bosh_fold.specs.Learns.{Learns}
 use Rattle.bosh_fold.specs.Planned.{roomy_for}
 use Rattle.bosh_plan.specs.Roomy.{disk_room, key_room, roomy_for_call, roomy_for_deployment, roomy_for_disks}
-use Rattle.bosh_plan.specs.Roomy.{roomy_for_owner, roomy_for_task, want_room}
+use Rattle.bosh_plan.specs.Roomy.{roomy_for_owner, want_room}
 use Rattle.bosh_plan.specs.Updated.{left_gone, left_updated}
 use Rattle.bosh_records.specs.Instances.{unknown}
 use Rattle.bosh_records.specs.Keys.{asked, key_cmp}
@@ -28,13 +27,12 @@ use Rattle.bosh_records.specs.Table.{found, with_room}
 use Rattle.bosh_records.specs.declared.records.Records.{Records}
 use Rattle.bosh_rows.proofs.SameLemmas.{itself}
 use Rattle.laws_stands.specs.Once.{AreOnce}
-use Rattle.laws_stands.specs.Stands.{Stands, StandsIn}
+use Rattle.laws_stands.specs.Stands.{Stands}
 use Rattle.laws_stands.specs.Told.{Told}
 use Rattle.laws_stands_on.proofs.AlikeLemmas.{alike_stands}
 use Rattle.laws_stands_on.proofs.KeyLemmas.{inst_at, inst_keys, key_keys, machine_keys}
 use Rattle.laws_stands_on.proofs.OnceLemmas.{once_along, once_roomy, there_roomy}
 use Rattle.laws_stands_on.proofs.TableLemmas.{nat_at, nat_keys}
-use Rattle.laws_stands_on.specs.Allows.{HasPlaces}
 
 -- ---- no key stands twice
 

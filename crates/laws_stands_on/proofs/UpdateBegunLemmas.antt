@@ -12,11 +12,9 @@ use Rattle.bosh_base.specs.declared.task.TaskRow.{TaskRow}
 use Rattle.bosh_compile.specs.Readiness.{same_key}
 use Rattle.bosh_fold.specs.Updates.{update_begun_in}
 use Rattle.bosh_history.specs.Goals.{is_waiting}
-use Rattle.bosh_history.specs.Held.{is_open}
 use Rattle.bosh_history.specs.Items.{is_finished, is_in_deployment}
 use Rattle.bosh_history.specs.Known.{Known, SlotName, Task}
 use Rattle.bosh_history.specs.Slots.{keys_of}
-use Rattle.bosh_history.specs.Snapshots.{task_row}
 use Rattle.bosh_history.specs.Updates.{update_at}
 use Rattle.bosh_progress.specs.Tree.{first_marked}
 use Rattle.bosh_records.specs.Places.{part_of}

@@ -1,5 +1,5 @@
 -- The works of all tasks go on to stand, each as it changed.
-use Rattle.std.proofs.Common.{◌≡◌, ◌∙◌, ◌≤◌, ◌<◌, ℕ, Bool, true, false, List, Option, Some, None, ap, refl, subst, sym}
+use Rattle.std.proofs.Common.{◌≡◌, ◌∙◌, ◌<◌, ℕ, Bool, true, false, List, Option, Some, None, refl, subst, sym}
 use Rattle.std.specs.Prelude.{eqb, if◌then◌else◌}
 use Rattle.std.specs.Option.{option_map}
 use Rattle.bosh_records.specs.Recorded.{Recorded}

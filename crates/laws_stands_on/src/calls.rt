@@ -1,7 +1,6 @@
 //! Calls of instances.
 ghost use Rattle.std.specs.Prelude.{ℕ};
 ghost use Rattle.std.specs.Option.{unwrap_or};
-ghost use Rattle.std.specs.Ordering.{nat_cmp};
 ghost use Rattle.bosh_base.specs.declared.answer.Answer.{Answer};
 ghost use Rattle.bosh_base.specs.declared.call.Call.{Call};
 ghost use Rattle.bosh_base.specs.declared.entry.Entry.TheVariants as entries;
@@ -18,7 +17,6 @@ ghost use Rattle.laws_stands.specs.Reading.{row_of};
 ghost use Rattle.laws_stands.specs.Stands.{Stands, StandsIn};
 ghost use Rattle.laws_stands.specs.Told.{Told, telling};
 ghost use Rattle.laws_stands_on.specs.Allows.{AllowsCall, AllowsEnd, HasPlaces};
-ghost use Rattle.laws_stands.specs.Once.{IsOnce};
 
 /// It stands after a call of an instance began that may begin, where there is a place for the call and one for what is said
 /// of the instance.

@@ -1,20 +1,17 @@
 -- It stands once disks are left behind by an instance.
-use Rattle.std.proofs.Common.{◌≡◌, ◌∙◌, ℕ, Bool, true, false, List, ◌==◌, filter, Option, Some, None, ap, refl, subst, sym}
-use Rattle.std.specs.Prelude.{eqb, is_some, map, not, slice_get, ◌&&◌}
+use Rattle.std.proofs.Common.{◌≡◌, ◌∙◌, ℕ, Bool, true, false, List, Option, Some, None, ap, refl, subst, sym}
+use Rattle.std.specs.Prelude.{eqb, is_some, slice_get}
 use Rattle.std.specs.Option.{option_and_then, option_map}
-use Rattle.std.specs.Ordering.{nat_cmp}
 use Rattle.std.proofs.lemmas.Bool.{eqb-true, false≢true}
 use Rattle.bosh_base.specs.Cloud.{numbers_to}
 use Rattle.bosh_base.specs.declared.inst.Inst.{Inst}
 use Rattle.bosh_base.specs.declared.owner.Owner.TheVariants.{Disk}
 use Rattle.bosh_base.specs.declared.row.DiskRow.{DiskRow}
-use Rattle.bosh_base.specs.declared.snapshot.Orphan.{Orphan}
 use Rattle.bosh_fold.specs.Updates.{loose, with_orphans}
 use Rattle.bosh_history.specs.Known.{Known}
 use Rattle.bosh_history.specs.Updates.{orphans_after}
 use Rattle.bosh_history.specs.Words.{holds, is_among}
 use Rattle.bosh_plan.specs.Updated.{orphans_of}
-use Rattle.bosh_progress.specs.Tree.{first_marked}
 use Rattle.bosh_records.specs.Recorded.{Recorded}
 use Rattle.bosh_records.specs.declared.orphans.LooseDisk.{LooseDisk}
 use Rattle.bosh_rows.specs.Same.{same_owner}
@@ -26,7 +23,6 @@ use Rattle.laws_stands.specs.Linked.{IsLinked}
 use Rattle.laws_stands.specs.Reading.{dep_of, orphan_of, work_of}
 use Rattle.laws_stands.specs.Stands.{IsWork, StandsIn, call_of}
 use Rattle.laws_stands.specs.Told.{Told, is_going}
-use Rattle.laws_stands.specs.WorkStands.{StandsFor}
 use Rattle.laws_stands_on.proofs.FindLemmas.{none_is_found}
 use Rattle.laws_stands_on.proofs.ListedLemmas.{SameListed, listed_goes_on}
 use Rattle.laws_stands_updates.proofs.LeftLemmas.{IsLoose, once_left, orphans_left, others_known}

@@ -1,5 +1,5 @@
 -- Disks that belong to no instance from now on, in the table of such disks and in what is known of them.
-use Rattle.std.proofs.Common.{◌≡◌, ◌∙◌, ℕ, Bool, true, false, ◌||◌, List, [], ◌∷◌, filter, map, Option, Some}
+use Rattle.std.proofs.Common.{◌≡◌, ◌∙◌, ℕ, Bool, true, false, ◌||◌, List, [], ◌∷◌, filter, Option, Some}
 use Rattle.std.proofs.Common.{None, ap, refl, sym}
 use Rattle.std.specs.Prelude.{eqb, fold, is_some, option_map, if◌then◌else◌}
 use Rattle.std.specs.Option.{option_and_then}
@@ -13,7 +13,7 @@ use Rattle.bosh_history.specs.Updates.{orphan_of, orphans_after}
 use Rattle.bosh_history.specs.Words.{at, is_among}
 use Rattle.bosh_plan.specs.Roomy.{disk_room}
 use Rattle.bosh_plan.specs.Updated.{orphans_of}
-use Rattle.bosh_records.specs.Table.{found, put_at, thing_in, with_room}
+use Rattle.bosh_records.specs.Table.{found, thing_in, with_room}
 use Rattle.bosh_records.specs.declared.orphans.LooseDisk.{LooseDisk}
 use Rattle.laws_stands.specs.Once.{IsOnce}
 use Rattle.laws_stands_on.proofs.ChangedLemmas.{eqb_flip, some_mapped}

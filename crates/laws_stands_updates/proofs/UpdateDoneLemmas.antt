@@ -1,16 +1,13 @@
 -- An update is done, as it is planned: with what is recorded of the instance, and the disks that it leaves behind.
-use Rattle.std.proofs.Common.{◌≡◌, ◌∙◌, ℕ, Bool, true, false, List, [], Option, Some, None, ap, refl, sym, subst}
+use Rattle.std.proofs.Common.{◌≡◌, ◌∙◌, ℕ, Bool, true, false, List, Option, Some, None, ap, refl, sym, subst}
 use Rattle.std.specs.Prelude.{fold, not, if◌then◌else◌}
 use Rattle.std.specs.Ordering.{nat_cmp}
-use Rattle.std.specs.Option.{option_map}
 use Rattle.bosh_base.specs.declared.entry.Entry.TheVariants as entries
 use Rattle.bosh_base.specs.declared.entry.Update.{Update}
 use Rattle.bosh_base.specs.declared.goal.GoalRow.{GoalRow}
 use Rattle.bosh_base.specs.declared.inst.Inst.{Inst}
 use Rattle.bosh_base.specs.declared.row.DiskRow.{DiskRow}
 use Rattle.bosh_base.specs.declared.row.Row.{Row}
-use Rattle.bosh_base.specs.declared.snapshot.DepRow.{DepRow}
-use Rattle.bosh_base.specs.declared.snapshot.Orphan.{Orphan}
 use Rattle.bosh_fold.specs.Learned.{learned}
 use Rattle.bosh_fold.specs.Learns.{Learns}
 use Rattle.bosh_fold.specs.Planned.{IsPlanned}
@@ -24,10 +21,10 @@ use Rattle.bosh_plan.specs.Roomy.{disk_room}
 use Rattle.bosh_roll.specs.declared.upd.Upd.TheVariants.{Finished}
 use Rattle.bosh_rows.specs.Disks.{stays}
 use Rattle.bosh_plan.specs.Updated.{left_by, left_updated, orphans_of, row_by, row_updated}
-use Rattle.bosh_records.specs.Readers.{row_at, want_of}
+use Rattle.bosh_records.specs.Readers.{want_of}
 use Rattle.bosh_records.specs.Recorded.{Recorded, recorded}
 use Rattle.bosh_records.specs.declared.records.Records.{Records}
-use Rattle.bosh_rows.specs.After.{bare, left_behind, updated_row}
+use Rattle.bosh_rows.specs.After.{left_behind, updated_row}
 use Rattle.bosh_rows.specs.Same.{same_inst}
 use Rattle.laws_stands.proofs.DeploymentLemmas.{goal_is}
 use Rattle.laws_stands.proofs.WantLemmas.{want_is}
@@ -35,9 +32,9 @@ use Rattle.laws_stands.specs.Stands.{Stands, StandsIn}
 use Rattle.laws_stands.specs.Told.{Told, telling}
 use Rattle.laws_stands_on.proofs.RoomyLemmas.{roomy_stands}
 use Rattle.laws_stands_updates.proofs.DisksLeftLemmas.{left_stands}
-use Rattle.laws_stands_updates.proofs.FinishedLemmas.{after_finished, told_finished}
+use Rattle.laws_stands_updates.proofs.FinishedLemmas.{after_finished}
 use Rattle.laws_stands_updates.proofs.LeftLemmas.{fewer_left, room_left}
-use Rattle.laws_stands_updates.specs.Finished.{AllowsFinish, AllowsLeft, HavePlaces, numbers_of}
+use Rattle.laws_stands_updates.specs.Finished.{AllowsFinish, HavePlaces, numbers_of}
 
 module _ (u : Update) (told : Told) (was now : Records) (allows : AllowsFinish told u)
     (learns : Learns was (entries.UpdDone u) now) (stands : Stands told was) where
