@@ -1,5 +1,5 @@
 -- A task ends of which no call is open: nothing is left of it, and no instance, machine or disk stands in it any more.
-use Rattle.std.proofs.Common.{◌≡◌, ◌∙◌, ◌<◌, ℕ, Bool, true, false, ◌&&◌, not, List, [], ◌∷◌, ◌==◌, filter, map}
+use Rattle.std.proofs.Common.{◌≡◌, ◌∙◌, ℕ, Bool, true, false, ◌&&◌, not, List, ◌==◌, filter, map}
 use Rattle.std.proofs.Common.{Option, Some, None, ap, refl, subst, sym}
 use Rattle.std.specs.Prelude.{eqb, find, is_some, nat_le, if◌then◌else◌}
 use Rattle.std.specs.BTreeMap.{is_at}
@@ -8,7 +8,6 @@ use Rattle.std.specs.Ordering.{nat_cmp}
 use Rattle.std.specs.Str.{bytes_eq}
 use Rattle.std.proofs.lemmas.Bool.{and_parts, eqb-true}
 use Rattle.bosh_base.specs.Inst.{inst_cmp}
-use Rattle.bosh_base.specs.declared.entry.Begin.{Begin}
 use Rattle.bosh_base.specs.declared.goal.Goal.{Goal}
 use Rattle.bosh_base.specs.declared.inst.Inst.{Inst}
 use Rattle.bosh_base.specs.declared.snapshot.CompileRow.{CompileRow}
@@ -44,7 +43,7 @@ use Rattle.bosh_work.specs.declared.work.Work.{Work}
 use Rattle.laws_stands.specs.Linked.{IsLinked, same_machine, want_place}
 use Rattle.laws_stands.specs.LineStands.{place_of}
 use Rattle.laws_stands.specs.Once.{AreOnce}
-use Rattle.laws_stands.specs.Reading.{dep_of, goal_of, instance_of, machine_of, orphan_of, row_of, task_of, work_of}
+use Rattle.laws_stands.specs.Reading.{dep_of, instance_of, machine_of, orphan_of, task_of, work_of}
 use Rattle.laws_stands.specs.Stands.{AreSwept, IsWork, StandsIn, key_of_slot, row_of_slot}
 use Rattle.laws_stands.specs.Told.{Told, is_going}
 use Rattle.laws_stands.specs.WorkStands.{StandsFor}

@@ -1,6 +1,7 @@
 pub mod AgreesLemmas
 pub mod BeginsLemmas
 pub mod CallLemmas
+pub mod DoneLemmas
 pub mod EndsLemmas
 pub mod FailedLemmas
 pub mod NotedLemmas

@@ -11,7 +11,10 @@ pub use calls::{
     what_is_recorded_stands_after_a_call_that_may_end,
 };
 pub use moves::what_is_told_agrees_after_each_permitted_move;
-pub use tasks::what_is_recorded_stands_after_a_task_that_failed;
+pub use tasks::{
+    what_is_recorded_stands_after_a_task_that_failed,
+    what_is_recorded_stands_after_a_task_that_settles_nothing,
+};
 pub use updates::{
     what_is_recorded_stands_after_an_update_that_may_be_noted,
     what_is_recorded_stands_after_an_upload,
