@@ -4,7 +4,7 @@ use Rattle.std.specs.Prelude.{IfErr, IfOk}
 use Rattle.std.proofs.lemmas.List.Elements.{All-append, All-cons, All-nil}
 use Rattle.bosh_asks.specs.declared.ask.Ask.{Ask}
 use Rattle.bosh_asks.specs.declared.fault.BookFault.{BookFault}
-use Rattle.bosh_asks.specs.declared.fault.BookFault.TheVariants as faults
+use Rattle.bosh_asks.specs.declared.fault.BookFault.TheVariants as book
 use Rattle.bosh_base.specs.declared.entry.Entry.TheVariants as entries
 use Rattle.bosh_base.specs.declared.entry.TaskOpen as task_open
 use Rattle.bosh_base.specs.declared.task.TaskEnd.{TaskEnd}
@@ -31,32 +31,32 @@ use Rattle.bosh_records.specs.declared.records.Records.{Records}
 pub opens_pending : {K : Type 0} (records : Records) (ask : Ask) (opening : task_open.TaskOpen) (now : JournalView K)
     (fault : BookFault) → IsOpeningOf records ask opening →
     LeavesPending {T = ℕ} (Err fault) (entries.TaskOpen opening) now → OpensPending records ask now fault
-opens_pending records ask opening now faults.StoreFault is pending = (opening, is, pending)
+opens_pending records ask opening now book.StoreFault is pending = (opening, is, pending)
 opens_pending records ask opening now fault is pending = tt
 
 pub opens_nothing : {K : Type 0} (records : Records) (ask : Ask) (now : JournalView K) (fault : BookFault) → IsQuiet fault →
     OpensPending records ask now fault
-opens_nothing records ask now faults.StoreFault quiet = absurd quiet
+opens_nothing records ask now book.StoreFault quiet = absurd quiet
 opens_nothing records ask now fault quiet = tt
 
 pub ends_pending : {K : Type 0} (records : Records) (task : ℕ) (end : TaskEnd) (now : JournalView K) (fault : BookFault) →
     coming_end records task ≡ Some end → LeavesPending {T = TaskEnd} (Err fault) (closing task end) now →
     EndsPending records task now fault
-ends_pending records task end now faults.StoreFault is pending = (end, is, pending)
+ends_pending records task end now book.StoreFault is pending = (end, is, pending)
 ends_pending records task end now fault is pending = tt
 
 -- ---- uploads
 
 -- nothing is pending where the store did not fail
-pub quiet_allowed : {K T : Type 0} (Allowed : Type 0) (fault : BookFault) (entry : Entry) (now : JournalView K) → IsQuiet fault →
+pub quiet_allowed : {K : Type 0} (T Allowed : Type 0) (fault : BookFault) (entry : Entry) (now : JournalView K) → IsQuiet fault →
     LeavesAllowed {T = T} Allowed (Err fault) entry now
-quiet_allowed Allowed faults.StoreFault entry now quiet = absurd quiet
-quiet_allowed Allowed fault entry now quiet = tt
+quiet_allowed T Allowed book.StoreFault entry now quiet = absurd quiet
+quiet_allowed T Allowed fault entry now quiet = tt
 
-left_allowed : {K T : Type 0} (Allowed : Type 0) (fault : BookFault) (entry : Entry) (now : JournalView K) → Allowed →
+left_allowed : {K : Type 0} (T Allowed : Type 0) (fault : BookFault) (entry : Entry) (now : JournalView K) → Allowed →
     LeavesPending {T = T} (Err fault) entry now → LeavesAllowed {T = T} Allowed (Err fault) entry now
-left_allowed Allowed faults.StoreFault entry now allowed pending = (allowed, pending)
-left_allowed Allowed fault entry now allowed pending = tt
+left_allowed T Allowed book.StoreFault entry now allowed pending = (allowed, pending)
+left_allowed T Allowed fault entry now allowed pending = tt
 
 -- what was made is pending where the store failed at it, and may be noted
 pub made_allowed : {K T V : Type 0} (bodies : K → Option (List (List ℕ))) (faults : K → ℕ) (entry_of : T → Entry)
@@ -65,7 +65,7 @@ pub made_allowed : {K T V : Type 0} (bodies : K → Option (List (List ℕ))) (f
     LeavesAllowed Allowed result entry now.journal
 made_allowed bodies faults entry_of Allowed (Ok it) was now (Ok value) entry is allowed noted = tt
 made_allowed {V = V} bodies faults entry_of Allowed (Ok it) was now (Err fault) entry is allowed noted =
-    left_allowed {T = V} Allowed fault entry now.journal allowed
+    left_allowed V Allowed fault entry now.journal allowed
     (subst (λ (one : Entry). LeavesPending {T = V} (Err fault) one now.journal) is noted.3)
 made_allowed {V = V} bodies faults entry_of Allowed (Err fault) was now result entry is allowed noted =
     subst (λ (r : Result V BookFault). LeavesAllowed Allowed r entry now.journal) (sym noted.0) tt
@@ -73,11 +73,11 @@ made_allowed {V = V} bodies faults entry_of Allowed (Err fault) was now result e
 -- ---- claims
 
 module _ {K : Type 0} (bodies : K → Option (List (List ℕ))) (faults : K → ℕ) (was now : Book K) where
-  taken_pending : (entry : Entry) → TakesOn bodies faults entry was (Err faults.StoreFault) now
+  taken_pending : (entry : Entry) → TakesOn bodies faults entry was (Err book.StoreFault) now
       → now.journal.pending ≡ Some (added entry)
   taken_pending (entries.Begin begun) takes = by (dep_of was.records begun.owner) takes
     where
-      by : (dep : Option (List ℕ)) → Begins bodies faults begun dep was (Err faults.StoreFault) now
+      by : (dep : Option (List ℕ)) → Begins bodies faults begun dep was (Err book.StoreFault) now
           → now.journal.pending ≡ Some (added (entries.Begin begun))
       by None begins = absurd (let is = begins.0 in cc)
       by (Some dep) (inl begins) = absurd (let is = begins.0 in cc)
@@ -87,7 +87,7 @@ module _ {K : Type 0} (bodies : K → Option (List (List ℕ))) (faults : K → 
   taken_pending (entries.Gone update) takes = takes.3
   taken_pending entry takes = absurd (let is = takes.0 in cc)
 
-  turn_pending : (choice : Choice) → Follows bodies faults choice was (Err faults.StoreFault) now
+  turn_pending : (choice : Choice) → Follows bodies faults choice was (Err book.StoreFault) now
       → (entry : Entry) × (choice ≡ choices.Noted entry) × (now.journal.pending ≡ Some (added entry))
   turn_pending choices.Waits follows = absurd (let is = follows.0 in cc)
   turn_pending choices.Over follows = absurd (let is = follows.0 in cc)
@@ -111,47 +111,50 @@ module _ {K : Type 0} (bodies : K → Option (List (List ℕ))) (faults : K → 
       → (entry : Entry) × IsUpdate entry × Adds bodies faults was (entry ∷ []) now
   followed_on choices.Waits follows = absurd (let is = follows.0 in cc)
   followed_on choices.Over follows = absurd (let is = follows.0 in cc)
-  followed_on (choices.Noted entry) follows = (entry, taken_on entry follows)
+  followed_on (choices.Noted entry) follows =
+      let taken = taken_on entry follows in (entry, taken.0, taken.1)
 
 -- turn by turn
 turns_pending : {K : Type 0} (bodies : K → Option (List (List ℕ))) (faults : K → ℕ) (task worker room : ℕ) (was now : Book K) →
-    Turns bodies faults task worker room was (Err faults.StoreFault) now →
+    Turns bodies faults task worker room was (Err book.StoreFault) now →
     (entry : Entry) × IsNext bodies faults task worker was entry × (now.journal.pending ≡ Some (added entry))
 turns_pending bodies faults task worker zero was now turns = absurd (let is = turns.0 in cc)
-turns_pending {K} bodies faults task worker (suc room) was now (turned, mid, turn, rest) = by turned turn rest
+turns_pending {K} bodies faults task worker (suc room) was now (turned, mid, turn, rest) =
+    by turned turn rest (turns_pending bodies faults task worker room mid now)
   where
     more : (entry : Entry) → IsUpdate entry → Adds bodies faults was (entry ∷ []) mid →
         (next : Entry) × IsNext bodies faults task worker mid next × (now.journal.pending ≡ Some (added next)) →
         (next : Entry) × IsNext bodies faults task worker was next × (now.journal.pending ≡ Some (added next))
-    more entry is adds (next, (others, are, last, after, chosen), pending) = (
+    more entry is adds (next, (others, are, (last, after, chosen)), pending) = (
       next,
       (
         entry ∷ others,
         All-cons IsUpdate entry others is are,
-        last,
-        more_added bodies faults was mid last (entry ∷ []) others adds after,
-        chosen,
+        (last, more_added bodies faults was mid last (entry ∷ []) others adds after, chosen),
       ),
       pending,
     )
 
     by : (turned : Result (Option Claim) BookFault) → Turn bodies faults task worker was turned mid →
-        GoesOn (λ it. Turns bodies faults task worker room it (Err faults.StoreFault) now) turned mid (Err faults.StoreFault) now →
+        GoesOn (λ it. Turns bodies faults task worker room it (Err book.StoreFault) now) turned mid (Err book.StoreFault) now →
+        (Turns bodies faults task worker room mid (Err book.StoreFault) now →
+        (entry : Entry) × IsNext bodies faults task worker mid entry × (now.journal.pending ≡ Some (added entry))) →
         (entry : Entry) × IsNext bodies faults task worker was entry × (now.journal.pending ≡ Some (added entry))
-    by (Ok (Some claim)) turn rest = absurd (let is = rest.0 in cc)
-    by (Ok None) (inl turn) rest = absurd (let is = turn.0 in cc)
-    by (Ok None) (inr turn) rest =
+    by (Ok (Some claim)) turn rest again = absurd (let is = rest.0 in cc)
+    by (Ok None) (inl turn) rest again = absurd (let is = turn.0 in cc)
+    by (Ok None) (inr turn) rest again =
         let went = followed_on bodies faults was mid (choice_of was.records task worker) turn in
-        more went.0 went.1 went.2 (turns_pending bodies faults task worker room mid now rest)
-    by (Err fault) turn rest = last fault turn rest.0 rest.1
+        more went.0 went.1 went.2 (again rest)
+    by (Err fault) turn rest again = last fault turn rest.0 rest.1
       where
-        last : (fault : BookFault) → Turn bodies faults task worker was (Err fault) mid → (Err faults.StoreFault ≡ Err fault) → now ≡ mid →
+        last : (fault : BookFault) → Turn bodies faults task worker was (Err fault) mid →
+            ◌≡◌ {A = Result Claim BookFault} (Err book.StoreFault) (Err fault) → now ≡ mid →
             (entry : Entry) × IsNext bodies faults task worker was entry × (now.journal.pending ≡ Some (added entry))
-        last faults.StoreFault (inl turn) is same = absurd (let no = turn.0 in cc)
-        last faults.StoreFault (inr turn) is same =
+        last book.StoreFault (inl turn) is same = absurd (let no = turn.0 in cc)
+        last book.StoreFault (inr turn) is same =
             let it = turn_pending bodies faults was mid (choice_of was.records task worker) turn in (
               it.0,
-              ([], All-nil IsUpdate, was, nothing_added bodies faults was, it.1),
+              ([], All-nil IsUpdate, (was, nothing_added bodies faults was, it.1)),
               subst (λ (b : Book K). b.journal.pending ≡ Some (added it.0)) (sym same) it.2,
             )
         last fault turn is same = absurd (let no = is in cc)
@@ -161,6 +164,6 @@ pub claims_pending : {K : Type 0} (bodies : K → Option (List (List ℕ))) (fau
     (result : Result Claim BookFault) → Turns bodies faults task worker room was result now →
     IfErr result (ClaimsPending bodies faults task worker was now)
 claims_pending bodies faults task worker room was now (Ok claim) turns = tt
-claims_pending bodies faults task worker room was now (Err faults.StoreFault) turns =
+claims_pending bodies faults task worker room was now (Err book.StoreFault) turns =
     turns_pending bodies faults task worker room was now turns
 claims_pending bodies faults task worker room was now (Err fault) turns = tt

@@ -14,6 +14,7 @@ use Rattle.std.specs.Prelude.{is_ok}
 use Rattle.bosh_asks.specs.declared.fault.BookFault.{BookFault}
 use Rattle.bosh_book.specs.declared.book.Book.{Book}
 use Rattle.bosh_asks.specs.declared.fault.BookFault.TheVariants as faults
+use Rattle.bosh_asks.specs.declared.fault.BookFault.TheVariants.{Memory}
 use Rattle.bosh_book.specs.Faults.{FailsAs, IsNoteFault, IsStartFault}
 use Rattle.bosh_book.specs.Appends.{LeavesPending}
 use Rattle.bosh_book.specs.Starts.{Finishes, Interrupts, InterruptsWhere, IsNextPending, Starts, StartsFrom, Takes}
@@ -91,13 +92,13 @@ dropped (suc k) [] it below is = absurd (omega (arith, below))
 dropped zero (x ∷ items) it below is = λ i. sym is i ∷ items
 dropped (suc k) (x ∷ items) it below is = dropped k items it (omega (arith, below)) is
 
-next_pending : {K T : Type 0} (fault : BookFault) (journal : JournalView K) (tasks : List ℕ) (k task : ℕ)
+next_pending : {K : Type 0} (T : Type 0) (fault : BookFault) (journal : JournalView K) (tasks : List ℕ) (k task : ℕ)
     → k < length tasks → task ≡ get_or tasks k task
     → LeavesPending {T = T} (Err fault) (interruption task) journal → IsNextPending fault (drop k tasks) journal
-next_pending {K} fault journal tasks k task below is leaves =
+next_pending {K} T fault journal tasks k task below is leaves =
     subst (λ (rest : List ℕ). IsNextPending fault rest journal) (sym (dropped k tasks task below is)) (by fault leaves)
   where
-    by : (fault : BookFault) → LeavesPending {T = _} (Err fault) (interruption task) journal
+    by : (fault : BookFault) → LeavesPending {T = T} (Err fault) (interruption task) journal
         → IsNextPending fault (task ∷ drop (suc k) tasks) journal
     by faults.StoreFault leaves = leaves
     by fault leaves = tt
@@ -108,14 +109,14 @@ pub some_ended : {K T : Type 0} (bodies : K → Option (List (List ℕ))) (fault
     → Adds bodies faults first (map interruption (take k tasks)) mid
     → Adds bodies faults mid [] last → LeavesPending {T = T} (Err fault) (interruption task) last.journal
     → Interrupts {T = T} bodies faults tasks first (Err fault) last
-some_ended bodies faults first mid last tasks k task fault below is was now pending = record {
+some_ended {T = T} bodies faults first mid last tasks k task fault below is was now pending = record {
   ended = map interruption (take k tasks);
   are_ended = (
     take k tasks,
     drop k tasks,
     parted k tasks,
     refl,
-    next_pending fault last.journal tasks k task below is pending,
+    next_pending T fault last.journal tasks k task below is pending,
   );
   adds =
       subst (λ (added : List Entry). Adds bodies faults first added last) (append-nil (map interruption (take k tasks)))
@@ -136,7 +137,7 @@ all_ended bodies faults first last tasks k value all was = record {
 
 -- there was no memory to tell which are open
 pub none_ended : {K T : Type 0} (bodies : K → Option (List (List ℕ))) (faults : K → ℕ) (tasks : List ℕ) (book : Book K)
-    (fault : BookFault) → fault ≡ faults.Memory → Interrupts {T = T} bodies faults tasks book (Err fault) book
+    (fault : BookFault) → fault ≡ Memory → Interrupts {T = T} bodies faults tasks book (Err fault) book
 none_ended {K} bodies faults tasks book fault is = record {
   ended = [];
   are_ended = (

@@ -10,10 +10,9 @@ use Rattle.bosh_history.specs.Permitted.{IsRun}
 use Rattle.bosh_history.specs.Recovered.{IsRecovered}
 use Rattle.bosh_history.specs.Safe.{IsSafe}
 use Rattle.bosh_history.specs.Ties.{IsTied}
-use Rattle.bosh_lawful.specs.Workers.{AreWorkersApart}
 
 -- each move is permitted, nothing forbidden is done, what is recorded is what the cloud has, tasks that are done left
--- what they were to leave, links are kept, clean deploys are bounded, and workers do one call at a time
+-- what they were to leave, links are kept, and clean deploys are bounded
 pub record IsLawful (outside : Outside) (o : Opening) (moves : List Move) : Type 0 where
   pub permitted : IsRun outside o moves
   pub safe : IsSafe o moves
@@ -22,4 +21,3 @@ pub record IsLawful (outside : Outside) (o : Opening) (moves : List Move) : Type
   pub exact : AreDoneExactly o moves
   pub links : AreLinksKept o moves
   pub bounded : AreCleanTasksBounded o moves
-  pub workers : AreWorkersApart o moves

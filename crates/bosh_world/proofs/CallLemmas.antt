@@ -326,6 +326,7 @@ pub notes_nothing : {K L : Type 0} {k : keeper.Ghosts K} {l : keeper.Ghosts L} (
 notes_nothing bodies faults was now running same_book same_cloud same_history same_armed same_opening = record {
   book = adds_none (bodies_of bodies) (faults_of faults) was.book now.book same_book;
   comes = comes_nothing was now same_book same_cloud same_history;
+  running = running;
   halted = ap (λ h. h.is_halted) same_history ∙ running;
   same_cloud = same_cloud;
   same_armed = same_armed;

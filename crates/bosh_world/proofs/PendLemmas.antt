@@ -33,8 +33,8 @@ pends_still was now Is same runs halted =
 -- it halts where the store failed
 halted_by : (sprung : Option Rig) (fault : BookFault) (halted : Bool) → halted ≡ is_some (halt_by sprung fault) → halted ≡ true →
     fault ≡ book.StoreFault
-halted_by sprung book.StoreFault halted is yes = refl
-halted_by sprung fault halted is yes = absurd (false≢true (sym is ∙ yes))
+halted_by sprung book.StoreFault halted is so = refl
+halted_by sprung fault halted is so = absurd (false≢true (sym is ∙ so))
 
 -- an entry of which something holds is pending, where the store failed
 abbrev pub PendsAs : {K : Type 0} → (Entry → Type 0) → JournalView K → BookFault → Type 0
@@ -51,7 +51,7 @@ pub pends_told : {K L T : Type 0} {k : keeper.Ghosts K} {l : keeper.Ghosts L} (w
     (sprung : Option Rig) (answer : Result T BookFault) → now.history.is_halted ≡ is_some (halt_of sprung answer) →
     IfErr answer (PendsAs Is now.book.journal) → Pends was Is now
 pends_told was now Is sprung (Ok value) is pends runs halted = absurd (false≢true (sym is ∙ halted))
-pends_told was now Is sprung (Err fault) is pends = pends_by was now Is sprung fault is pends
+pends_told was now Is sprung (Err fault) is pends runs halted = pends_by was now Is sprung fault is pends runs halted
 
 -- ---- call by call
 
@@ -75,15 +75,15 @@ pub closings_as : {K : Type 0} (records : Records) (task : ℕ) (now : JournalVi
 closings_as records task now (Ok end) it = tt
 closings_as records task now (Err fault) it = closing_as records task now fault it
 
-pub allowed_as : {K T : Type 0} (Allowed : Type 0) (given : Entry) (now : JournalView K) (fault : BookFault) →
+pub allowed_as : {K : Type 0} (T Allowed : Type 0) (given : Entry) (now : JournalView K) (fault : BookFault) →
     LeavesAllowed {T = T} Allowed (Err fault) given now → PendsAs (IsAllowed Allowed given) now fault
-allowed_as Allowed given now book.StoreFault it is = (given, (it.0, refl), it.1)
-allowed_as Allowed given now fault it is = absurd (let no = is in cc)
+allowed_as T Allowed given now book.StoreFault it is = (given, (it.0, refl), it.1)
+allowed_as T Allowed given now fault it is = absurd (let no = is in cc)
 
 pub alloweds_as : {K T : Type 0} (Allowed : Type 0) (given : Entry) (now : JournalView K) (answer : Result T BookFault) →
     LeavesAllowed Allowed answer given now → IfErr answer (PendsAs (IsAllowed Allowed given) now)
 alloweds_as Allowed given now (Ok value) it = tt
-alloweds_as {T = T} Allowed given now (Err fault) it = allowed_as {T = T} Allowed given now fault it
+alloweds_as {T = T} Allowed given now (Err fault) it = allowed_as T Allowed given now fault it
 
 claim_as : {K L : Type 0} {k : keeper.Ghosts K} {l : keeper.Ghosts L} (bodies : K → Option (List (List ℕ))) (faults : K → ℕ)
     (task worker : ℕ) (was now : Site K L k l) (fault : BookFault) →

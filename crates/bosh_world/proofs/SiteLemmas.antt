@@ -46,6 +46,7 @@ noted bodies faults was now entries halt rest adds follows = record {
         rest.is_of rest.running)
         ∙ append_assoc (story_of was) (map Note entries) (halts halt);
   };
+  running = rest.running;
   halted = follows.halted;
   same_cloud = rest.same_cloud;
   same_armed = rest.same_armed;

@@ -1,5 +1,5 @@
 -- What a call of a site has done: the entries of the book, the effects of the cloud, and the moves that tell of them.
-use Rattle.std.specs.Prelude.{◌≡◌, ◌≤◌, ◌⊎◌, ℕ, is_some, All, List, [], ◌∷◌, ◌++◌, length, map, Option, Some, None}
+use Rattle.std.specs.Prelude.{◌≡◌, ◌≤◌, ◌⊎◌, ℕ, false, is_some, All, List, [], ◌∷◌, ◌++◌, length, map, Option, Some, None}
 use Rattle.std.specs.Prelude.{Result, Ok, Err}
 use Rattle.bosh_asks.specs.declared.ask.Ask.{Ask}
 use Rattle.bosh_base.specs.History.{Extends}
@@ -68,12 +68,13 @@ pub record Says {K L : Type 0} {k : keeper.Ghosts K} {l : keeper.Ghosts L} (was 
   pub comes : Comes was (moves.Said reply ∷ []) now
   pub keeps : KeepsBooks was now
 
--- entries were noted in the book, and then the site may have halted; the cloud stays as it was
+-- entries were noted in the book of a site that ran, and then it may have halted; the cloud stays as it was
 pub record Notes {K L : Type 0} {k : keeper.Ghosts K} {l : keeper.Ghosts L}
     (bodies : K → Option (List (List ℕ))) (faults : K → ℕ) (was : Site K L k l) (noted : List Entry)
     (halt : Option Cause) (now : Site K L k l) : Type 0 where
   pub book : Adds (bodies_of bodies) (faults_of faults) was.book noted now.book
   pub comes : Comes was (map moves.Note noted ++ halts halt) now
+  pub running : was.history.is_halted ≡ false
   pub halted : now.history.is_halted ≡ is_some halt
   pub same_cloud : now.cloud ≡ was.cloud
   pub same_armed : now.traps.items ≡ was.traps.items

@@ -2,8 +2,8 @@
 use Rattle.std.specs.Prelude.{◌≡◌, ℕ, ◌+◌, Bool, true, false, Option, Some, None, List, [], ◌∷◌, fold, take}
 use Rattle.std.specs.Str.{bytes_eq}
 use Rattle.bosh_base.specs.declared.moves.Move.{Move}
-use Rattle.laws_facts.specs.Courses.{Course, course_at, course_later}
-use Rattle.laws_facts.specs.Facts.{all_broken}
+use Rattle.laws_counts.specs.Courses.{Course, course_at, course_later}
+use Rattle.laws_counts.specs.CourseFacts.{all_broken}
 use Rattle.examples_facts.specs.Changes.{Change}
 use Rattle.bosh_history.specs.Moments.{Moment}
 use Rattle.bosh_history.specs.Words.{is_among}

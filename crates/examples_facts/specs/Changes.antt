@@ -16,7 +16,7 @@ use Rattle.bosh_base.specs.declared.row.DiskRow.{DiskRow}
 use Rattle.bosh_base.specs.declared.row.Role.TheVariants.{Active}
 use Rattle.bosh_base.specs.declared.row.Row.{Row}
 use Rattle.bosh_base.specs.declared.snapshot.Orphan.{Orphan}
-use Rattle.laws_facts.specs.Courses.{Account, Course}
+use Rattle.laws_counts.specs.Courses.{Account, Course}
 use Rattle.bosh_history.specs.Known.{Known, Slot, Task}
 use Rattle.bosh_history.specs.Moments.{Moment, OpenCall, losing}
 use Rattle.bosh_history.specs.Words.{at, inserted}

@@ -4,7 +4,7 @@ ghost use Rattle.bosh_base.specs.declared.call.Call.TheVariants as calls;
 ghost use Rattle.bosh_base.specs.declared.entry.Entry.TheVariants as entries;
 ghost use Rattle.bosh_base.specs.declared.owner.Owner.TheVariants.{Instance, Compile, Disk};
 ghost use Rattle.bosh_base.specs.declared.task.TaskEnd.TheVariants as ends;
-ghost use Rattle.laws_facts.specs.Courses.{call_made};
+ghost use Rattle.laws_counts.specs.Courses.{call_made};
 ghost use Rattle.examples_facts.specs.Broken.{Breaks, BreaksAlone, nothing_else};
 ghost use Rattle.examples_facts.specs.Changes.{account_is, and_then, as_active, call_is, disks_are, done_by, done_for, done_for_another};
 ghost use Rattle.examples_facts.specs.Changes.{doubt_is, exchanged, goal_is, goals_are, in_known, in_moment, is_lost, is_unclean};
@@ -215,7 +215,9 @@ pub fn clean_tasks_are_broken()
     ensures lost_unseen { BreaksAlone (codes "rows clean") prepared 5 two
         (is_lost 1 false) }
     ensures call_not_counted { BreaksAlone (codes "steps counted") prepared 5 two
-        (account_is 1 (call_made (Instance (web 0)))) }
+        (task_is 1 task_with_call) }
+    ensures instance_that_calls_more { BreaksAlone (codes "steps counted") prepared 5 two
+        (and_then (account_is 1 (call_made (Instance (web 0)))) (account_is 1 (call_made (Instance (web 0))))) }
     ensures steps_forgotten { BreaksAlone (codes "steps counted") prepared 5 two
         (account_is 1 (λ it. record it { steps = λ i. [] })) }
     ensures slot_that_calls_more { BreaksAlone (codes "slots few") with_release 9 together

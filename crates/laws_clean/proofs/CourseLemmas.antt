@@ -28,14 +28,15 @@ use Rattle.laws_clean.specs.Unfailed.{AreUnfailed, UnfailedFacts}
 use Rattle.laws_facts.proofs.CurrentLemmas.{worked}
 use Rattle.laws_facts.proofs.LockLemmas.{note_stays}
 use Rattle.laws_facts.proofs.WorkLemmas.{opens_next}
-use Rattle.laws_facts.specs.Courses.{Account, Course, account_opened, call_made, course_later, performed, performed_for}
-use Rattle.laws_facts.specs.Courses.{performing, unclean, with_account}
+use Rattle.laws_counts.specs.Courses.{Account, Course, account_opened, call_made, course_later, performed}
+use Rattle.laws_counts.specs.Courses.{performed_for}
+use Rattle.laws_counts.specs.Courses.{performing, unclean, with_account}
 use Rattle.laws_facts.specs.Facts.{Holds}
 use Rattle.laws_facts.specs.Owners.{works}
 use Rattle.laws_row_facts.specs.Calls.{is_ping}
 
 -- a change of one account that leaves whether it is clean
-with_same : (n t : ℕ) (change : Account → Account) (accounts : ℕ → Account)
+pub with_same : (n t : ℕ) (change : Account → Account) (accounts : ℕ → Account)
     → (change (accounts n)).is_clean ≡ (accounts n).is_clean
     → (with_account n change accounts t).is_clean ≡ (accounts t).is_clean
 with_same n t change accounts same = by (eqb n t) refl
@@ -53,7 +54,7 @@ performed_same m b d i it = by (is_ping b.call) refl
     by true is = grind (arith, is)
     by false is = grind (arith, is)
 
-for_same : (m : Moment) (b : Begin) (d : Did) (owner : Owner) (accounts : ℕ → Account) (t : ℕ)
+pub for_same : (m : Moment) (b : Begin) (d : Did) (owner : Owner) (accounts : ℕ → Account) (t : ℕ)
     → (performed_for m b d owner accounts t).is_clean ≡ (accounts t).is_clean
 for_same m b d (Instance i) accounts t =
     with_same b.task t (performed m b d i) accounts (performed_same m b d i (accounts b.task))

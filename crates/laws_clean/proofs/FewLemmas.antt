@@ -1,11 +1,9 @@
 -- By the facts on a clean task, each of its instances and each machine that it sweeps has few calls.
 use Rattle.std.proofs.Common.{◌≡◌, ◌∙◌, ℕ, ◌+◌, ◌≤◌, Bool, true, false, Option, Some, None, List, [], ◌∷◌, ◌++◌}
 use Rattle.std.proofs.Common.{arith, inl, inr, refl, subst, sym}
-use Rattle.std.specs.Prelude.{◌*◌, ◌&&◌, ◌||◌, ◌==◌, find, if◌then◌else◌, is_some, length, map, nat_eq, nat_le}
+use Rattle.std.specs.Prelude.{◌*◌, find, if◌then◌else◌, is_some, length, map, nat_le}
 use Rattle.std.specs.Prelude.{not, sum_by}
-use Rattle.std.specs.List.{list_any}
-use Rattle.std.specs.Option.{option_eq}
-use Rattle.std.proofs.lemmas.Bool.{and_parts, eqb-true, false≢true, le-leb, leb-true, or_left, or_right}
+use Rattle.std.proofs.lemmas.Bool.{false≢true, le-leb, leb-true, or_left, or_right}
 use Rattle.std.proofs.lemmas.Bool.Decides.{eqb_tells}
 use Rattle.std.proofs.lemmas.List.Sums.{sum_by-append}
 use Rattle.bosh_base.specs.Cloud.{numbers_to}
@@ -21,16 +19,17 @@ use Rattle.bosh_history.specs.Known.{SlotName, Task, want_in}
 use Rattle.bosh_history.specs.Moments.{Moment, OpenCall}
 use Rattle.bosh_history.specs.Orders.{same_slot}
 use Rattle.bosh_history.specs.Steps.{is_idle, is_owners}
-use Rattle.bosh_history.specs.Words.{holds, is_among}
+use Rattle.bosh_history.specs.Items.{is_to_ping}
+use Rattle.bosh_history.specs.Words.{holds}
 use Rattle.bosh_rows.proofs.SameLemmas.{itself}
 use Rattle.bosh_rows.specs.Same.{same_inst}
 use Rattle.bosh_rows.specs.Tied.{one_if}
 use Rattle.laws_clean.specs.Few.{most_of_task}
-use Rattle.laws_facts.specs.Counts.{CleanFacts, SweepFacts, budgeted, is_sweeping_in_two, most_of_slots}
-use Rattle.laws_facts.specs.Counts.{own_slots, owner_of}
-use Rattle.laws_facts.specs.Counts.{to_come, to_come_after}
-use Rattle.laws_facts.specs.Courses.{Account}
-use Rattle.laws_facts.specs.RowSteps.{StepFacts, awaited, is_awaited, is_ping_answered, times_asked}
+use Rattle.laws_counts.specs.Counts.{CleanFacts, SweepFacts, budgeted, is_sweeping_in_two, most_of_slots}
+use Rattle.laws_counts.specs.Counts.{own_slots, owner_of}
+use Rattle.laws_counts.specs.Counts.{to_come, to_come_after}
+use Rattle.laws_counts.specs.Courses.{Account}
+use Rattle.laws_counts.specs.RowSteps.{StepFacts, is_extra}
 use Rattle.laws_heard.proofs.AnswerLemmas.{implied}
 use Rattle.laws_items.proofs.ListLemmas.{Meets, any_in, some_fails}
 use Rattle.laws_items.specs.Lists.{IsIn}
@@ -43,27 +42,51 @@ one_most false = omega arith
 
 -- ---- an instance
 
+twice : (b : Bool) → not (not b) ≡ true → b ≡ true
+twice true is = refl
+twice false is = is
+
+-- an owner that is not idle has an open call
+busy_by : (m : Moment) (owner : Owner) → is_idle m owner ≡ false
+    → (n : ℕ) × (holds (is_owners owner) (m.calls n) ≡ true)
+busy_by m owner busy =
+    let one : Meets (λ n. not (not (holds (is_owners owner) (m.calls n)))) (numbers_to m.known.last_call) =
+    some_fails (λ n. not (holds (is_owners owner) (m.calls n))) (numbers_to m.known.last_call) busy in
+    (one.x, twice (holds (is_owners owner) (m.calls one.x)) one.meets)
+
 row_few : (built : KeyWork → List Digest → Digest) (m : Moment) (t : Task) (it : Account) (i : Inst)
     → StepFacts built m t it i → it.made (Instance i) ≤ 36
-row_few built m t it i f =
-    let (one, two) =
-    and_parts (it.asked i == times_asked m t i)
-    (it.made (Instance i) == length (it.steps i) + it.asked i + awaited m (Instance i)) f.counted in
-    let asked : it.asked i ≤ 1 =
-    subst (λ (n : ℕ). n ≤ 1) (sym (eqb-true (it.asked i) (times_asked m t i) one))
-    (one_most (is_among same_inst i t.to_ping && (t.pinged i || is_ping_answered m i))) in
-    let waits : awaited m (Instance i) ≤ 1 =
-    one_most (list_any (λ n. holds (is_awaited (Instance i)) (m.calls n)) (numbers_to m.known.last_call)) in
-    let few : length (it.steps i) ≤ 32 =
-    few_calls built (want_in t.goal i) (it.first i) (it.steps i) f.sound f.room f.answered in
-    let made : it.made (Instance i) ≡ length (it.steps i) + it.asked i + awaited m (Instance i) =
-    eqb-true (it.made (Instance i)) (length (it.steps i) + it.asked i + awaited m (Instance i)) two in
-    subst (λ (n : ℕ). n ≤ 36) (sym made) (omega (arith, asked, waits, few))
+row_few built m t it i f = by (is_idle m (Instance i)) refl
+  where
+    steps : length (it.steps i) ≤ 32
+    steps = few_calls built (want_in t.goal i) (it.first i) (it.steps i) f.sound f.room f.answered
+
+    asked : one_if (not (is_to_ping t i)) ≤ 1
+    asked = one_most (not (is_to_ping t i))
+
+    of : (n : ℕ) (call : Option OpenCall) → m.calls n ≡ call → holds (is_owners (Instance i)) call ≡ true
+        → it.made (Instance i) ≤ 36
+    of n (Some call) is own =
+        let few : it.made (Instance i) ≤ length (it.steps i) + one_if (not (is_to_ping t i)) + one_if (is_extra call) =
+        leb-true (it.made (Instance i)) (length (it.steps i) + one_if (not (is_to_ping t i)) + one_if (is_extra call))
+        (f.in_call n call is own).few in
+        let extra : one_if (is_extra call) ≤ 1 = one_most (is_extra call) in
+        omega (arith, few, steps, asked, extra)
+    of n None is own = absurd (false≢true own)
+
+    by : (idle : Bool) → is_idle m (Instance i) ≡ idle → it.made (Instance i) ≤ 36
+    by true idle =
+        let few : it.made (Instance i) ≤ length (it.steps i) + one_if (not (is_to_ping t i)) =
+        leb-true (it.made (Instance i)) (length (it.steps i) + one_if (not (is_to_ping t i))) (f.few idle) in
+        omega (arith, few, steps, asked)
+    by false busy =
+        let (n, own) = busy_by m (Instance i) busy in of n (m.calls n) refl own
 
 -- ---- a machine that is swept
 
-swept_few : (m : Moment) (it : Account) (name : SlotName) → SweepFacts m it name → it.made (owner_of name) ≤ 3
-swept_few m it name f = by (is_idle m (owner_of name)) refl
+swept_few : (m : Moment) (t : ℕ) (it : Account) (name : SlotName) → SweepFacts m t it name
+    → it.made (owner_of name) ≤ 3
+swept_few m t it name f = by (is_idle m (owner_of name)) refl
   where
     low : (more : ℕ) → nat_le (it.made (owner_of name) + more) 2 ≡ true → it.made (owner_of name) ≤ 3
     low more is = let most : it.made (owner_of name) + more ≤ 2 = leb-true _ 2 is in omega (arith, most)
@@ -76,18 +99,10 @@ swept_few m it name f = by (is_idle m (owner_of name)) refl
         (sym (λ j. where_any (is_sweeping_in_two it name) (is j)) ∙ f.calling n) own)
     of n None is own = absurd (false≢true own)
 
-    twice : (b : Bool) → not (not b) ≡ true → b ≡ true
-    twice true is = refl
-    twice false is = is
-
     by : (idle : Bool) → is_idle m (owner_of name) ≡ idle → it.made (owner_of name) ≤ 3
     by true idle =
         low (to_come (m.known.slot name.task name.slot)) (implied (is_idle m (owner_of name)) _ f.idle idle)
-    by false busy =
-        let one : Meets (λ n. not (not (holds (is_owners (owner_of name)) (m.calls n))))
-        (numbers_to m.known.last_call) =
-        some_fails (λ n. not (holds (is_owners (owner_of name)) (m.calls n))) (numbers_to m.known.last_call) busy in
-        of one.x (m.calls one.x) refl (twice (holds (is_owners (owner_of name)) (m.calls one.x)) one.meets)
+    by false busy = let (n, own) = busy_by m (owner_of name) busy in of n (m.calls n) refl own
 
 same_slot_itself : (name : SlotName) → same_slot name name ≡ true
 same_slot_itself name = grind (arith, eqb_tells name.task name.task, eqb_tells name.slot name.slot)
@@ -157,21 +172,22 @@ module _ (built : KeyWork → List Digest → Digest) (m : Moment) (t : ℕ) (it
       leb-true (sum_by it.made (own_slots t task)) (most_of_slots m t task) facts.slots_few in
       let swept : sum_by it.made (map owner_of it.left_over) ≤ 3 * length it.left_over =
       sum_swept it.made it.left_over
-      (λ name isin. swept_few m it name
+      (λ name isin. swept_few m t it name
       (facts.sweep name (any_in (same_slot name) name it.left_over isin (same_slot_itself name)))) in
       subst (λ (n : ℕ). n ≤ most_of_task m t task it)
       (sym (sum_four it.made (map Instance (instances_of task.goal)) (map Instance task.obsolete) (own_slots t task)
       (map owner_of it.left_over)))
       (omega (arith, rows, leaving, slots, swept))
 
+  -- the calls that it made are those of these
   pub calls_few : holds (λ n. nat_le n (most_of_task m t task it)) task.calls ≡ true
   calls_few = by task.calls refl facts.all_counted
     where
       by : (calls : Option ℕ) → task.calls ≡ calls
-          → option_eq nat_eq calls (Some (sum_by it.made (budgeted t task it))) ≡ true
+          → holds (λ n. nat_le n (sum_by it.made (budgeted t task it))) calls ≡ true
           → holds (λ n. nat_le n (most_of_task m t task it)) calls ≡ true
-      by (Some n) is same =
-          le-leb n (most_of_task m t task it)
-          (subst (λ (k : ℕ). k ≤ most_of_task m t task it)
-          (sym (eqb-true n (sum_by it.made (budgeted t task it)) same)) total)
-      by None is same = absurd (false≢true same)
+      by (Some n) is few =
+          let low : n ≤ sum_by it.made (budgeted t task it) = leb-true n (sum_by it.made (budgeted t task it)) few in
+          let all : sum_by it.made (budgeted t task it) ≤ most_of_task m t task it = total in
+          le-leb n (most_of_task m t task it) (omega (arith, low, all))
+      by None is few = absurd (false≢true few)

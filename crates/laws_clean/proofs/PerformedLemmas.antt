@@ -51,7 +51,7 @@ no_clean_up kind deploy cleans = false≢true deploy
 
 module _ (m : Moment) (h : Holds m) (t : ℕ) (working : works m t ≡ true)
     (deploy : deploys (m.known.task t).kind ≡ true) where
-  no_disk_item : (x : ℕ) → is_item m.known t (Disk x) ≡ true → ⊥
+  pub no_disk_item : (x : ℕ) → is_item m.known t (Disk x) ≡ true → ⊥
   no_disk_item x item =
       by (is_among eqb x (m.known.task t).disks) refl (of_item m.known t (Disk x) item).1.phase
     where

@@ -4,8 +4,8 @@ use Rattle.bosh_history.specs.Goals.{instances_of}
 use Rattle.bosh_history.specs.Known.{Task}
 use Rattle.bosh_history.specs.Moments.{Moment}
 use Rattle.bosh_history.specs.declared.limits.TheConstants.{MOST_CALLS_OF_A_MACHINE, MOST_CALLS_OF_A_ROW}
-use Rattle.laws_facts.specs.Counts.{most_of_slots}
-use Rattle.laws_facts.specs.Courses.{Account}
+use Rattle.laws_counts.specs.Counts.{most_of_slots}
+use Rattle.laws_counts.specs.Courses.{Account}
 
 -- so many for each instance of the goal and each obsolete one, what its own compile machines may have had, and so many
 -- for each that earlier tasks left

@@ -8,7 +8,7 @@ use Rattle.bosh_history.specs.Moments.{Moment, Opening, beginning, later}
 use Rattle.bosh_history.specs.Openings.{deploys}
 use Rattle.bosh_lawful.specs.Clean.{CleanTask, clean_after}
 use Rattle.laws_facts.specs.Clean.{is_call_clean, is_row_clean}
-use Rattle.laws_facts.specs.Courses.{Course}
+use Rattle.laws_counts.specs.Courses.{Course}
 use Rattle.laws_facts.specs.Owners.{works}
 use Rattle.laws_row_facts.specs.Words.{where_any}
 

@@ -12,8 +12,8 @@ ghost use Rattle.bosh_history.specs.Permitted.{IsPermitted, IsRun};
 ghost use Rattle.bosh_history.specs.Words.{holds};
 ghost use Rattle.laws_clean.specs.Few.{most_of_task};
 ghost use Rattle.laws_clean.specs.Unfailed.{AreCleanTasksUnfailed, AreUnfailed};
-ghost use Rattle.laws_facts.specs.Counts.{CleanFacts};
-ghost use Rattle.laws_facts.specs.Courses.{Account, Course, course_later};
+ghost use Rattle.laws_counts.specs.Counts.{CleanFacts};
+ghost use Rattle.laws_counts.specs.Courses.{Account, Course, course_later};
 ghost use Rattle.laws_facts.specs.Facts.{Holds};
 
 /// No call of a clean task fails. At each moment of a permitted history that began on a fit pair, a deploy or fix that

@@ -1,12 +1,10 @@
 -- All facts at a moment: those on what is known, and those that speak of what the cloud has. Each permitted move keeps
 -- those on what is known; of the others it is proved of some that one call keeps them.
-use Rattle.std.specs.Prelude.{◌≡◌, ℕ, Bool, true, false, Option, Some, None, List, [], ◌∷◌, ◌++◌}
+use Rattle.std.specs.Prelude.{◌≡◌, ℕ, true, Option, Some, None, List, [], ◌∷◌, ◌++◌}
 use Rattle.std.specs.List.{filter_map}
 use Rattle.bosh_base.specs.Cloud.{numbers_to, disks_created, disk_creation, vms_created, vm_creation}
-use Rattle.bosh_base.specs.declared.digest.Digest.{Digest}
 use Rattle.bosh_base.specs.declared.entry.Effect.{Effect}
 use Rattle.bosh_base.specs.declared.inst.Inst.{Inst}
-use Rattle.bosh_base.specs.declared.key.KeyWork.{KeyWork}
 use Rattle.bosh_base.specs.declared.owner.Owner.{Owner}
 use Rattle.bosh_base.specs.declared.owner.Owner.TheVariants.{Instance}
 use Rattle.laws_facts.specs.Addresses.{addresses_broken}
@@ -15,8 +13,6 @@ use Rattle.laws_facts.specs.Cloud.{cloud_broken}
 use Rattle.laws_row_facts.specs.Cloud.{CloudFacts}
 use Rattle.laws_facts.specs.CompileMachines.{slot_broken, slot_work_broken}
 use Rattle.laws_slots.specs.Slots.{SlotFacts}
-use Rattle.laws_facts.specs.Counts.{HoldsClean, clean_broken_at}
-use Rattle.laws_facts.specs.Courses.{Course}
 use Rattle.laws_facts.specs.Disks.{DiskFacts, disk_broken}
 use Rattle.laws_facts.specs.Goals.{goal_broken_at}
 use Rattle.laws_facts.specs.KnownFacts.{KnownFacts}
@@ -50,12 +46,6 @@ pub record Holds (m : Moment) : Type 0 where
   pub performed : (n : ℕ) (call : OpenCall) → m.calls n ≡ Some call → PerformedFacts m call
   -- each task that works and the cloud
   pub outcomes : (t : ℕ) → works m t ≡ true → OutcomeFacts m t
-
--- .. and with what is kept of each task
-pub record HoldsAll (built : KeyWork → List Digest → Digest) (c : Course) : Type 0 where
-  pub holds : Holds c.moment
-  -- what is kept of each clean task
-  pub clean : HoldsClean built c
 
 -- ---- the tests of all facts, of each subject that a moment tells of
 
@@ -107,16 +97,3 @@ broken m =
     ++ broken_of (task_broken m) (numbers_to m.known.tasks)
     ++ broken_of (goal_broken_at m.known) m.known.deployments
     ++ addresses_broken m
-
--- .. with those on clean tasks
-abbrev pub all_broken : (KeyWork → List Digest → Digest) → Course → List (List ℕ)
-all_broken built c =
-    broken c.moment ++ broken_of (clean_broken_at built c) (numbers_to c.moment.known.tasks)
-
--- each fact holds, as far as its tests tell
-abbrev pub holds_so_far : (KeyWork → List Digest → Digest) → Course → Bool
-holds_so_far built c = is_none (all_broken built c)
-  where
-    is_none : List (List ℕ) → Bool
-    is_none [] = true
-    is_none tags = false

@@ -3,8 +3,6 @@ pub mod CallFacts
 pub mod Clean
 pub mod Cloud
 pub mod CompileMachines
-pub mod Counts
-pub mod Courses
 pub mod Disks
 pub mod Facts
 pub mod Goals
@@ -15,7 +13,6 @@ pub mod Makers
 pub mod Numbers
 pub mod OpenCalls
 pub mod Owners
-pub mod RowSteps
 pub mod Rows
 pub mod TaskFacts
 pub mod Tasks

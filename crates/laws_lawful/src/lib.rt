@@ -7,15 +7,12 @@ ghost use Rattle.bosh_history.specs.Fit.{IsFit, LeavesPair};
 ghost use Rattle.bosh_history.specs.Moments.{Opening};
 ghost use Rattle.bosh_history.specs.Notes.{Outside};
 ghost use Rattle.bosh_history.specs.Permitted.{IsRun};
-ghost use Rattle.bosh_lawful.specs.Clean.{AreCleanTasksBounded};
 ghost use Rattle.bosh_lawful.specs.Lawful.{IsLawful};
-ghost use Rattle.bosh_lawful.specs.Workers.{AreWorkersApart};
 
-/// A history that began on a fit pair and is permitted move by move is lawful, where its clean tasks keep within their
-/// budgets, and each worker makes one call at a time: which of its workers makes a call is not part of what is permitted.
+/// A history that began on a fit pair and is permitted move by move is lawful.
 pub fn permitted_histories_are_lawful()
     ensures { (outside : Outside) (o : Opening) (moves : List Move) → IsFit outside o → IsRun outside o moves →
-        AreCleanTasksBounded o moves → AreWorkersApart o moves → IsLawful outside o moves }
+        IsLawful outside o moves }
 {}
 
 /// What a permitted session leaves that ends with a stop is a fit pair again.

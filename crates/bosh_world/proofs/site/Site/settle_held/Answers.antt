@@ -73,6 +73,6 @@ returns-in-Err-clause-pending g c =
     (IsAllowed (MayEnd c.args.self.now.book c.args.call.permit c.args.call.answer)
     (entries.End (record { n = c.args.call.permit.n; answer = c.args.call.answer }))) c.sprung.result c.in-Err.fault
     c.refused-fault.ensures.follows.halted
-    (allowed_as {T = Unit {0}} (MayEnd c.args.self.now.book c.args.call.permit c.args.call.answer)
+    (allowed_as (Unit {0}) (MayEnd c.args.self.now.book c.args.call.permit c.args.call.answer)
     (entries.End (record { n = c.args.call.permit.n; answer = c.args.call.answer })) c.settle.new.self.journal c.in-Err.fault
     c.in-Err.ensures.pending)

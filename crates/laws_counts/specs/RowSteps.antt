@@ -1,7 +1,7 @@
 -- The calls of an instance in a clean task: a ping, and steps that each were the next one and lead to its row.
-use Rattle.std.specs.Prelude.{◌≡◌, ℕ, ◌+◌, Bool, true, nat_lt, not, ◌&&◌, ◌||◌, ◌==◌, Option, Some, None, is_some, List, [], ◌∷◌, fold, length}
+use Rattle.std.specs.Prelude.{◌≡◌, ℕ, ◌+◌, Bool, true, false, nat_le, nat_lt, not, ◌&&◌, ◌||◌, ◌==◌, Option, Some, None, is_some, List, [], ◌∷◌, fold, length}
 use Rattle.std.specs.Cmp.Lexicographic.{pointwise}
-use Rattle.std.specs.List.{list_any, list_all}
+use Rattle.std.specs.List.{list_all}
 use Rattle.std.specs.Option.{option_eq}
 use Rattle.bosh_base.specs.Cloud.{numbers_to}
 use Rattle.bosh_base.specs.CallStep.{answer_of, is_gone}
@@ -14,13 +14,12 @@ use Rattle.bosh_base.specs.declared.goal.GoalRow.{GoalRow}
 use Rattle.bosh_base.specs.declared.inst.Inst.{Inst}
 use Rattle.bosh_base.specs.declared.key.KeyWork.{KeyWork}
 use Rattle.bosh_base.specs.declared.moves.Did.{Did}
-use Rattle.bosh_base.specs.declared.owner.Owner.{Owner}
 use Rattle.bosh_base.specs.declared.owner.Owner.TheVariants.{Instance}
 use Rattle.bosh_base.specs.declared.row.DiskRow.{DiskRow}
 use Rattle.bosh_base.specs.declared.row.Doubt.{Doubt}
 use Rattle.bosh_base.specs.declared.row.Row.{Row}
 use Rattle.laws_facts.specs.Clean.{is_unspoiled}
-use Rattle.laws_facts.specs.Courses.{Account}
+use Rattle.laws_counts.specs.Courses.{Account}
 use Rattle.laws_row_facts.specs.Calls.{is_ping}
 use Rattle.laws_row_facts.specs.Words.{implies, where_any, same_call}
 use Rattle.bosh_history.specs.Goals.{is_in}
@@ -29,7 +28,7 @@ use Rattle.bosh_history.specs.Known.{Task, want_in}
 use Rattle.bosh_history.specs.Moments.{Moment, OpenCall}
 use Rattle.bosh_history.specs.Steps.{is_idle, is_owners}
 use Rattle.bosh_rows.specs.Tied.{one_if}
-use Rattle.bosh_history.specs.Words.{holds, is_among}
+use Rattle.bosh_history.specs.Words.{is_among}
 use Rattle.laws_rows.specs.Answered.{Answered, AreAnswered, has_room_for_disks, row_after}
 use Rattle.laws_rows.specs.SoundDisks.{are_sound, is_found_new}
 use Rattle.bosh_rows.specs.After.{after, begun_row}
@@ -55,34 +54,35 @@ abbrev pub IsLedTo : Begin → Option Did → Row → Row → Type 0
 IsLedTo b (Some d) led row = led ≡ after b.n b.call d.answer row
 IsLedTo b None led row = begun_row b.n b.call led ≡ row
 
--- a call of it is open, and the cloud has not performed it
-abbrev pub is_awaited : Owner → OpenCall → Bool
-is_awaited owner call = is_owners owner call && not (is_some call.did)
+-- ---- how many calls began
 
--- how many calls of the owner are so
-abbrev pub awaited : Moment → Owner → ℕ
-awaited m owner = one_if (list_any (λ n. holds (is_awaited owner) (m.calls n)) (numbers_to m.known.last_call))
+-- beside its steps one, once it is not to be asked any more
+abbrev pub is_few_at_rest : Task → Account → Inst → Bool
+is_few_at_rest t it i = nat_le (it.made (Instance i)) (length (it.steps i) + one_if (not (is_to_ping t i)))
 
--- the cloud answered its open ping
-abbrev pub is_ping_answered : Moment → Inst → Bool
-is_ping_answered m i =
-    list_any (λ n. holds (λ it. is_owners (Instance i) it && (is_ping it.begin.call && is_some it.did)) (m.calls n))
-    (numbers_to m.known.last_call)
+-- .. and an open call, where that is a ping or the cloud has not performed it
+abbrev pub is_extra : OpenCall → Bool
+is_extra call = is_ping call.begin.call || not (is_some call.did)
 
--- how often the cloud answered a ping of the instance in the task
-abbrev pub times_asked : Moment → Task → Inst → ℕ
-times_asked m t i = one_if (is_among same_inst i t.to_ping && (t.pinged i || is_ping_answered m i))
-
--- each call that began is a ping, a step that the cloud performed, or one that it has not
-abbrev pub is_each_call_counted : Moment → Task → Account → Inst → Bool
-is_each_call_counted m t it i =
-    it.asked i == times_asked m t i
-    && it.made (Instance i) == length (it.steps i) + it.asked i + awaited m (Instance i)
+abbrev pub is_few_in_call : Task → Account → Inst → OpenCall → Bool
+is_few_in_call t it i call =
+    nat_le (it.made (Instance i)) (length (it.steps i) + one_if (not (is_to_ping t i)) + one_if (is_extra call))
 
 -- an open call is younger than what is wanted may be old
 abbrev pub is_young : Task → Inst → OpenCall → Bool
-is_young t i call =
-    implies (is_owners (Instance i) call) (where_any (λ want. nat_lt want.fresh_after call.begin.n) (want_in t.goal i))
+is_young t i call = where_any (λ want. nat_lt want.fresh_after call.begin.n) (want_in t.goal i)
+
+-- ---- all
+
+-- the facts on an open call of an instance
+pub record InCall (t : Task) (it : Account) (i : Inst) (row : Row) (call : OpenCall) : Type 0 where
+  -- its steps lead to what the call finds, or leaves
+  pub leads : IsLedTo call.begin call.did (led_to it i) row
+  -- until the cloud performs it, it is the next call of the row that they lead to
+  pub next : is_ping call.begin.call ≡ false → call.did ≡ None →
+      next_call (want_in t.goal i) (led_to it i) ≡ Some call.begin.call
+  pub young : is_young t i call ≡ true
+  pub few : is_few_in_call t it i call ≡ true
 
 -- the facts on the calls of an instance in a clean task
 pub record StepFacts
@@ -91,14 +91,14 @@ pub record StepFacts
   pub room : has_room_for_disks (it.first i) ≡ true
   -- each step was the next one of the row that the steps before it left, and was answered as the cloud had it
   pub answered : AreAnswered built (want_in t.goal i) (it.first i) (it.steps i)
-  -- they lead to the row, and where a call of it is open to what that finds or leaves
-  pub leads : is_idle m (Instance i) ≡ true → may_go_on t i ≡ true → led_to it i ≡ m.known.row i
-  pub leads_on : (n : ℕ) (call : OpenCall) → m.calls n ≡ Some call → is_owners (Instance i) call ≡ true →
-      IsLedTo call.begin call.did (led_to it i) (m.known.row i)
-  pub counted : is_each_call_counted m t it i ≡ true
   -- none is before its ping
   pub unasked : is_to_ping t i ≡ true → it.steps i ≡ []
-  pub young : (n : ℕ) → where_any (is_young t i) (m.calls n) ≡ true
+  -- while no call of it is open, they lead to the row, as long as something is left to do for it
+  pub few : is_idle m (Instance i) ≡ true → is_few_at_rest t it i ≡ true
+  pub leads : is_idle m (Instance i) ≡ true → may_go_on t i ≡ true → led_to it i ≡ m.known.row i
+  -- .. and while one is open
+  pub in_call : (n : ℕ) (call : OpenCall) → m.calls n ≡ Some call → is_owners (Instance i) call ≡ true →
+      InCall t it i (m.known.row i) call
 
 -- ---- the tests
 
@@ -151,10 +151,18 @@ abbrev pub is_led_to : Begin → Option Did → Row → Row → Bool
 is_led_to b (Some d) led row = same_row led (after b.n b.call d.answer row)
 is_led_to b None led row = same_row (begun_row b.n b.call led) row
 
--- .. where the open call is the instance's
-abbrev pub is_led_on : Moment → Account → Inst → OpenCall → Bool
-is_led_on m it i call =
-    implies (is_owners (Instance i) call) (is_led_to call.begin call.did (led_to it i) (m.known.row i))
+-- the next call of the row that the steps lead to is this one, where it is none that asks, and not performed
+abbrev pub is_next_led : Task → Account → Inst → OpenCall → Bool
+is_next_led t it i call =
+    implies (not (is_ping call.begin.call) && not (is_some call.did))
+    (option_eq same_call (next_call (want_in t.goal i) (led_to it i)) (Some call.begin.call))
+
+-- the test of InCall, where the open call is the instance's
+abbrev pub is_in_call_well : Moment → Task → Account → Inst → OpenCall → Bool
+is_in_call_well m t it i call =
+    implies (is_owners (Instance i) call)
+    (is_led_to call.begin call.did (led_to it i) (m.known.row i)
+    && (is_next_led t it i call && (is_young t i call && is_few_in_call t it i call)))
 
 -- the test of StepFacts
 abbrev pub are_steps_well : (KeyWork → List Digest → Digest) → Moment → Task → Account → Inst → Bool
@@ -162,8 +170,7 @@ are_steps_well built m t it i =
     are_sound (it.first i).disks
     && (has_room_for_disks (it.first i)
     && (are_answered built (want_in t.goal i) (it.first i) (it.steps i)
-    && (implies (is_idle m (Instance i) && may_go_on t i) (same_row (led_to it i) (m.known.row i))
-    && (list_all (λ n. where_any (is_led_on m it i) (m.calls n)) (numbers_to m.known.last_call)
-    && (is_each_call_counted m t it i
     && (implies (is_to_ping t i) (is_empty (it.steps i))
-    && list_all (λ n. where_any (is_young t i) (m.calls n)) (numbers_to m.known.last_call)))))))
+    && (implies (is_idle m (Instance i)) (is_few_at_rest t it i)
+    && (implies (is_idle m (Instance i) && may_go_on t i) (same_row (led_to it i) (m.known.row i))
+    && list_all (λ n. where_any (is_in_call_well m t it i) (m.calls n)) (numbers_to m.known.last_call))))))

@@ -34,8 +34,6 @@ pub record Account : Type 0 where
   pub first : Inst → Row
   -- the calls of its steps that the cloud performed, in order
   pub steps : Inst → List Answered
-  -- how often it was asked
-  pub asked : Inst → ℕ
   -- how many calls began for an owner
   pub made : Owner → ℕ
 
@@ -51,7 +49,6 @@ no_account = record {
   left_over = [];
   first = bare;
   steps = λ i. [];
-  asked = λ i. 0;
   made = λ owner. 0;
 }
 
@@ -89,10 +86,7 @@ unclean accounts = λ t. record (accounts t) { is_clean = false }
 abbrev pub performed : Moment → Begin → Did → Inst → Account → Account
 performed m b d i it =
     if is_ping b.call
-    then record it {
-      first = at same_inst i (after b.n b.call d.answer (m.known.row i)) it.first;
-      asked = at same_inst i (it.asked i + 1) it.asked;
-    }
+    then record it { first = at same_inst i (after b.n b.call d.answer (m.known.row i)) it.first }
     else record it {
       steps =
           at same_inst i
