@@ -1,7 +1,7 @@
 -- A call of a disk that belongs to no instance begins.
 use Rattle.std.proofs.Common.{◌≡◌, ◌∙◌, ℕ, ◌+◌, Bool, true, false, ◌&&◌, not, List, ◌==◌, filter, map}
 use Rattle.std.proofs.Common.{Option, Some, None, ap, refl, sym, subst}
-use Rattle.std.specs.Prelude.{eqb, is_some, min, nat_le, if◌then◌else◌}
+use Rattle.std.specs.Prelude.{eqb, is_some, min, if◌then◌else◌}
 use Rattle.std.specs.Option.{option_and_then, option_map}
 use Rattle.std.specs.Ordering.{nat_cmp}
 use Rattle.std.proofs.lemmas.Bool.{eq-eqb, eqb-true, false≢true}
@@ -10,19 +10,16 @@ use Rattle.bosh_base.specs.declared.call.Call.TheVariants.{DeleteDisk}
 use Rattle.bosh_base.specs.declared.entry.Begin.{Begin}
 use Rattle.bosh_base.specs.declared.entry.Entry.TheVariants as entries
 use Rattle.bosh_base.specs.declared.owner.Owner.TheVariants.{Compile, Disk, Instance}
-use Rattle.bosh_base.specs.declared.task.TaskRow.{TaskRow}
 use Rattle.bosh_compile.specs.Readiness.{same_key}
 use Rattle.bosh_fold.specs.Calls.{counted, noted_call, opened_call, taken_by, with_call, with_subject}
 use Rattle.bosh_history.specs.Calls.{orphan_begun, task_with_call}
-use Rattle.bosh_history.specs.Held.{is_open}
 use Rattle.bosh_history.specs.Items.{is_in_deployment}
 use Rattle.bosh_history.specs.Known.{Known, SlotName, Task}
 use Rattle.bosh_history.specs.Slots.{keys_of}
-use Rattle.bosh_history.specs.Snapshots.{task_row}
 use Rattle.bosh_history.specs.Words.{at}
 use Rattle.bosh_plan.specs.Begun.{subject_of}
 use Rattle.bosh_progress.specs.Tree.{first_marked}
-use Rattle.bosh_records.specs.Changes.{with_disk_call, with_disk_doubt}
+use Rattle.bosh_records.specs.Changes.{with_disk_call, with_disk_doubt, with_one_call}
 use Rattle.bosh_records.specs.Places.{places_in}
 use Rattle.bosh_records.specs.Recorded.{Recorded}
 use Rattle.bosh_records.specs.Table.{changed, found, thing_in}
@@ -47,13 +44,16 @@ use Rattle.laws_stands_on.proofs.CallLemmas.{idle_begun, one_more_call}
 use Rattle.laws_stands_on.proofs.FindLemmas.{compiling_begun}
 use Rattle.laws_stands_on.proofs.LinkLemmas.{WasWork, changed_work, links_go_on}
 use Rattle.laws_stands_on.proofs.ListedLemmas.{SameListed, listed_goes_on}
+use Rattle.laws_stands_on.proofs.OnceLemmas.{once_altered}
 use Rattle.laws_stands_on.proofs.TableLemmas.{nat_at, nat_keys, thing_changed}
 use Rattle.laws_stands_on.proofs.ChangedLemmas.{eqb_flip, some_mapped, thing_at_key, things_changed}
 use Rattle.laws_stands_on.proofs.NextCallLemmas.{calls_next, dep_same, going_same, other_calls, other_idle, own_call}
 use Rattle.laws_stands_on.proofs.NextCallLemmas.{same_count, same_failed, task_same, tasks_next, tells_next}
-use Rattle.laws_stands_after.proofs.SameGroupLemmas.{groups_as}
+use Rattle.laws_stands.proofs.SameGroupLemmas.{groups_as}
+use Rattle.laws_stands.specs.Once.{IsOnce}
 use Rattle.laws_stands_on.specs.Allows.{AllowsNext}
 use Rattle.laws_stands_after.specs.Disks.{AllowsDisk}
+use Rattle.laws_stands_on.proofs.TaskLemmas.{dep_recorded}
 
 -- ---- what is planned
 
@@ -79,6 +79,12 @@ orphans_noted : (number : ℕ) (call : Call) (d : ℕ) (orphans : List (ℕ × O
 orphans_noted number (DeleteDisk disk) d orphans x = things_changed d
     (with_disk_doubt (Some (record { n = number; call = DeleteDisk disk }))) (with_disk_call (Some number)) orphans x
 orphans_noted number call d orphans x = thing_at_key d (with_disk_call (Some number)) orphans x
+
+once_noted : (number : ℕ) (call : Call) (d : ℕ) (orphans : List (ℕ × Option LooseDisk)) → IsOnce nat_cmp orphans
+    → IsOnce nat_cmp (noted_orphans number call d orphans)
+once_noted number (DeleteDisk disk) d orphans once = once_altered nat_cmp d
+    (option_map (with_disk_doubt (Some (record { n = number; call = DeleteDisk disk })))) orphans once
+once_noted number call d orphans once = once
 
 -- ---- the call
 
@@ -188,16 +194,7 @@ module _ (told : Told) (was : Records) (it : Recorded) (n number worker : ℕ) (
       else work_of it t) (nat_at n t)
 
   dep_is : dep_of it n ≡ None
-  dep_is =
-      ap (option_and_then (λ (row : TaskRow). row.dep)) (stands.tasks n
-      ∙ (λ j. if opened (nat_le 1 n) (nat_le n k.tasks) (is_open k n) next.going j then Some (task_row k n)
-      else None))
-      ∙ allows.dep
-    where
-      opened : (a b c : Bool) → (a && (b && c)) ≡ true → (a && b) ≡ true
-      opened true true c is = refl
-      opened true false c is = is
-      opened false b c is = is
+  dep_is = dep_recorded told it n stands next.going ∙ allows.dep
 
   -- the place at which the work of the task lists it
   abbrev places : Places
@@ -239,7 +236,7 @@ module _ (told : Told) (was : Records) (it : Recorded) (n number worker : ℕ) (
     obsolete = subst (λ idle. LineStands (k.task n).obsolete (λ i. not ((k.task n).gone i)) idle work.obsolete)
         idle_path work_stands.obsolete;
     disks =
-        stands_taken eqb eqb-true (k.task n).disks allows.disks_apart d (λ x. is_some (k.orphan x))
+        stands_taken eqb eqb-true (k.task n).disks (stands.tells_well.disks_apart n) d (λ x. is_some (k.orphan x))
         (λ x. is_idle told (Disk x)) (λ x. is_some (new.known.orphan x)) (λ x. is_idle new (Disk x))
         work.disks left_same idle_disks work_stands.disks;
     sweep =
@@ -392,16 +389,33 @@ module _ (told : Told) (was : Records) (it : Recorded) (n number worker : ℕ) (
     calls = calls_next told it b next stands room;
     works = works;
     linked = linked;
-    tells_well = let tells : TellsWell _ = tells_next told it b next stands in record {
-      number = tells.number;
-      low = tells.low;
-      past = tells.past;
-      begun = tells.begun;
-      begun_past = tells.begun_past;
-      failed = tells.failed;
-      going = tells.going;
-      updates = tells.updates;
+    once = record {
+      instances = (stands.once).instances;
+      machines = (stands.once).machines;
+      orphans = once_altered nat_cmp d (option_map (with_disk_call (Some number))) (noted_orphans number call d it.orphans)
+          (once_noted number call d it.orphans (stands.once).orphans);
+      keys = (stands.once).keys;
+      tasks = once_altered nat_cmp n (option_map with_one_call) it.tasks (stands.once).tasks;
+      works = once_altered nat_cmp n (option_map (λ work. taken work (places_in noted (Disk d)))) it.works
+          (stands.once).works;
+      calls = once_altered nat_cmp number (λ _. Some b) it.calls (stands.once).calls;
     };
+    tells_well = let tells : TellsWell _ = tells_next told it b next stands k.instances (λ i is. is) (λ i own. absurd cc)
+        in record {
+          number = tells.number;
+          low = tells.low;
+          past = tells.past;
+          begun = tells.begun;
+          begun_past = tells.begun_past;
+          failed = tells.failed;
+          going = tells.going;
+          one_owner = tells.one_owner;
+          one_key = tells.one_key;
+          recorded = tells.recorded;
+          counted = tells.counted;
+          disks_apart = tells.disks_apart;
+          updates = tells.updates;
+        };
   }
 
   -- .. as it is learned

@@ -1,7 +1,7 @@
 -- A call of an instance begins.
 use Rattle.std.proofs.Common.{◌≡◌, ◌∙◌, ℕ, Bool, true, false, ◌&&◌, ◌||◌, not, List}
 use Rattle.std.proofs.Common.{◌==◌, filter, map, Option, Some, None, ap, refl, sym, subst}
-use Rattle.std.specs.Prelude.{eqb, is_some, nat_le, slice_get, if◌then◌else◌}
+use Rattle.std.specs.Prelude.{eqb, is_some, slice_get, if◌then◌else◌}
 use Rattle.std.specs.Option.{option_and_then, option_map, option_map_or, unwrap_or}
 use Rattle.std.specs.Ordering.{nat_cmp}
 use Rattle.std.proofs.lemmas.Bool.{eqb-true, false≢true}
@@ -14,20 +14,18 @@ use Rattle.bosh_base.specs.declared.inst.Inst.{Inst}
 use Rattle.bosh_base.specs.declared.key.Key.{Key}
 use Rattle.bosh_base.specs.declared.owner.Owner.TheVariants.{Compile, Disk, Instance}
 use Rattle.bosh_base.specs.declared.row.Row.{Row}
-use Rattle.bosh_base.specs.declared.task.TaskRow.{TaskRow}
 use Rattle.bosh_compile.specs.Readiness.{same_key}
 use Rattle.bosh_fold.specs.Calls.{counted, noted_call, opened_call, taken_by, with_call, with_compiling, with_row}
 use Rattle.bosh_fold.specs.Calls.{with_subject}
 use Rattle.bosh_history.specs.Calls.{task_with_call}
-use Rattle.bosh_history.specs.Held.{is_open}
 use Rattle.bosh_history.specs.Items.{is_in_deployment}
 use Rattle.bosh_history.specs.Known.{Known, SlotName, Task}
 use Rattle.bosh_history.specs.Slots.{keys_of}
-use Rattle.bosh_history.specs.Snapshots.{task_row}
 use Rattle.bosh_history.specs.Steps.{compiles}
 use Rattle.bosh_history.specs.Words.{at, inserted, is_among}
 use Rattle.bosh_plan.specs.declared.beginning.Subject.TheVariants as subjects
 use Rattle.bosh_progress.specs.Tree.{first_marked}
+use Rattle.bosh_records.specs.Changes.{with_one_call}
 use Rattle.bosh_records.specs.Places.{part_of, places_in}
 use Rattle.bosh_records.specs.Recorded.{Recorded}
 use Rattle.bosh_records.specs.Table.{altered, found}
@@ -46,8 +44,6 @@ use Rattle.laws_facts.proofs.InstanceLemmas.{inst_equal}
 use Rattle.laws_facts.proofs.OrderLemmas.{any_inserted}
 use Rattle.laws_stands.proofs.MemberLemmas.{inst_is}
 use Rattle.laws_stands.proofs.PremiseLemmas.{none_at}
-use Rattle.laws_stands.specs.GroupsStand.{change_place}
-use Rattle.laws_stands.specs.LineStands.{place_of}
 use Rattle.laws_stands.specs.Reading.{dep_of, instance_of, row_of, work_of}
 use Rattle.laws_stands.specs.Stands.{AreSwept, IsWork, StandsIn, arrivals_of, call_of, key_of_slot}
 use Rattle.laws_stands.specs.Told.{TellsWell, Told, idle_in, is_going, telling}
@@ -57,10 +53,12 @@ use Rattle.laws_stands_on.proofs.KeyLemmas.{inst_at, inst_keys}
 use Rattle.laws_stands_on.proofs.LinkLemmas.{ListsSame, changed_work, links_go_on}
 use Rattle.laws_stands_on.proofs.ListedLemmas.{SameListed, listed_goes_on}
 use Rattle.laws_stands_on.proofs.TableLemmas.{found_altered, nat_at, nat_keys, thing_changed}
+use Rattle.laws_stands_on.proofs.OnceLemmas.{once_altered}
 use Rattle.laws_stands_on.proofs.CallLemmas.{inst_flip}
 use Rattle.laws_stands_on.proofs.NextCallLemmas as next_call
 use Rattle.laws_stands_on.proofs.WorkLemmas.{after_call_begun, compiles_itself}
 use Rattle.laws_stands_on.specs.Allows.{AllowsCall, AllowsNext, HasPlaces}
+use Rattle.laws_stands_on.proofs.TaskLemmas.{dep_recorded, part_listed}
 
 -- taking its places changes no list of a work
 lines_same : {T : Type 0} (line : Line T) (o : Option ℕ) → (taken_line line o).items ≡ line.items
@@ -115,8 +113,8 @@ module _ (told : Told) (it : Recorded) (n number worker : ℕ) (call : Call) (i 
     small = allows.small;
     going = allows.going;
     none_failed = allows.none_failed;
-    counted = allows.counted;
     idle = allows.idle;
+    compiles_new = λ c d key is compiled. absurd (false≢true (sym (allows.compiles_none key) ∙ compiled));
   }
 
   -- ---- the instance
@@ -192,6 +190,16 @@ module _ (told : Told) (it : Recorded) (n number worker : ℕ) (call : Call) (i 
   among_is x = any_inserted inst_cmp (same_inst x) (λ a b same. ap (same_inst x) (inst_equal a b same)) i
       k.instances
 
+  or_true : (a b : Bool) → b ≡ true → (a || b) ≡ true
+  or_true true b is = refl
+  or_true false b is = is
+
+  own_first : (x : Inst) → b.owner ≡ Instance x → (same_inst x i || is_among same_inst x k.instances) ≡ true
+  own_first x own =
+      let e : i ≡ x = cc in
+      (λ j. same_inst (sym e j) i || is_among same_inst x k.instances) ∙ ap (λ t. t || is_among same_inst x k.instances)
+      (itself i)
+
   rows : (x : Inst) → row_of begun x
       ≡ (if is_among same_inst x (inserted inst_cmp i k.instances)
       then Some (at same_inst i (begun_row number call (k.row i)) k.row x) else None)
@@ -249,16 +257,7 @@ module _ (told : Told) (it : Recorded) (n number worker : ℕ) (call : Call) (i 
       k.machines) (λ it. refl) t)
 
   dep_is : dep_of it n ≡ Some i.dep
-  dep_is =
-      ap (option_and_then (λ (row : TaskRow). row.dep)) (stands.tasks n
-      ∙ (λ j. if opened (nat_le 1 n) (nat_le n k.tasks) (is_open k n) allows.going j then Some (task_row k n)
-      else None))
-      ∙ allows.dep
-    where
-      opened : (a b c : Bool) → (a && (b && c)) ≡ true → (a && b) ≡ true
-      opened true true c is = refl
-      opened true false c is = is
-      opened false b c is = is
+  dep_is = dep_recorded told it n stands allows.going ∙ allows.dep
 
   -- ---- works
 
@@ -274,21 +273,11 @@ module _ (told : Told) (it : Recorded) (n number worker : ℕ) (call : Call) (i 
   places_are : (work : Work) (swept : List MachineName) → work_of it n ≡ Some work
       → StandsFor told (k.task n) n swept work
       → places_in noted (Instance i) ≡ places_of (k.task n) i
-  places_are work swept is work_stands = λ j. record { part = (part_is i ∙ part) j; sweep = None; deleting = None }
-    where
-      part : part_of it i ≡ record {
-        ping = place_of same_inst i (k.task n).to_ping;
-        leaving = place_of same_inst i (k.task n).obsolete;
-        change = change_place (k.task n).changed i;
-      }
-      part = λ j. record {
-        ping = (stands.linked.pings n work i is dep_is ∙ ap (place_of same_inst i) (work_stands.pings).items_are) j;
-        leaving =
-            (stands.linked.leaving n work i is dep_is ∙ ap (place_of same_inst i) (work_stands.obsolete).items_are)
-            j;
-        change = (stands.linked.changes n work i is dep_is
-            ∙ ap (λ changed. change_place changed i) work_stands.changed_are) j;
-      }
+  places_are work swept is work_stands = λ j. record {
+    part = (part_is i ∙ part_listed told it n stands i swept work dep_is is work_stands) j;
+    sweep = None;
+    deleting = None;
+  }
 
   own_work : (o : Option Work) → work_of it n ≡ o → IsWork told n o
       → IsWork new n (option_map (λ work. taken work (places_in noted (Instance i))) o)
@@ -387,16 +376,35 @@ module _ (told : Told) (it : Recorded) (n number worker : ℕ) (call : Call) (i 
       machines = λ name. refl;
       orphans = λ d. refl;
     }) stands.linked;
-    tells_well = let tells : TellsWell _ = next_call.tells_next told it b next stands in record {
-      number = tells.number;
-      low = tells.low;
-      past = tells.past;
-      begun = tells.begun;
-      begun_past = tells.begun_past;
-      failed = tells.failed;
-      going = tells.going;
-      updates = tells.updates;
+    once = record {
+      instances = once_altered inst_cmp i (λ known. record known { call = Some number }) (with_row row it).instances
+          (once_altered inst_cmp row.inst (λ known. record known { row = Some row }) it.instances
+          (stands.once).instances);
+      machines = (stands.once).machines;
+      orphans = (stands.once).orphans;
+      keys = (stands.once).keys;
+      tasks = once_altered nat_cmp n (option_map with_one_call) it.tasks (stands.once).tasks;
+      works = once_altered nat_cmp n (option_map (λ work. taken work (places_in noted (Instance i)))) it.works
+          (stands.once).works;
+      calls = once_altered nat_cmp number (λ _. Some b) it.calls (stands.once).calls;
     };
+    tells_well = let tells : TellsWell _ = next_call.tells_next told it b next stands (inserted inst_cmp i k.instances)
+        (λ x is. among_is x ∙ or_true (same_inst x i) (is_among same_inst x k.instances) is)
+        (λ x own. among_is x ∙ own_first x own) in record {
+          number = tells.number;
+          low = tells.low;
+          past = tells.past;
+          begun = tells.begun;
+          begun_past = tells.begun_past;
+          failed = tells.failed;
+          going = tells.going;
+          one_owner = tells.one_owner;
+          one_key = tells.one_key;
+          recorded = tells.recorded;
+          counted = tells.counted;
+          disks_apart = tells.disks_apart;
+          updates = tells.updates;
+        };
   }
 
   -- .. as it is learned

@@ -16,17 +16,14 @@ use Rattle.bosh_base.specs.declared.inst.Inst.{Inst}
 use Rattle.bosh_base.specs.declared.owner.Owner.TheVariants.{Compile, Disk, Instance}
 use Rattle.bosh_base.specs.declared.row.Row.{Row}
 use Rattle.bosh_base.specs.declared.task.TaskEnd.{TaskEnd}
-use Rattle.bosh_base.specs.declared.task.TaskRow.{TaskRow}
 use Rattle.bosh_compile.specs.Readiness.{same_key}
 use Rattle.bosh_fold.specs.Calls.{closed_call, ended_by, ended_in, failed_in, given_by}
 use Rattle.bosh_fold.specs.Calls.{pinged_by, with_call, with_row}
 use Rattle.bosh_history.specs.Calls as known_calls
 use Rattle.bosh_history.specs.Calls.{call_ended, least_failure, number_of, task_told}
-use Rattle.bosh_history.specs.Held.{is_open}
 use Rattle.bosh_history.specs.Items.{is_in_deployment}
 use Rattle.bosh_history.specs.Known.{Known, SlotName, Task}
 use Rattle.bosh_history.specs.Slots.{keys_of}
-use Rattle.bosh_history.specs.Snapshots.{task_row}
 use Rattle.bosh_history.specs.Steps.{compiles}
 use Rattle.bosh_history.specs.Words.{at, holds, is_among}
 use Rattle.bosh_plan.specs.Ended as planned
@@ -51,8 +48,6 @@ use Rattle.bosh_work.specs.declared.part.Places.{Places}
 use Rattle.bosh_work.specs.declared.work.Work.{Work}
 use Rattle.laws_stands.proofs.MemberLemmas.{inst_is}
 use Rattle.laws_stands.proofs.PremiseLemmas.{none_at}
-use Rattle.laws_stands.specs.GroupsStand.{change_place}
-use Rattle.laws_stands.specs.LineStands.{place_of}
 use Rattle.laws_stands.specs.Reading.{dep_of, instance_of, row_of, work_of}
 use Rattle.laws_stands.specs.Stands.{AreSwept, IsWork, Stands, StandsIn, call_of, key_of_slot}
 use Rattle.laws_stands.specs.Told.{TellsWell, Told, idle_in, is_going, is_idle, telling}
@@ -67,16 +62,17 @@ use Rattle.laws_stands_on.proofs.CallLemmas.{inst_flip}
 use Rattle.laws_stands_on.proofs.NextCallLemmas.{row_by}
 use Rattle.laws_stands_on.proofs.OnlyCallLemmas as only_call
 use Rattle.laws_stands_on.proofs.WorkLemmas.{after_call_ended, after_ping}
-use Rattle.laws_stands_on.specs.Allows.{AllowsEnd, IsOnlyCall}
-use Rattle.laws_stands_on.specs.Once.{IsOnce}
+use Rattle.laws_stands_on.specs.Allows.{AllowsEnd}
+use Rattle.laws_stands_on.proofs.OnceLemmas.{once_altered, once_without}
 use Rattle.laws_stands_on.proofs.AnsweredLemmas.{ended_as, ended_work, ends_same, none_built}
 use Rattle.laws_stands_on.proofs.AnsweredLemmas.{none_known, pinged_as, takes_as, takes_ping}
+use Rattle.laws_stands_on.proofs.TaskLemmas.{dep_recorded, part_listed}
 
 module _ (told : Told) (was : Records) (it : Recorded) (n number worker : ℕ) (call : Call) (answer : Answer)
     (i : Inst)
     (allows : AllowsEnd told (record { n = number; task = n; worker = worker; owner = Instance i; call = call })
     answer i)
-    (once : IsOnce nat_cmp it.calls) (stood : Stands told was) (stands : StandsIn told it) where
+    (stood : Stands told was) (stands : StandsIn told it) where
   abbrev b : Begin
   b = record { n = number; task = n; worker = worker; owner = Instance i; call = call }
 
@@ -86,9 +82,16 @@ module _ (told : Told) (was : Records) (it : Recorded) (n number worker : ℕ) (
   abbrev k : Known
   k = told.known
 
-  -- what the end of any call needs
-  only : IsOnlyCall told b
-  only = record { is_open = allows.is_open; only = allows.only }
+  -- the call is open
+  only : told.calls number ≡ Some b
+  only = allows.is_open
+
+  -- .. and no other is its instance's
+  only_one : (c : ℕ) (d : Begin) → told.calls c ≡ Some d → same_owner d.owner (Instance i) ≡ true → c ≡ number
+  only_one c d there same = stands.tells_well.one_owner c number d b there only same
+
+  recorded : is_among same_inst i k.instances ≡ true
+  recorded = stands.tells_well.recorded number b i only refl
 
   -- its row
   abbrev row : Row
@@ -132,7 +135,7 @@ module _ (told : Told) (was : Records) (it : Recorded) (n number worker : ℕ) (
   -- ---- what is planned
 
   row_there : row_at was i ≡ Some (k.row i)
-  row_there = stood.rows i ∙ (λ j. if allows.recorded j then Some (k.row i) else None)
+  row_there = stood.rows i ∙ (λ j. if recorded j then Some (k.row i) else None)
 
   abbrev fail : Option TaskEnd
   fail = planned.failure_of was answer b
@@ -280,8 +283,8 @@ module _ (told : Told) (was : Records) (it : Recorded) (n number worker : ℕ) (
           ∙ ap (λ x. option_and_then (λ (known : instances.Instance). known.row)
           (option_map said (instance_of it x))) (sym same)
           ∙ recorded_some (instance_of it i) (stands.rows i
-          ∙ (λ j. if allows.recorded j then Some (k.row i) else None))
-          ∙ (λ j. if sym (ap (λ x. is_among same_inst x k.instances) (sym same) ∙ allows.recorded) j
+          ∙ (λ j. if recorded j then Some (k.row i) else None))
+          ∙ (λ j. if sym (ap (λ x. is_among same_inst x k.instances) (sym same) ∙ recorded) j
           then Some (if sym is j then row else k.row x) else None)
       by false other =
           (λ j. option_and_then (λ (known : instances.Instance). known.row)
@@ -333,39 +336,15 @@ module _ (told : Told) (was : Records) (it : Recorded) (n number worker : ℕ) (
   going = stands.tells_well.going number b allows.is_open
 
   dep_is : dep_of it n ≡ Some i.dep
-  dep_is =
-      ap (option_and_then (λ (row : TaskRow). row.dep)) (stands.tasks n
-      ∙ (λ j. if opened (nat_le 1 n) (nat_le n k.tasks) (is_open k n) going j then Some (task_row k n)
-      else None))
-      ∙ allows.dep
-    where
-      opened : (a b c : Bool) → (a && (b && c)) ≡ true → (a && b) ≡ true
-      opened true true c is = refl
-      opened true false c is = is
-      opened false b c is = is
+  dep_is = dep_recorded told it n stands going ∙ allows.dep
 
   places_are : (work : Work) (swept : List MachineName) → work_of it n ≡ Some work
       → StandsFor told (k.task n) n swept work → places ≡ places_of (k.task n) i
   places_are work swept is work_stands = λ j. record {
-    part = (closed_part ∙ part) j;
+    part = (closed_part ∙ part_listed told it n stands i swept work dep_is is work_stands) j;
     sweep = None;
-    deleting =
-        None;
+    deleting = None;
   }
-    where
-      part : part_of it i ≡ record {
-        ping = place_of same_inst i (k.task n).to_ping;
-        leaving = place_of same_inst i (k.task n).obsolete;
-        change = change_place (k.task n).changed i;
-      }
-      part = λ j. record {
-        ping = (stands.linked.pings n work i is dep_is ∙ ap (place_of same_inst i) (work_stands.pings).items_are) j;
-        leaving =
-            (stands.linked.leaving n work i is dep_is ∙ ap (place_of same_inst i) (work_stands.obsolete).items_are)
-            j;
-        change = (stands.linked.changes n work i is dep_is
-            ∙ ap (λ changed. change_place changed i) work_stands.changed_are) j;
-      }
 
   failed_is : (work : Work) → work.failed ≡ option_map (end_of k) (k.task n).failed
       → (ended_work asked places fail work).failed ≡ option_map (end_of new.known) (new.known.task n).failed
@@ -390,7 +369,7 @@ module _ (told : Told) (was : Records) (it : Recorded) (n number worker : ℕ) (
           allows.compiles_none (stands.tells_well.low number b allows.is_open)
           (stands.tells_well.past number b allows.is_open)
           (only_call.has_begun told it b answer pinged only stands) allows.is_open
-          allows.only
+          only_one
           (ended_as asked places fail work
           ∙ (λ j. record (given work (places_are work swept is work_stands j)) {
             pings = asked_line (takes_as call answer j)
@@ -478,7 +457,7 @@ module _ (told : Told) (was : Records) (it : Recorded) (n number worker : ℕ) (
         ∙ sym (only_call.task_same told it b answer pinged only stands
         (λ (it : Task). if nat_le 1 t && nat_le t k.tasks then Some (row_by t it) else None) refl
         t);
-    calls = only_call.calls_last told it b answer pinged only stands once;
+    calls = only_call.calls_last told it b answer pinged only stands (stands.once).calls;
     works = works;
     linked = links_go_on it ended (record {
       wants = kept_of (λ known. known.want) (λ known. refl);
@@ -489,6 +468,16 @@ module _ (told : Told) (was : Records) (it : Recorded) (n number worker : ℕ) (
       machines = λ name. refl;
       orphans = λ d. refl;
     }) stands.linked;
+    once = record {
+      instances = once_altered inst_cmp row.inst (λ known. record known { row = Some row }) closed.instances
+          (once_altered inst_cmp i (λ known. record known { call = None }) it.instances (stands.once).instances);
+      machines = (stands.once).machines;
+      orphans = (stands.once).orphans;
+      keys = (stands.once).keys;
+      tasks = (stands.once).tasks;
+      works = only_call.once_ended n asked places fail it.works (stands.once).works;
+      calls = once_without nat_cmp number it.calls (stands.once).calls;
+    };
     tells_well = let tells : TellsWell _ = only_call.tells_last told it b answer pinged only stands in record {
       number = tells.number;
       low = tells.low;
@@ -497,6 +486,11 @@ module _ (told : Told) (was : Records) (it : Recorded) (n number worker : ℕ) (
       begun_past = tells.begun_past;
       failed = tells.failed;
       going = tells.going;
+      one_owner = tells.one_owner;
+      one_key = tells.one_key;
+      recorded = tells.recorded;
+      counted = tells.counted;
+      disks_apart = tells.disks_apart;
       updates = tells.updates;
     };
   }

@@ -56,7 +56,7 @@ key_keys a b is =
 
 -- ---- as tests
 
-eq_then : (a b : Ordering) → is_eq (ordering_then a b) ≡ (is_eq a && is_eq b)
+pub eq_then : (a b : Ordering) → is_eq (ordering_then a b) ≡ (is_eq a && is_eq b)
 eq_then Less b = refl
 eq_then Equal b = refl
 eq_then Greater b = refl

@@ -2,15 +2,22 @@
 use Rattle.std.proofs.Common.{◌≡◌, ◌∙◌, ℕ, zero, suc, Bool, true, false, ◌&&◌, not, List, [], ◌∷◌, map, filter}
 use Rattle.std.proofs.Common.{◌==◌, Some, ap, refl, sym}
 use Rattle.std.specs.Prelude.{count_by, is_some, slice_get, if◌then◌else◌}
+use Rattle.std.specs.List.{list_all, list_any}
 use Rattle.std.specs.Option.{option_map}
 use Rattle.std.specs.Str.{bytes_eq}
 use Rattle.bosh_base.specs.Cloud.{numbers_to}
 use Rattle.bosh_base.specs.declared.inst.Inst.{Inst}
 use Rattle.bosh_base.specs.declared.key.Key.{Key}
-use Rattle.bosh_base.specs.declared.owner.Owner.TheVariants.{Compile, Disk}
+use Rattle.bosh_base.specs.declared.entry.Begin.{Begin}
+use Rattle.bosh_base.specs.declared.owner.Owner.{Owner}
+use Rattle.bosh_base.specs.declared.owner.Owner.TheVariants.{Compile, Disk, Instance}
 use Rattle.bosh_history.specs.Goals.{changed_in}
-use Rattle.bosh_history.specs.Known.{SlotName, Task}
-use Rattle.bosh_history.specs.Slots.{is_compiled}
+use Rattle.bosh_history.specs.Calls.{number_of}
+use Rattle.bosh_history.specs.Known.{Known, SlotName, Task}
+use Rattle.bosh_history.specs.Slots.{is_compiled, works_for}
+use Rattle.bosh_history.specs.Tasks.{end_by}
+use Rattle.bosh_history.specs.Words.{holds}
+use Rattle.bosh_rows.specs.Same.{same_owner}
 use Rattle.bosh_roll.specs.Upd.{is_busy}
 use Rattle.bosh_work.specs.declared.groups.GroupWork.{GroupWork}
 use Rattle.bosh_work.specs.declared.line.Line.{Line}
@@ -130,3 +137,27 @@ listed_goes_on told new t n swept work same stands = record {
   failed_is = stands.failed_is ∙ sym same.failed;
   open_are = stands.open_are ∙ sym same.calls;
 }
+
+-- .. where only what no task lists is told anew
+pub untouched : (told : Told) (known : Known) → known.last_call ≡ told.known.last_call
+    → known.orphan ≡ told.known.orphan → known.slot ≡ told.known.slot → known.digest ≡ told.known.digest
+    → known.machines ≡ told.known.machines → known.begun ≡ told.known.begun → (t : Task) (n : ℕ)
+    → (swept : List MachineName) → SameListed told (record told { known = known }) t n swept
+untouched told known last orphan slot digest machines begun t n swept = record {
+  pings = λ j i is. idles (Instance i);
+  obsolete = λ j i is. idles (Instance i);
+  changed = λ j i is. idles (Instance i);
+  disks = λ j d is. idles (Disk d);
+  orphans = λ j d is. ap (λ orphan. is_some (orphan d)) orphan;
+  sweep = λ j name is. idles (Compile name.task name.slot);
+  slots = λ j name is. ap (λ slot. is_some (slot name.task name.slot)) slot;
+  compiled = λ key. ap (λ digest. is_some (digest key)) digest;
+  worked = λ key l. list_any (λ (name : SlotName). name.task == n && works_for key (slot l n name.slot)) (machines l);
+  machines = ap (count_by (λ (name : SlotName). name.task == n)) machines;
+  failed = λ l. option_map (λ failure. end_by failure (begun l (number_of failure))) t.failed;
+  calls = ap (λ last. count_by (is_task_call told n) (numbers_to last)) last;
+}
+  where
+    idles : (owner : Owner) → is_idle (record told { known = known }) owner ≡ is_idle told owner
+    idles owner = ap (λ last. list_all (λ c. not (holds (λ (b : Begin). same_owner owner b.owner) (told.calls c)))
+        (numbers_to last)) last

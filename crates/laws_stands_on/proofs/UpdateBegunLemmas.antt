@@ -12,11 +12,9 @@ use Rattle.bosh_base.specs.declared.task.TaskRow.{TaskRow}
 use Rattle.bosh_compile.specs.Readiness.{same_key}
 use Rattle.bosh_fold.specs.Updates.{update_begun_in}
 use Rattle.bosh_history.specs.Goals.{is_waiting}
-use Rattle.bosh_history.specs.Held.{is_open}
 use Rattle.bosh_history.specs.Items.{is_finished, is_in_deployment}
 use Rattle.bosh_history.specs.Known.{Known, SlotName, Task}
 use Rattle.bosh_history.specs.Slots.{keys_of}
-use Rattle.bosh_history.specs.Snapshots.{task_row}
 use Rattle.bosh_history.specs.Updates.{update_at}
 use Rattle.bosh_progress.specs.Tree.{first_marked}
 use Rattle.bosh_records.specs.Places.{part_of}
@@ -24,6 +22,7 @@ use Rattle.bosh_records.specs.Recorded.{Recorded}
 use Rattle.bosh_roll.specs.Upd.{is_busy}
 use Rattle.bosh_roll.specs.declared.upd.Upd.TheVariants.{Busy}
 use Rattle.bosh_rows.specs.Same.{same_inst}
+use Rattle.bosh_rows.specs.SoundSnapshot.{are_distinct}
 use Rattle.bosh_work.specs.Work as work_specs
 use Rattle.bosh_work.specs.declared.part.MachineName.{MachineName}
 use Rattle.bosh_work.specs.declared.work.Work.{Work}
@@ -33,10 +32,12 @@ use Rattle.laws_stands.specs.Stands.{AreSwept, IsWork, StandsIn, key_of_slot}
 use Rattle.laws_stands.specs.Told.{Told, is_going, telling}
 use Rattle.laws_stands.specs.WorkStands.{StandsFor}
 use Rattle.laws_stands_on.proofs.LinkLemmas.{changed_work, links_go_on}
-use Rattle.laws_stands_on.proofs.ListedLemmas.{SameListed, listed_goes_on}
+use Rattle.laws_stands_on.proofs.ListedLemmas.{SameListed, listed_goes_on, untouched}
+use Rattle.laws_stands_on.proofs.OnceLemmas.{once_altered}
 use Rattle.laws_stands_on.proofs.TableLemmas.{nat_at, nat_keys, thing_changed}
 use Rattle.laws_stands_on.proofs.WorkLemmas.{after_update_begun}
 use Rattle.laws_stands_on.specs.Allows.{AllowsUpdate}
+use Rattle.laws_stands_on.proofs.TaskLemmas.{dep_recorded}
 
 module _ (u : Update) (told : Told) (it : Recorded) (allows : AllowsUpdate told u) (stands : StandsIn told it) where
   abbrev n : ℕ
@@ -78,18 +79,7 @@ module _ (u : Update) (told : Told) (it : Recorded) (allows : AllowsUpdate told 
       else work_of it t) (nat_at n t)
 
   dep_is : dep_of it n ≡ Some i.dep
-  dep_is =
-      ap (option_and_then (λ (row : TaskRow). row.dep))
-      (stands.tasks n ∙ (λ j. if opened j then Some (task_row k n) else None))
-      ∙ allows.dep
-    where
-      opened : (nat_le 1 n && nat_le n k.tasks) ≡ true
-      opened = by (nat_le 1 n) (nat_le n k.tasks) (is_open k n) allows.going
-        where
-          by : (a b c : Bool) → (a && (b && c)) ≡ true → (a && b) ≡ true
-          by true true c is = refl
-          by true false c is = is
-          by false b c is = is
+  dep_is = dep_recorded told it n stands allows.going ∙ allows.dep
 
   -- the work of the task itself
   own_work : (o : Option Work) → work_of it n ≡ o → IsWork told n o
@@ -109,20 +99,7 @@ module _ (u : Update) (told : Told) (it : Recorded) (allows : AllowsUpdate told 
   own_work None is gone = λ later. going_same n ∙ gone later
 
   same_for : (t : ℕ) (swept : List MachineName) → SameListed told new (k.task t) t swept
-  same_for t swept = record {
-    pings = λ j x is. refl;
-    obsolete = λ j x is. refl;
-    changed = λ j x is. refl;
-    disks = λ j d is. refl;
-    orphans = λ j d is. refl;
-    sweep = λ j name is. refl;
-    slots = λ j name is. refl;
-    compiled = λ key. refl;
-    worked = λ key. refl;
-    machines = refl;
-    failed = refl;
-    calls = refl;
-  }
+  same_for t swept = untouched told new.known refl refl refl refl refl refl (k.task t) t swept
 
   -- .. and of another task
   other_work : (t : ℕ) → eqb n t ≡ false → (o : Option Work) → IsWork told t o → IsWork new t o
@@ -210,6 +187,16 @@ module _ (u : Update) (told : Told) (it : Recorded) (allows : AllowsUpdate told 
       machines = λ name. refl;
       orphans = λ d. refl;
     }) stands.linked;
+    once = record {
+      instances = (stands.once).instances;
+      machines = (stands.once).machines;
+      orphans = (stands.once).orphans;
+      keys = (stands.once).keys;
+      tasks = (stands.once).tasks;
+      works = once_altered nat_cmp n (option_map (λ work. work_specs.update_begun work (part_of it i).change)) it.works
+          (stands.once).works;
+      calls = (stands.once).calls;
+    };
     tells_well = record {
       number = stands.tells_well.number;
       low = stands.tells_well.low;
@@ -219,6 +206,12 @@ module _ (u : Update) (told : Told) (it : Recorded) (allows : AllowsUpdate told 
       failed = λ t failure is. stands.tells_well.failed t failure (sym (task_same (λ it. it.failed) (λ it. refl) t)
           ∙ is);
       going = λ c b is. going_same b.task ∙ stands.tells_well.going c b is;
+      one_owner = stands.tells_well.one_owner;
+      one_key = stands.tells_well.one_key;
+      recorded = stands.tells_well.recorded;
+      counted = λ t c is. stands.tells_well.counted t c (sym (task_same (λ it. it.calls) (λ it. refl) t) ∙ is);
+      disks_apart = λ t. task_same (λ it. are_distinct eqb it.disks) (λ it. refl) t
+          ∙ stands.tells_well.disks_apart t;
       updates = updates_told;
     };
   }

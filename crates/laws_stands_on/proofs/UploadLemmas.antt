@@ -9,7 +9,7 @@ use Rattle.bosh_work.specs.declared.work.Work.{Work}
 use Rattle.laws_stands.specs.Reading.{work_of}
 use Rattle.laws_stands.specs.Stands.{IsWork, StandsIn, arrivals_of}
 use Rattle.laws_stands.specs.Told.{Told, telling}
-use Rattle.laws_stands_on.proofs.ListedLemmas.{SameListed, listed_goes_on}
+use Rattle.laws_stands_on.proofs.ListedLemmas.{SameListed, listed_goes_on, untouched}
 
 -- other uploads than those that are known
 abbrev uploaded : List Release → List Stemcell → Option (List ℕ) → Told → Told
@@ -22,20 +22,7 @@ module _ (releases : List Release) (stemcells : List Stemcell) (config : Option 
   new = uploaded releases stemcells config told
 
   same : (t : ℕ) (swept : List MachineName) → SameListed told new (told.known.task t) t swept
-  same t swept = record {
-    pings = λ j x is. refl;
-    obsolete = λ j x is. refl;
-    changed = λ j x is. refl;
-    disks = λ j d is. refl;
-    orphans = λ j d is. refl;
-    sweep = λ j name is. refl;
-    slots = λ j name is. refl;
-    compiled = λ key. refl;
-    worked = λ key. refl;
-    machines = refl;
-    failed = refl;
-    calls = refl;
-  }
+  same t swept = untouched told new.known refl refl refl refl refl refl (told.known.task t) t swept
 
   work_stands : (t : ℕ) (o : Option Work) → IsWork told t o → IsWork new t o
   work_stands t (Some work) (going, (swept, work_is, are_swept)) =
@@ -67,6 +54,15 @@ module _ (releases : List Release) (stemcells : List Stemcell) (config : Option 
       sweeps = stands.linked.sweeps;
       deletions = stands.linked.deletions;
     };
+    once = record {
+      instances = (stands.once).instances;
+      machines = (stands.once).machines;
+      orphans = (stands.once).orphans;
+      keys = (stands.once).keys;
+      tasks = (stands.once).tasks;
+      works = (stands.once).works;
+      calls = (stands.once).calls;
+    };
     tells_well = record {
       number = stands.tells_well.number;
       low = stands.tells_well.low;
@@ -75,6 +71,11 @@ module _ (releases : List Release) (stemcells : List Stemcell) (config : Option 
       begun_past = stands.tells_well.begun_past;
       failed = stands.tells_well.failed;
       going = stands.tells_well.going;
+      one_owner = stands.tells_well.one_owner;
+      one_key = stands.tells_well.one_key;
+      recorded = stands.tells_well.recorded;
+      counted = stands.tells_well.counted;
+      disks_apart = stands.tells_well.disks_apart;
       updates = stands.tells_well.updates;
     };
   }

@@ -1,5 +1,5 @@
 //! The work of a task, entry by entry.
-ghost use Rattle.std.specs.Prelude.{◌≡◌, ◌≤◌, ℕ, ◌+◌, List, None, Option, Some, false, true};
+ghost use Rattle.std.specs.Prelude.{◌≡◌, ◌≤◌, ℕ, ◌+◌, List, None, Some, false, true};
 ghost use Rattle.std.specs.Option.{option_map};
 ghost use Rattle.bosh_base.specs.declared.answer.Answer.{Answer};
 ghost use Rattle.bosh_base.specs.declared.call.Call.{Call};

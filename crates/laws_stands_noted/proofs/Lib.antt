@@ -1,0 +1,9 @@
+pub mod AgreesLemmas
+pub mod BeginsLemmas
+pub mod CallLemmas
+pub mod DoneLemmas
+pub mod EndsLemmas
+pub mod FailedLemmas
+pub mod NotedLemmas
+pub mod TaskLemmas
+pub mod UpdateLemmas
