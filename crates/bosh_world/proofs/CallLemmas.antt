@@ -27,6 +27,7 @@ use Rattle.bosh_book.specs.Turns.{IsUpdate, some}
 use Rattle.bosh_book.specs.Appends.{unless_refused}
 use Rattle.bosh_book.specs.Uploads.{if_new}
 use Rattle.bosh_book.specs.declared.book.Book.{Book}
+use Rattle.bosh_book.specs.declared.book.Book as books
 use Rattle.bosh_book.specs.declared.claim.Claim.{Claim}
 use Rattle.bosh_book.specs.declared.claim.Claim.TheVariants.{Over, Wait, Work}
 use Rattle.bosh_book.specs.declared.uploads.Added.{Added}
@@ -35,7 +36,7 @@ use Rattle.bosh_moves.specs.Story.{Follows, HistoryView, story}
 use Rattle.bosh_ports.specs.declared.rig.Rig.{Rig}
 use Rattle.bosh_ports.specs.declared.rig.Rig.TheVariants as rigs
 use Rattle.bosh_world.specs.declared.held.HeldCall as held
-use Rattle.bosh_ports.specs.Rigged.{faults_of}
+use Rattle.bosh_ports.specs.Rigged.{RigState, faults_of}
 use Rattle.bosh_ports.specs.declared.keeper.Keeper as keeper
 use Rattle.bosh_world.proofs.BookLemmas.{books_if, runs_on}
 use Rattle.bosh_world.proofs.SiteLemmas.{SameRest, noted, notes_if, refuses_if}
@@ -43,7 +44,7 @@ use Rattle.bosh_world.specs.Faults.{answered_as, fault_as, halt_by, halt_of}
 use Rattle.bosh_world.specs.IsSite.{IsSite}
 use Rattle.bosh_world.specs.Refuses.{IsBooks, IsUnheld, Refuses, RefusesClaim}
 use Rattle.bosh_world.specs.Steps.{Claims, Comes, EndsTask, Notes, OpensTask, bodies_of, calls_claimed, entries_for}
-use Rattle.bosh_world.specs.Told.{IsGiven, story_of}
+use Rattle.bosh_world.specs.Told.{IsGivenBy, story_of}
 use Rattle.bosh_world.specs.declared.fault.SiteFault.{SiteFault}
 use Rattle.bosh_world.specs.declared.fault.SiteFault.TheVariants.{Memory}
 use Rattle.bosh_world.specs.declared.site.Site.{Site}
@@ -269,15 +270,16 @@ read_runs book runs unread =
 
 -- the call that was given can be performed: it is open by the records, and among the calls
 pub given_told : {K L : Type 0} {k : keeper.Ghosts K} {l : keeper.Ghosts L} (bodies : K → Option (List (List ℕ)))
-    (faults : K → ℕ) (was now : Site K L k l) (result : Result Claim SiteFault) (answer : Result Claim BookFault)
-    (sprung : Option Rig) → result ≡ answered_as sprung answer → is_stopped was.book ≡ false →
-    turns.Notes (bodies_of bodies) (faults_of faults) was.book (some answer) now.book →
-    now.calls.unsettled ≡ calls_claimed answer was.calls.unsettled → IfOk result (IsGiven now)
-given_told {K} {L} {k} {l} bodies faults was now result answer sprung is runs notes calls =
-    subst (λ (r : Result Claim SiteFault). IfOk r (IsGiven now)) (sym is) (each answer notes calls)
+    (faults : K → ℕ) (was : Site K L k l) (now : books.Book (RigState K)) (unsettled : List OpenCall)
+    (result : Result Claim SiteFault) (answer : Result Claim BookFault) (sprung : Option Rig) →
+    result ≡ answered_as sprung answer → is_stopped was.book ≡ false →
+    turns.Notes (bodies_of bodies) (faults_of faults) was.book (some answer) now →
+    unsettled ≡ calls_claimed answer was.calls.unsettled → IfOk result (IsGivenBy now unsettled)
+given_told {K} {L} {k} {l} bodies faults was now unsettled result answer sprung is runs notes calls =
+    subst (λ (r : Result Claim SiteFault). IfOk r (IsGivenBy now unsettled)) (sym is) (each answer notes calls)
   where
-    each : (a : Result Claim BookFault) → turns.Notes (bodies_of bodies) (faults_of faults) was.book (some a) now.book →
-        now.calls.unsettled ≡ calls_claimed a was.calls.unsettled → IfOk (answered_as sprung a) (IsGiven now)
+    each : (a : Result Claim BookFault) → turns.Notes (bodies_of bodies) (faults_of faults) was.book (some a) now →
+        unsettled ≡ calls_claimed a was.calls.unsettled → IfOk (answered_as sprung a) (IsGivenBy now unsettled)
     each (Ok (Work permit)) notes calls = (
       (
         λ unread. read_runs was.book runs (sym notes.adds.standing ∙ unread),

@@ -12,6 +12,7 @@ use Rattle.bosh_book.specs.Appends.{LeavesAllowed}
 use Rattle.bosh_book.specs.Claims.{ClaimsPending}
 use Rattle.bosh_book.specs.Ends.{EndsPending, closing}
 use Rattle.bosh_book.specs.Opens.{OpensPending}
+use Rattle.bosh_book.specs.declared.book.Book as books
 use Rattle.bosh_book.specs.declared.claim.Claim.{Claim}
 use Rattle.bosh_journal.specs.Appends.{added}
 use Rattle.bosh_journal.specs.JournalView.{JournalView}
@@ -40,18 +41,18 @@ halted_by sprung fault halted is so = absurd (false≢true (sym is ∙ so))
 abbrev pub PendsAs : {K : Type 0} → (Entry → Type 0) → JournalView K → BookFault → Type 0
 PendsAs Is now fault = fault ≡ book.StoreFault → (entry : Entry) × Is entry × (now.pending ≡ Some (added entry))
 
--- .. and that is so of the site
-pub pends_by : {K L : Type 0} {k : keeper.Ghosts K} {l : keeper.Ghosts L} (was now : Site K L k l) (Is : Entry → Type 0)
-    (sprung : Option Rig) (fault : BookFault) → now.history.is_halted ≡ is_some (halt_by sprung fault) →
-    PendsAs Is now.book.journal fault → Pends was Is now
-pends_by was now Is sprung fault is pends runs halted =
-    pends (halted_by sprung fault now.history.is_halted is halted)
+-- .. and so it is of a site that ran
+pub pends_by : {K : Type 0} (Ran : Type 0) (halted : Bool) (now : JournalView K) (Is : Entry → Type 0) (sprung : Option Rig)
+    (fault : BookFault) → halted ≡ is_some (halt_by sprung fault) → PendsAs Is now fault → Ran → halted ≡ true →
+    (entry : Entry) × Is entry × (now.pending ≡ Some (added entry))
+pends_by Ran halted now Is sprung fault is pends ran so = pends (halted_by sprung fault halted is so)
 
-pub pends_told : {K L T : Type 0} {k : keeper.Ghosts K} {l : keeper.Ghosts L} (was now : Site K L k l) (Is : Entry → Type 0)
-    (sprung : Option Rig) (answer : Result T BookFault) → now.history.is_halted ≡ is_some (halt_of sprung answer) →
-    IfErr answer (PendsAs Is now.book.journal) → Pends was Is now
-pends_told was now Is sprung (Ok value) is pends runs halted = absurd (false≢true (sym is ∙ halted))
-pends_told was now Is sprung (Err fault) is pends runs halted = pends_by was now Is sprung fault is pends runs halted
+pub pends_told : {K T : Type 0} (Ran : Type 0) (halted : Bool) (now : JournalView K) (Is : Entry → Type 0)
+    (sprung : Option Rig) (answer : Result T BookFault) → halted ≡ is_some (halt_of sprung answer) →
+    IfErr answer (PendsAs Is now) → Ran → halted ≡ true →
+    (entry : Entry) × Is entry × (now.pending ≡ Some (added entry))
+pends_told Ran halted now Is sprung (Ok value) is pends ran so = absurd (false≢true (sym is ∙ so))
+pends_told Ran halted now Is sprung (Err fault) is pends ran so = pends_by Ran halted now Is sprung fault is pends ran so
 
 -- ---- call by call
 
@@ -86,15 +87,16 @@ alloweds_as Allowed given now (Ok value) it = tt
 alloweds_as {T = T} Allowed given now (Err fault) it = allowed_as T Allowed given now fault it
 
 claim_as : {K L : Type 0} {k : keeper.Ghosts K} {l : keeper.Ghosts L} (bodies : K → Option (List (List ℕ))) (faults : K → ℕ)
-    (task worker : ℕ) (was now : Site K L k l) (fault : BookFault) →
-    ClaimsPending (bodies_of bodies) (faults_of faults) task worker was.book now.book fault →
-    PendsAs (IsClaimed bodies faults task worker was) now.book.journal fault
+    (task worker : ℕ) (was : Site K L k l) (now : books.Book (RigState K)) (fault : BookFault) →
+    ClaimsPending (bodies_of bodies) (faults_of faults) task worker was.book now fault →
+    PendsAs (IsClaimed bodies faults task worker was) now.journal fault
 claim_as bodies faults task worker was now book.StoreFault it is = it
 claim_as bodies faults task worker was now fault it is = absurd (let no = is in cc)
 
 pub claims_as : {K L : Type 0} {k : keeper.Ghosts K} {l : keeper.Ghosts L} (bodies : K → Option (List (List ℕ)))
-    (faults : K → ℕ) (task worker : ℕ) (was now : Site K L k l) (answer : Result Claim BookFault) →
-    IfErr answer (ClaimsPending (bodies_of bodies) (faults_of faults) task worker was.book now.book) →
-    IfErr answer (PendsAs (IsClaimed bodies faults task worker was) now.book.journal)
+    (faults : K → ℕ) (task worker : ℕ) (was : Site K L k l) (now : books.Book (RigState K))
+    (answer : Result Claim BookFault) →
+    IfErr answer (ClaimsPending (bodies_of bodies) (faults_of faults) task worker was.book now) →
+    IfErr answer (PendsAs (IsClaimed bodies faults task worker was) now.journal)
 claims_as bodies faults task worker was now (Ok claim) it = tt
 claims_as bodies faults task worker was now (Err fault) it = claim_as bodies faults task worker was now fault it

@@ -35,7 +35,7 @@ returns-clause-claims g c =
 
 pub returns-clause-performable : goal.returns-clause-performable
 returns-clause-performable g c =
-    given_told g.K.Keeper.bodies g.K.Keeper.faults c.args.self.now _ c.told.result c.claim-claimed.result c.sprung.result
+    given_told g.K.Keeper.bodies g.K.Keeper.faults c.args.self.now c.claim-claimed.new.self _ c.told.result c.claim-claimed.result c.sprung.result
     c.told.ensures.answer (c.args.self.now.is_site.book_runs c.requires.running) c.claim-claimed.ensures.notes
     c.begin_given.ensures
 
@@ -64,5 +64,6 @@ returns-clause-fault g c =
 
 pub returns-clause-pending : goal.returns-clause-pending
 returns-clause-pending g c =
-    pends_told c.args.self.now _ (IsClaimed g.K.Keeper.bodies g.K.Keeper.faults c.args.task c.args.worker c.args.self.now) c.sprung.result c.claim-claimed.result c.told.ensures.follows.halted
-    (claims_as g.K.Keeper.bodies g.K.Keeper.faults c.args.task c.args.worker c.args.self.now _ c.claim-claimed.result c.claim-claimed.ensures.pending)
+    pends_told (c.args.self.now.history.is_halted ≡ false) c.told.new.history.is_halted c.claim-claimed.new.self.journal
+    (IsClaimed g.K.Keeper.bodies g.K.Keeper.faults c.args.task c.args.worker c.args.self.now) c.sprung.result c.claim-claimed.result c.told.ensures.follows.halted
+    (claims_as g.K.Keeper.bodies g.K.Keeper.faults c.args.task c.args.worker c.args.self.now c.claim-claimed.new.self c.claim-claimed.result c.claim-claimed.ensures.pending)
