@@ -42,17 +42,17 @@ abbrev pub PendsAs : {K : Type 0} → (Entry → Type 0) → JournalView K → B
 PendsAs Is now fault = fault ≡ book.StoreFault → (entry : Entry) × Is entry × (now.pending ≡ Some (added entry))
 
 -- .. and so it is of a site that ran
-pub pends_by : {K : Type 0} (Ran : Type 0) (halted : Bool) (now : JournalView K) (Is : Entry → Type 0) (sprung : Option Rig)
+pub pends_by : {K Ran : Type 0} (halted : Bool) (now : JournalView K) (Is : Entry → Type 0) (sprung : Option Rig)
     (fault : BookFault) → halted ≡ is_some (halt_by sprung fault) → PendsAs Is now fault → Ran → halted ≡ true →
     (entry : Entry) × Is entry × (now.pending ≡ Some (added entry))
-pends_by Ran halted now Is sprung fault is pends ran so = pends (halted_by sprung fault halted is so)
+pends_by halted now Is sprung fault is pends ran so = pends (halted_by sprung fault halted is so)
 
-pub pends_told : {K T : Type 0} (Ran : Type 0) (halted : Bool) (now : JournalView K) (Is : Entry → Type 0)
+pub pends_told : {K T Ran : Type 0} (halted : Bool) (now : JournalView K) (Is : Entry → Type 0)
     (sprung : Option Rig) (answer : Result T BookFault) → halted ≡ is_some (halt_of sprung answer) →
     IfErr answer (PendsAs Is now) → Ran → halted ≡ true →
     (entry : Entry) × Is entry × (now.pending ≡ Some (added entry))
-pends_told Ran halted now Is sprung (Ok value) is pends ran so = absurd (false≢true (sym is ∙ so))
-pends_told Ran halted now Is sprung (Err fault) is pends ran so = pends_by Ran halted now Is sprung fault is pends ran so
+pends_told halted now Is sprung (Ok value) is pends ran so = absurd (false≢true (sym is ∙ so))
+pends_told halted now Is sprung (Err fault) is pends ran so = pends_by halted now Is sprung fault is pends ran so
 
 -- ---- call by call
 

@@ -74,6 +74,6 @@ returns-clause-fault g c =
 
 pub returns-clause-pending : goal.returns-clause-pending
 returns-clause-pending g c =
-    pends_told (c.args.self.now.history.is_halted ≡ false) c.told.new.history.is_halted c.add_stemcell-added.new.self.journal
+    pends_told c.told.new.history.is_halted c.add_stemcell-added.new.self.journal
     (IsAllowed (IsAdded c.args.self.now.book.records.stemcells.items c.args.os.now c.args.version.now New) (entries.Stemcell (record { os = c.args.os.now; version = c.args.version.now }))) c.sprung.result c.add_stemcell-added.result c.told.ensures.follows.halted
     (alloweds_as (IsAdded c.args.self.now.book.records.stemcells.items c.args.os.now c.args.version.now New) (entries.Stemcell (record { os = c.args.os.now; version = c.args.version.now })) c.add_stemcell-added.new.self.journal c.add_stemcell-added.result c.add_stemcell-added.ensures.pending)

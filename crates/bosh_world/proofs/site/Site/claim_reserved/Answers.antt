@@ -64,6 +64,6 @@ returns-clause-fault g c =
 
 pub returns-clause-pending : goal.returns-clause-pending
 returns-clause-pending g c =
-    pends_told (c.args.self.now.history.is_halted ≡ false) c.told.new.history.is_halted c.claim-claimed.new.self.journal
+    pends_told c.told.new.history.is_halted c.claim-claimed.new.self.journal
     (IsClaimed g.K.Keeper.bodies g.K.Keeper.faults c.args.task c.args.worker c.args.self.now) c.sprung.result c.claim-claimed.result c.told.ensures.follows.halted
     (claims_as g.K.Keeper.bodies g.K.Keeper.faults c.args.task c.args.worker c.args.self.now c.claim-claimed.new.self c.claim-claimed.result c.claim-claimed.ensures.pending)

@@ -65,6 +65,6 @@ returns-clause-fault g c =
 
 pub returns-clause-pending : goal.returns-clause-pending
 returns-clause-pending g c =
-    pends_told (c.args.self.now.history.is_halted ≡ false) c.told.new.history.is_halted c.end_task-end.new.self.journal
+    pends_told c.told.new.history.is_halted c.end_task-end.new.self.journal
     (IsClosing c.args.self.now.book.records c.args.task) c.sprung.result c.end_task-end.result c.told.ensures.follows.halted
     (closings_as c.args.self.now.book.records c.args.task c.end_task-end.new.self.journal c.end_task-end.result c.end_task-end.ensures.pending)

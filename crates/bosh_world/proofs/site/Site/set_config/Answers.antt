@@ -70,6 +70,6 @@ returns-clause-fault g c =
 
 pub returns-clause-pending : goal.returns-clause-pending
 returns-clause-pending g c =
-    pends_told (c.args.self.now.history.is_halted ≡ false) c.told.new.history.is_halted c.set_config-set.new.self.journal
+    pends_told c.told.new.history.is_halted c.set_config-set.new.self.journal
     (IsAllowed (is_some (config_in c.args.file.now) ≡ true) (entries.Config c.args.file.now)) c.sprung.result c.set_config-set.result c.told.ensures.follows.halted
     (alloweds_as (is_some (config_in c.args.file.now) ≡ true) (entries.Config c.args.file.now) c.set_config-set.new.self.journal c.set_config-set.result c.set_config-set.ensures.pending)

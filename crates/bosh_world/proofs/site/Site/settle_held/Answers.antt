@@ -69,7 +69,7 @@ returns-in-Err-clause-fault g c =
 
 pub returns-in-Err-clause-pending : goal.returns-in-Err-clause-pending
 returns-in-Err-clause-pending g c =
-    pends_by (c.args.self.now.history.is_halted ≡ false) _ c.settle.new.self.journal
+    pends_by _ c.settle.new.self.journal
     (IsAllowed (MayEnd c.args.self.now.book c.args.call.permit c.args.call.answer)
     (entries.End (record { n = c.args.call.permit.n; answer = c.args.call.answer }))) c.sprung.result c.in-Err.fault
     c.refused-fault.ensures.follows.halted

@@ -72,6 +72,6 @@ returns-clause-fault g c =
 
 pub returns-clause-pending : goal.returns-clause-pending
 returns-clause-pending g c =
-    pends_told (c.args.self.now.history.is_halted ≡ false) c.told.new.history.is_halted c.upload-added.new.self.journal
+    pends_told c.told.new.history.is_halted c.upload-added.new.self.journal
     (IsAllowed (IsUpload c.args.self.now.book.records.releases.items c.args.release New) (entries.Release c.args.release)) c.sprung.result c.upload-added.result c.told.ensures.follows.halted
     (alloweds_as (IsUpload c.args.self.now.book.records.releases.items c.args.release New) (entries.Release c.args.release) c.upload-added.new.self.journal c.upload-added.result c.upload-added.ensures.pending)
