@@ -52,13 +52,13 @@ pub over_then : {K L : Type 0} {k : keeper.Ghosts K} {l : keeper.Ghosts L} (bodi
     (was mid now : Site K L k l) (result : Result Step SiteFault) → HasClaimed bodies faults task worker was Over mid →
     Ends bodies faults cloud_bodies cloud_faults task mid result now →
     Advances bodies faults cloud_bodies cloud_faults task worker was places.Empty result now
-over_then bodies faults cloud_bodies cloud_faults task worker was mid now (Ok (step.Moved places.Empty)) claimed ends =
-    (mid, claimed, ends)
-over_then bodies faults cloud_bodies cloud_faults task worker was mid now (Ok step) claimed ends = absurd ends
-over_then bodies faults cloud_bodies cloud_faults task worker was mid now (Err fault) claimed ends = λ tasks there. (
+over_then bodies faults cloud_bodies cloud_faults task worker was mid now (Ok (step.Moved places.Empty)) claimed ended =
+    (mid, claimed, ended)
+over_then bodies faults cloud_bodies cloud_faults task worker was mid now (Ok step) claimed ended = absurd ended
+over_then bodies faults cloud_bodies cloud_faults task worker was mid now (Err fault) claimed ended = λ tasks there. (
   mid,
   steps was mid mid (claims task Over there claimed.0 claimed.1) (stays mid),
-  ends tasks worker there,
+  ended tasks worker there,
 )
 
 -- a step of a worker is one for the tasks
@@ -89,7 +89,7 @@ pub advanced_waits : {K L : Type 0} {k : keeper.Ghosts K} {l : keeper.Ghosts L} 
     Advances bodies faults cloud_bodies cloud_faults task worker was place (Ok step.Waits) now →
     Reaches bodies faults cloud_bodies cloud_faults tasks worker was now × IsWaiting bodies faults tasks worker task now
 advanced_waits bodies faults cloud_bodies cloud_faults tasks task worker was now places.Empty there goes =
-    (steps was now now (claims task Wait there goes.0 goes.1) (stays now), there, was, goes.0)
+    (steps was now now (claims task Wait there goes.0 goes.1) (stays now), (there, (was, goes.0)))
 advanced_waits bodies faults cloud_bodies cloud_faults tasks task worker was now (places.Granted permit) there goes = absurd goes
 advanced_waits bodies faults cloud_bodies cloud_faults tasks task worker was now (places.Held call) there goes = absurd goes
 
