@@ -1,12 +1,15 @@
 mod BeginLemmas
 mod CallLemmas
 mod DiskLemmas
+mod DoneLemmas
 mod FailureLemmas
+mod GoneLemmas
 mod ListedLemmas
 mod PlaceLemmas
 mod PresentLemmas
 mod SlotLemmas
 mod SweepLemmas
-mod UpdateLemmas
+mod TaskDoneLemmas
+pub mod UpdateLemmas
 mod UploadLemmas
-mod WorkingLemmas
+pub mod WorkingLemmas

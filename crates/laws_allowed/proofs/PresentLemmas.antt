@@ -35,11 +35,12 @@ use Rattle.laws_stands.proofs.PremiseLemmas.{any_at, asked_phase, changing_phase
 use Rattle.laws_stands.proofs.PremiseLemmas.{own_phase, passes_among, passes_below, passes_in}
 use Rattle.laws_stands.proofs.StageLemmas.{HasLeft, least_is_left}
 use Rattle.laws_stands.specs.Choosing.{CanChoose, idle_at}
-use Rattle.laws_stands.specs.GroupsStand.{CanUpdate}
+use Rattle.laws_stands.proofs.SameGroupLemmas.{groups_as}
+use Rattle.laws_stands.specs.GroupsStand.{CanUpdate, gone_on, names_of}
 use Rattle.laws_stands.specs.Linked.{same_machine}
 
 -- the phase, by what is over
-abbrev phase_by : Bool → Bool → Bool → Bool → Bool → Option ℕ → Option Phase
+abbrev pub phase_by : Bool → Bool → Bool → Bool → Bool → Option ℕ → Option Phase
 phase_by pings disks sweep compiles obsolete stage =
     if not pings then Some phases.Ask
     else (if not disks then Some phases.DeleteDisks
@@ -157,10 +158,14 @@ module _ (m : Moment) (n : ℕ) (records : Records) (swept : List MachineName) (
   stay : 3 < p → (i : Inst) → is_to_go t i ≡ false
   stay late = none_going m n 0 records swept work can (gone_over late)
 
-  pub can_update : 3 < p → CanUpdate t (idle_at m)
-  can_update late = record {
+  -- the task, as if no call of it had failed: what is left of it is the same
+  abbrev pub unfailed : Task
+  unfailed = gone_on t t.pinged t.upd t.gone None t.calls t.end
+
+  pub unfailed_update : 3 < p → CanUpdate unfailed (idle_at m)
+  unfailed_update late = record {
     are_apart = can.are_apart;
-    none_failed = can.none_failed;
+    none_failed = refl;
     are_told = can.are_told;
     rest = λ i among waits. rest i among waits;
   }
@@ -178,6 +183,17 @@ module _ (m : Moment) (n : ℕ) (records : Records) (swept : List MachineName) (
               (true≢false
               (sym (can.begun i is among waits)
               ∙ (λ j. quiet i j || (stay late i j || waiting_quiet (t.upd i) waits j))))
+
+  pub can_update : 3 < p → t.failed ≡ None → CanUpdate t (idle_at m)
+  can_update late none_failed = by (unfailed_update late)
+    where
+      by : CanUpdate unfailed (idle_at m) → CanUpdate t (idle_at m)
+      by may = record {
+        are_apart = may.are_apart;
+        none_failed = none_failed;
+        are_told = may.are_told;
+        rest = may.rest;
+      }
 
   -- ---- what is present
 
@@ -223,8 +239,28 @@ module _ (m : Moment) (n : ℕ) (records : Records) (swept : List MachineName) (
               ∙ (λ j. if changes j then Some (4 + other.stage_is j) else None)) (omega arith))
 
       stage : least_stage work.groups ≡ Some s
-      stage = same_first (HasLeft t) (least_stage work.groups) (Some s)
-          (least_is_left t (idle_at m) (can_update late) work.groups can.groups_stand) (has, λ q other. least q other)
+      stage = same_first (HasLeft unfailed) (least_stage work.groups) (Some s)
+          (least_is_left unfailed (idle_at m) (unfailed_update late) work.groups
+          (groups_as t (idle_at m) t.pinged t.gone None t.calls t.end (names_of t.changed) work.groups
+          can.groups_stand)) (left_of has, λ q other. least q (of_left other))
+        where
+          left_of : {q : ℕ} → HasLeft t q → HasLeft unfailed q
+          left_of has = record {
+            q = has.q;
+            i = has.i;
+            among_changed = has.among_changed;
+            left = has.left;
+            stage_is = has.stage_is;
+          }
+
+          of_left : {q : ℕ} → HasLeft unfailed q → HasLeft t q
+          of_left has = record {
+            q = has.q;
+            i = has.i;
+            among_changed = has.among_changed;
+            left = has.left;
+            stage_is = has.stage_is;
+          }
 
   -- somebody is asked
   pub asks_now : (i : Inst) → is_to_ping t i ≡ true → present records work ≡ Some phases.Ask

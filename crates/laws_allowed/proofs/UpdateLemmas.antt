@@ -53,6 +53,25 @@ none_among : (i : Inst) (xs : List Inst) → is_empty xs ≡ true → is_among s
 none_among i [] none is = false≢true is
 none_among i (x ∷ xs) none is = false≢true none
 
+-- an instance that changes does not go
+pub changed_stays : (m : Moment) (n : ℕ) → KnownFacts m → works m n ≡ true → (i : Inst)
+    → is_among same_inst i (m.known.task n).changed ≡ true → is_to_go (m.known.task n) i ≡ false
+changed_stays m n facts working i is_changed = by (is_to_go (m.known.task n) i) refl
+  where
+    never : is_among same_inst i (m.known.task n).obsolete ≡ true → Lists (m.known.task n) → ⊥
+    never goes (disks it) = none_among i (m.known.task n).obsolete it.none_leaves goes
+    never goes (instances it) =
+        false≢true
+        (sym (ap not (all_in (is_in (m.known.task n).goal) i (m.known.task n).changed it.changes (among_is same_inst inst_is i (m.known.task n).changed is_changed)))
+        ∙ (and_parts (is_of it.dep i) (not (is_in (m.known.task n).goal i))
+        (all_in (λ i. is_of it.dep i && not (is_in (m.known.task n).goal i)) i (m.known.task n).obsolete it.leaves
+        (among_is same_inst inst_is i (m.known.task n).obsolete goes))).1)
+
+    by : (b : Bool) → is_to_go (m.known.task n) i ≡ b → b ≡ false
+    by false is = refl
+    by true is = absurd (never (and_parts (is_among same_inst i (m.known.task n).obsolete) (not ((m.known.task n).gone i)) is).0
+        (lists m n facts working))
+
 none_is : (o : Option Failure) → not (is_some o) ≡ true → o ≡ None
 none_is (Some failure) is = absurd (false≢true is)
 none_is None is = refl
@@ -71,28 +90,11 @@ module _ (m : Moment) (records : Records) (u : Update) (at : IsAtWork m records 
 
   can : CanChoose m u.task records at.swept at.work
   can = can_choose m at.snapped u.task records at.swept at.work facts working numbers at.stands at.work_stands
-      at.are_swept none_failed
+      at.are_swept
 
   -- one that changes does not go
   stays : is_to_go t u.inst ≡ false
-  stays = by (is_to_go t u.inst) refl
-    where
-      never : is_among same_inst u.inst t.obsolete ≡ true → Lists t → ⊥
-      never goes (disks it) = none_among u.inst t.obsolete it.none_leaves goes
-      never goes (instances it) =
-          false≢true
-          (sym (ap not (all_in (is_in t.goal) u.inst t.changed it.changes
-          (among_is same_inst inst_is u.inst t.changed noted.is_changed)))
-          ∙ (and_parts (is_of it.dep u.inst) (not (is_in t.goal u.inst))
-          (all_in (λ i. is_of it.dep i && not (is_in t.goal i)) u.inst t.obsolete it.leaves
-          (among_is same_inst inst_is u.inst t.obsolete goes))).1)
-
-      by : (b : Bool) → is_to_go t u.inst ≡ b → b ≡ false
-      by false is = refl
-      by true is =
-          absurd
-          (never (and_parts (is_among same_inst u.inst t.obsolete) (not (t.gone u.inst)) is).0
-          (lists m u.task facts working))
+  stays = changed_stays m u.task facts working u.inst noted.is_changed
 
   abbrev stage : ℕ
   stage = stage_of (plan_in t.goal u.inst)
@@ -113,8 +115,8 @@ module _ (m : Moment) (records : Records) (u : Update) (at : IsAtWork m records 
   late : 3 < 4 + stage
   late = omega arith
 
-  turns : CanUpdate t (idle_at m)
-  turns = can_update m u.task records at.swept at.work can (4 + stage) none_before late
+  pub turns : CanUpdate t (idle_at m)
+  turns = can_update m u.task records at.swept at.work can (4 + stage) none_before late none_failed
 
   place : IsPlaced m records u.task at facts working can.groups_stand u.inst
   place = placed m records u.task at facts working can.groups_stand u.inst noted.is_changed

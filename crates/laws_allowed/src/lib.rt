@@ -70,3 +70,27 @@ pub fn an_update_that_may_begin_is_allowed()
         → MayNote outside m (entries.UpdBegin update) → may_follow m (entries.UpdBegin update) ≡ true
         → allowed records (entries.UpdBegin update) ≡ true }
 {}
+
+/// .. and so is its end, also where a call of the task failed.
+pub fn an_update_that_may_end_is_allowed()
+    ensures { (outside : Outside) (m : Moment) (told : Told) (records : Records) (update : Update)
+        → Stands told records → Agrees m told → KnownFacts m → m.known.last_call < 18446744073709551615
+        → MayNote outside m (entries.UpdDone update) → may_follow m (entries.UpdDone update) ≡ true
+        → allowed records (entries.UpdDone update) ≡ true }
+{}
+
+/// That an instance leaves is allowed where it may be noted, also where a call of the task failed.
+pub fn an_instance_that_may_leave_is_allowed_to()
+    ensures { (outside : Outside) (m : Moment) (told : Told) (records : Records) (update : Update)
+        → Stands told records → Agrees m told → KnownFacts m → m.known.last_call < 18446744073709551615
+        → MayNote outside m (entries.Gone update) → may_follow m (entries.Gone update) ≡ true
+        → allowed records (entries.Gone update) ≡ true }
+{}
+
+/// That a task is done is allowed where it may be noted.
+pub fn a_task_that_may_be_done_is_allowed_to()
+    ensures { (outside : Outside) (m : Moment) (told : Told) (records : Records) (task : ℕ)
+        → Stands told records → Agrees m told → KnownFacts m → m.known.last_call < 18446744073709551615
+        → MayNote outside m (entries.TaskDone task) → may_follow m (entries.TaskDone task) ≡ true
+        → allowed records (entries.TaskDone task) ≡ true }
+{}

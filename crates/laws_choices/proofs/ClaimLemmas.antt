@@ -123,8 +123,8 @@ module _ (m : Moment) (told : Told) (records : Records) (t worker : ℕ) (agrees
           by false = refl
       failed_case None is None failed same =
           choice_is m t worker records swept work
-          (can_choose m told.snapped t records swept work facts working numbers stands work_stands are_swept
-          failed)
+          (can_choose m told.snapped t records swept work facts working numbers stands work_stands are_swept)
+          failed
       failed_case (Some end) is None failed same = absurd cc
       failed_case None is (Some f) failed same = absurd cc
 

@@ -150,7 +150,7 @@ module _ (m : Moment) (snapped n : ℕ) (records : Records) (swept : List Machin
     (facts : KnownFacts m) (working : works m n ≡ true)
     (numbers : m.known.last_call < 18446744073709551615) (stands : Stands (told_at m snapped) records)
     (work_stands : StandsFor (told_at m snapped) (m.known.task n) n swept work)
-    (are_swept : AreSwept m.known n swept) (none_failed : (m.known.task n).failed ≡ None) where
+    (are_swept : AreSwept m.known n swept) where
   abbrev k : Known
   k = m.known
 
@@ -308,7 +308,6 @@ module _ (m : Moment) (snapped n : ℕ) (records : Records) (swept : List Machin
     orphans_are = stands.orphans;
     digests_are = stands.digests;
     compiling_are = λ key. stands.compiling key ∙ compiling_is m key;
-    none_failed = none_failed;
     are_apart = changed_apart t ((facts.tasks n).working working).lists_well;
     are_told = stands.tells_well.updates n;
     begun = begun;

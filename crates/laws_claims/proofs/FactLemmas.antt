@@ -90,7 +90,7 @@ module _ (m : Moment) (t : ℕ) (facts : KnownFacts m) (working : works m t ≡ 
       by None at is = absurd (false≢true is)
 
   -- an open call has a number up to the last
-  call_numbered : (n : ℕ) (call : OpenCall) → m.calls n ≡ Some call → IsIn n (numbers_to m.known.last_call)
+  pub call_numbered : (n : ℕ) (call : OpenCall) → m.calls n ≡ Some call → IsIn n (numbers_to m.known.last_call)
   call_numbered n call is = elim (or_cases (nat_le 1 n && nat_le n m.known.last_call) _ (facts.numbers.past n)) [
     | inl past ↦
         (let (low, high) = and_parts (nat_le 1 n) (nat_le n m.known.last_call) past in

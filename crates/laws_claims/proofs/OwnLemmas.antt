@@ -37,7 +37,7 @@ same_dep dep None same = absurd (false≢true same)
 
 module _ (m : Moment) (are : AreCallsOwn m) where
   -- in which way an owner is the task's
-  dep_of_instance : (t p : ℕ) (i : Inst) → works m t ≡ true → phase_of m.known t (Instance i) ≡ Some p
+  pub dep_of_instance : (t p : ℕ) (i : Inst) → works m t ≡ true → phase_of m.known t (Instance i) ≡ Some p
       → (m.known.task t).dep ≡ Some i.dep
   dep_of_instance t p i working at =
       by (is_to_ping (m.known.task t) i) (is_to_go (m.known.task t) i)

@@ -78,7 +78,7 @@ instances_apart = distinct_ascending inst_cmp inst_total same_inst same_inst_tel
 
 -- ---- own rows
 
-after_own : (n : ℕ) (call : Call) (answer : Answer) (row : Row) → (after n call answer row).inst ≡ row.inst
+pub after_own : (n : ℕ) (call : Call) (answer : Answer) (row : Row) → (after n call answer row).inst ≡ row.inst
 after_own n call answer row = grind (arith)
 
 own_note : (outside : Outside) (m : Moment) (e : Entry) → MayNote outside m e → HaveOwnRows m.known → HaveOwnRows

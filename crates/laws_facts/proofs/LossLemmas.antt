@@ -31,7 +31,7 @@ use Rattle.bosh_rows.specs.Tied.{is_named_lost}
 
 -- ---- the last stop was after no more tasks than there are
 
-tasks_grow : (outside : Outside) (m : Moment) (e : Entry) → MayNote outside m e
+pub tasks_grow : (outside : Outside) (m : Moment) (e : Entry) → MayNote outside m e
     → m.known.tasks ≤ (learn m.known e).tasks
 tasks_grow outside m (entries.Begin b) may = grind (arith, begun_tasks b b.owner m.known)
 tasks_grow outside m (entries.End e) may = grind (arith, (numbers_end m e.n e.answer).tasks)

@@ -60,7 +60,7 @@ use Rattle.laws_stands.proofs.NoneLemmas.{none_answered, none_asked, none_delete
 use Rattle.laws_stands.proofs.NoneLemmas.{slot_other, told_is}
 
 module _ (m : Moment) (n worker : ℕ) (records : Records) (swept : List MachineName) (work : Work)
-    (can : CanChoose m n records swept work) where
+    (can : CanChoose m n records swept work) (none_failed : (m.known.task n).failed ≡ None) where
   abbrev k : Known
   k = m.known
 
@@ -414,7 +414,7 @@ module _ (m : Moment) (n worker : ℕ) (records : Records) (swept : List Machine
               groups_stand = can.groups_stand;
               can = record {
                 are_apart = can.are_apart;
-                none_failed = can.none_failed;
+                none_failed = none_failed;
                 are_told = can.are_told;
                 rest = rest;
               };

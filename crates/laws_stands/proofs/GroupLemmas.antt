@@ -9,7 +9,7 @@ use Rattle.std.proofs.lemmas.Bool.{and_from, and_parts, eq-eqb, eqb-true, false�
 use Rattle.std.proofs.lemmas.Option.{slice_get-map}
 use Rattle.std.proofs.lemmas.Slice.Eq.{bytes_eq-Decides}
 use Rattle.bosh_base.specs.declared.inst.Inst.{Inst}
-use Rattle.bosh_history.specs.Goals.{canaries_of, changed_in, in_flight, is_waiting, limit_of, may_begin}
+use Rattle.bosh_history.specs.Goals.{canaries_first, canaries_of, changed_in, in_flight, is_waiting, limit_of, may_begin}
 use Rattle.bosh_history.specs.Items.{is_finished, stage_of}
 use Rattle.bosh_history.specs.Known.{Task, plan_in}
 use Rattle.bosh_history.specs.Words.{is_among}
@@ -85,23 +85,18 @@ module _ (t : Task) (idle : Inst → Bool) (can : CanUpdate t idle) where
       ((bytes_eq-Decides i.group i.group).1 refl) in
       (r.0, by_entry i.group r.0 q (q, i) refl r.1)
 
-  allowed_as : (it : GroupWork) (j q : ℕ) (i : Inst) → GroupStands t idle i.group it → IsMember i.group j q i
-      → is_allowed it.roll j ≡ may_begin t i
-  allowed_as it j q i stands m =
-      (λ k. nat_lt (busy k) (stands.limit_is k)
-      && (nat_lt j (stands.canaries_are k) || (are_past (stands.canaries_are k) (stands.waiting_are k)
-      && are_past (stands.canaries_are k) (stands.busy_are k))))
-      ∙ (λ k. nat_lt (in_flight t i.group) (limit_of t (plan_in t.goal i)) && (canary k || done k))
-      ∙ ap (λ failed. not (is_some failed) && (nat_lt (in_flight t i.group) (limit_of t (plan_in t.goal i))
-      && (is_among same_inst i (take c (changed_in t i.group)) || list_all (λ it. is_finished (t.upd it))
-      (take c (changed_in t i.group)))))
-      (sym can.none_failed)
+  -- it is a canary, or all canaries are done, by the marks and by what is known
+  pub in_turn_as : (it : GroupWork) (j q : ℕ) (i : Inst) → GroupStands t idle i.group it → IsMember i.group j q i
+      → (nat_lt j it.roll.canaries
+      || (are_past it.roll.canaries it.roll.waiting && are_past it.roll.canaries it.roll.busy))
+      ≡ canaries_first t i
+  in_turn_as it j q i stands m =
+      (λ k. nat_lt j (stands.canaries_are k) || (are_past (stands.canaries_are k) (stands.waiting_are k)
+      && are_past (stands.canaries_are k) (stands.busy_are k)))
+      ∙ (λ k. canary k || done k)
     where
       c : ℕ
       c = canaries_of t (plan_in t.goal i)
-
-      busy : marked_in it.roll.busy ≡ in_flight t i.group
-      busy = ap marked_in stands.busy_are ∙ marked_as (λ i. is_busy (t.upd i)) (changed_in t i.group)
 
       canary : nat_lt j c ≡ is_among same_inst i (take c (changed_in t i.group))
       canary = sym (among_first same_inst (changed_in t i.group) c j i inst_is itself
@@ -115,6 +110,16 @@ module _ (t : Task) (idle : Inst → Bool) (can : CanUpdate t idle) where
           (changed_in t i.group) k)
           ∙ sym (quiet_as (λ i. is_finished (t.upd i)) (λ i. is_waiting (t.upd i)) (λ i. is_busy (t.upd i))
           (take c (changed_in t i.group)) can.are_told)
+
+  allowed_as : (it : GroupWork) (j q : ℕ) (i : Inst) → GroupStands t idle i.group it → IsMember i.group j q i
+      → is_allowed it.roll j ≡ may_begin t i
+  allowed_as it j q i stands m =
+      (λ k. nat_lt (busy k) (stands.limit_is k) && in_turn_as it j q i stands m k)
+      ∙ ap (λ failed. not (is_some failed) && (nat_lt (in_flight t i.group) (limit_of t (plan_in t.goal i))
+      && canaries_first t i)) (sym can.none_failed)
+    where
+      busy : marked_in it.roll.busy ≡ in_flight t i.group
+      busy = ap marked_in stands.busy_are ∙ marked_as (λ i. is_busy (t.upd i)) (changed_in t i.group)
 
   -- whose turn it is by the marks, and by what is known
   on_idle : (u : Upd) (at rests may : Bool) → is_busy u ≡ true → at ≡ true → rests ≡ true

@@ -1,6 +1,7 @@
 pub mod AnswerLemmas
 pub mod AskLemmas
 pub mod ChoiceLemmas
+pub mod DeploymentLemmas
 pub mod FirstLemmas
 pub mod GroupLemmas
 pub mod ItemLemmas
@@ -11,6 +12,7 @@ pub mod NextKeyLemmas
 pub mod NoneLemmas
 pub mod PhaseLemmas
 pub mod PremiseLemmas
+pub mod SameGroupLemmas
 pub mod SlotLemmas
 pub mod StageLemmas
 pub mod SweepLemmas

@@ -71,7 +71,6 @@ pub record CanChoose (m : Moment) (n : ℕ) (records : Records) (swept : List Ma
   pub digests_are : (key : Key) → readers.digest_of records key ≡ m.known.digest key
   pub compiling_are : (key : Key) → readers.is_compiling records key ≡ is_compiling m key
   -- what is known of the task
-  pub none_failed : (m.known.task n).failed ≡ None
   pub are_apart : are_distinct same_inst (m.known.task n).changed ≡ true
   pub are_told : (i : Inst) →
       is_finished ((m.known.task n).upd i)

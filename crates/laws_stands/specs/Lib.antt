@@ -3,6 +3,7 @@ pub mod Choosing
 pub mod GroupsStand
 pub mod LineStands
 pub mod Linked
+pub mod Once
 pub mod Reading
 pub mod Stands
 pub mod Told

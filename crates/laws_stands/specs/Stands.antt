@@ -27,6 +27,7 @@ use Rattle.bosh_rows.specs.Same.{same_inst, same_owner}
 use Rattle.bosh_work.specs.declared.part.MachineName.{MachineName}
 use Rattle.bosh_work.specs.declared.work.Work.{Work}
 use Rattle.laws_stands.specs.Linked.{IsLinked}
+use Rattle.laws_stands.specs.Once.{AreOnce}
 use Rattle.laws_stands.specs.Reading as reading
 use Rattle.laws_stands.specs.Told.{TellsWell, Told, is_going}
 use Rattle.laws_stands.specs.WorkStands.{StandsFor}
@@ -104,6 +105,7 @@ pub record StandsIn (told : Told) (it : Recorded) : Type 0 where
   pub calls : (n : ℕ) → reading.call_of it n ≡ told.calls n
   pub works : (t : ℕ) → IsWork told t (reading.work_of it t)
   pub linked : IsLinked it
+  pub once : AreOnce it
   pub tells_well : TellsWell told
 
 -- the records stand for what was told

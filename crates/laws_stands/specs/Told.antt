@@ -10,6 +10,7 @@ use Rattle.bosh_base.specs.declared.entry.Entry.{Entry}
 use Rattle.bosh_base.specs.declared.entry.Entry.TheVariants as entries
 use Rattle.bosh_base.specs.declared.failure.Failure.{Failure}
 use Rattle.bosh_base.specs.declared.inst.Inst.{Inst}
+use Rattle.bosh_base.specs.declared.key.Key.{Key}
 use Rattle.bosh_base.specs.declared.owner.Owner.{Owner}
 use Rattle.bosh_base.specs.declared.owner.Owner.TheVariants.{Instance}
 use Rattle.bosh_history.specs.Calls.{number_of}
@@ -18,9 +19,11 @@ use Rattle.bosh_history.specs.Held.{is_open}
 use Rattle.bosh_history.specs.Items.{is_finished}
 use Rattle.bosh_history.specs.Known.{Known}
 use Rattle.bosh_history.specs.Learn.{learn}
-use Rattle.bosh_history.specs.Words.{at, holds}
+use Rattle.bosh_history.specs.Steps.{compiles}
+use Rattle.bosh_history.specs.Words.{at, holds, is_among}
 use Rattle.bosh_roll.specs.Upd.{is_busy}
-use Rattle.bosh_rows.specs.Same.{same_owner}
+use Rattle.bosh_rows.specs.Same.{same_inst, same_owner}
+use Rattle.bosh_rows.specs.SoundSnapshot.{are_distinct}
 
 -- what is known, and how each open call began
 pub record Told : Type 0 where
@@ -78,6 +81,17 @@ pub record TellsWell (told : Told) : Type 0 where
   pub failed : (t : ℕ) (failure : Failure) → (told.known.task t).failed ≡ Some failure →
       is_some (told.known.begun (number_of failure)) ≡ true
   pub going : (n : ℕ) (b : Begin) → told.calls n ≡ Some b → is_going told.known b.task ≡ true
+  -- no two open calls are of one owner, or compile one key
+  pub one_owner : (c d : ℕ) (b e : Begin) → told.calls c ≡ Some b → told.calls d ≡ Some e →
+      same_owner b.owner e.owner ≡ true → c ≡ d
+  pub one_key : (c d : ℕ) (b e : Begin) (key : Key) → told.calls c ≡ Some b → told.calls d ≡ Some e →
+      compiles key b.call ≡ true → compiles key e.call ≡ true → c ≡ d
+  -- the instance of an open call is recorded
+  pub recorded : (n : ℕ) (b : Begin) (i : Inst) → told.calls n ≡ Some b → b.owner ≡ Instance i →
+      is_among same_inst i told.known.instances ≡ true
+  -- no task counts more calls than there were, or lists a disk twice
+  pub counted : (t c : ℕ) → (told.known.task t).calls ≡ Some c → c ≤ told.known.last_call
+  pub disks_apart : (t : ℕ) → are_distinct eqb (told.known.task t).disks ≡ true
   pub updates : (t : ℕ) (i : Inst) →
       is_finished ((told.known.task t).upd i)
       ≡ (not (is_waiting ((told.known.task t).upd i)) && not (is_busy ((told.known.task t).upd i)))

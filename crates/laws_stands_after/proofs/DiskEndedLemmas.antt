@@ -59,25 +59,23 @@ use Rattle.laws_stands_on.proofs.BegunLemmas.{none_compiled}
 use Rattle.laws_stands_on.proofs.FindLemmas.{any_within}
 use Rattle.laws_stands_on.proofs.LinkLemmas.{ListsSame, WasWork, links_go_on}
 use Rattle.laws_stands_on.proofs.ListedLemmas.{SameListed, listed_goes_on}
-use Rattle.laws_stands_on.specs.Once.{IsOnce}
+use Rattle.laws_stands_on.proofs.OnceLemmas.{once_altered, once_without}
 use Rattle.laws_stands_on.proofs.ChangedLemmas.{eqb_flip, some_mapped, thing_at_key}
 use Rattle.laws_stands_after.proofs.DiskToldLemmas.{gone_by, gone_same, last_line, last_work, listed, loose_by, no_ping}
 use Rattle.laws_stands_after.proofs.DiskToldLemmas.{orphan_by, orphans_by, orphans_ended, told_as, told_by, unlisted}
-use Rattle.laws_stands_after.proofs.DiskToldLemmas.{works_by, works_ended}
+use Rattle.laws_stands_after.proofs.DiskToldLemmas.{once_orphans, once_works, works_by, works_ended}
 use Rattle.laws_stands_on.proofs.NextCallLemmas.{row_by}
 use Rattle.laws_stands_on.proofs.OnlyCallLemmas.{calls_last, ended_works, ended_works_are, failed_is, failure_is}
 use Rattle.laws_stands_on.proofs.OnlyCallLemmas.{going_same, has_begun, idle_as, one_less_call, other_calls, own_call}
-use Rattle.laws_stands_on.proofs.OnlyCallLemmas.{same_count, still, task_same, tells_last}
-use Rattle.laws_stands_after.proofs.SameGroupLemmas.{groups_as}
-use Rattle.laws_stands_on.specs.Allows.{IsOnlyCall}
+use Rattle.laws_stands_on.proofs.OnlyCallLemmas.{once_ended, same_count, still, task_same, tells_last}
+use Rattle.laws_stands.proofs.SameGroupLemmas.{groups_as}
 use Rattle.laws_stands_after.specs.Disks.{AllowsDisk}
 
 -- ---- the call
 
 module _ (told : Told) (was : Records) (it : Recorded) (n number worker : ℕ) (call : Call) (answer : Answer) (d : ℕ)
-    (only : IsOnlyCall told (record { n = number; task = n; worker = worker; owner = Disk d; call = call }))
-    (allows : AllowsDisk told n call d) (once : IsOnce nat_cmp it.calls) (disks_once : IsOnce nat_cmp it.orphans)
-    (stood : Stands told was) (stands : StandsIn told it) where
+    (only : told.calls number ≡ Some (record { n = number; task = n; worker = worker; owner = Disk d; call = call }))
+    (allows : AllowsDisk told n call d) (stood : Stands told was) (stands : StandsIn told it) where
   abbrev b : Begin
   b = record { n = number; task = n; worker = worker; owner = Disk d; call = call }
 
@@ -157,8 +155,8 @@ module _ (told : Told) (was : Records) (it : Recorded) (n number worker : ℕ) (
   plan_is : ended_of was e ≡ plan
   plan_is = λ j. record {
     n = number;
-    after = ap (option_and_then (planned.after_by was answer)) (stood.calls number ∙ only.is_open) j;
-    failed = ap (option_and_then (planned.failure_of was answer)) (stood.calls number ∙ only.is_open) j;
+    after = ap (option_and_then (planned.after_by was answer)) (stood.calls number ∙ only) j;
+    failed = ap (option_and_then (planned.failure_of was answer)) (stood.calls number ∙ only) j;
     built = planned.built_by answer;
     is_asked = is_told answer;
   }
@@ -193,7 +191,7 @@ module _ (told : Told) (was : Records) (it : Recorded) (n number worker : ℕ) (
   ended_is : ended_in plan it ≡ ended
   ended_is =
       ap (λ o. ended_by o plan (record it { calls = without nat_cmp number it.calls })) (stands.calls number
-      ∙ only.is_open)
+      ∙ only)
       ∙ none_built call (planned.built_by answer)
       (other_told (Disk d) (planned.disk_told call answer)
       (failed_in n fail
@@ -213,7 +211,7 @@ module _ (told : Told) (was : Records) (it : Recorded) (n number worker : ℕ) (
 
   orphan_is : (x : ℕ) → orphan_of ended x
       ≡ (if eqb d x then loose_by goes settles (orphan_of it x) else orphan_of it x)
-  orphan_is x = orphans_ended goes settles d it.orphans disks_once x
+  orphan_is x = orphans_ended goes settles d it.orphans (stands.once).orphans x
 
   loose_there : is_some (orphan_of it d) ≡ true
   loose_there = sym (some_mapped (λ (loose : LooseDisk). loose.orphan) (orphan_of it d)) ∙ ap is_some (stands.orphans d)
@@ -298,7 +296,7 @@ module _ (told : Told) (was : Records) (it : Recorded) (n number worker : ℕ) (
   dep_is =
       ap (option_and_then (λ (row : TaskRow). row.dep)) (stands.tasks n
       ∙ (λ j. if opened (nat_le 1 n) (nat_le n k.tasks) (is_open k n)
-      (stands.tells_well.going number b only.is_open) j then Some (task_row k n) else None))
+      (stands.tells_well.going number b only) j then Some (task_row k n) else None))
       ∙ allows.dep
     where
       opened : (a b c : Bool) → (a && (b && c)) ≡ true → (a && b) ≡ true
@@ -340,7 +338,7 @@ module _ (told : Told) (was : Records) (it : Recorded) (n number worker : ℕ) (
     where
       given : LineStands (k.task n).disks (λ x. is_some (k.orphan x)) (λ x. is_idle new (Disk x))
           (given_line work.disks listed_at)
-      given = stands_given eqb eqb-true (k.task n).disks allows.disks_apart d (λ x. is_some (k.orphan x))
+      given = stands_given eqb eqb-true (k.task n).disks (stands.tells_well.disks_apart n) d (λ x. is_some (k.orphan x))
           (λ x. is_idle told (Disk x)) (λ x. is_some (k.orphan x)) (λ x. is_idle new (Disk x)) work.disks
           (λ x. refl) idle_disks work_stands.disks
 
@@ -364,7 +362,7 @@ module _ (told : Told) (was : Records) (it : Recorded) (n number worker : ℕ) (
           (λ x. is_some (at eqb d (orphan_by g s (k.orphan d)) k.orphan x)) (λ x. is_idle new (Disk x))
           (last_line g (given_line work.disks listed_at) listed_at)
       by true =
-          stands_finished eqb eqb-true (k.task n).disks allows.disks_apart d (λ x. is_some (k.orphan x))
+          stands_finished eqb eqb-true (k.task n).disks (stands.tells_well.disks_apart n) d (λ x. is_some (k.orphan x))
           (λ x. is_idle new (Disk x)) (λ x. is_some (at eqb d None k.orphan x)) (λ x. is_idle new (Disk x))
           (given_line work.disks listed_at) goes_away (λ x. refl) given
       by false =
@@ -581,9 +579,20 @@ module _ (told : Told) (was : Records) (it : Recorded) (n number worker : ℕ) (
     tasks = λ t. stands.tasks t
         ∙ sym (task_same told it b answer (k.task n).pinged only stands
         (λ (it : Task). if nat_le 1 t && nat_le t k.tasks then Some (row_by t it) else None) refl t);
-    calls = calls_last told it b answer (k.task n).pinged only stands once;
+    calls = calls_last told it b answer (k.task n).pinged only stands (stands.once).calls;
     works = works;
     linked = linked;
+    once = record {
+      instances = (stands.once).instances;
+      machines = (stands.once).machines;
+      orphans = once_orphans goes settles d closed.orphans
+          (once_altered nat_cmp d (option_map (with_disk_call None)) it.orphans (stands.once).orphans);
+      keys = (stands.once).keys;
+      tasks = (stands.once).tasks;
+      works = once_works goes d place (ended_works n asked places fail it.works)
+          (once_ended n asked places fail it.works (stands.once).works);
+      calls = once_without nat_cmp number it.calls (stands.once).calls;
+    };
     tells_well = let tells : TellsWell _ = tells_last told it b answer (k.task n).pinged only stands in record {
       number = tells.number;
       low = tells.low;
@@ -592,6 +601,11 @@ module _ (told : Told) (was : Records) (it : Recorded) (n number worker : ℕ) (
       begun_past = tells.begun_past;
       failed = tells.failed;
       going = tells.going;
+      one_owner = tells.one_owner;
+      one_key = tells.one_key;
+      recorded = tells.recorded;
+      counted = tells.counted;
+      disks_apart = tells.disks_apart;
       updates = tells.updates;
     };
   }

@@ -1,4 +1,3 @@
 pub mod DiskBegunLemmas
 pub mod DiskEndedLemmas
 pub mod DiskToldLemmas
-pub mod SameGroupLemmas

@@ -12,7 +12,6 @@ use Rattle.laws_stands.specs.Told.{Told, is_going}
 pub record AllowsDisk (told : Told) (n : ℕ) (call : Call) (d : ℕ) : Type 0 where
   pub dep : (told.known.task n).dep ≡ None
   pub there : is_some (told.known.orphan d) ≡ true
-  pub disks_apart : are_distinct eqb (told.known.task n).disks ≡ true
   pub compiles_none : (key : Key) → compiles key call ≡ false
   pub not_deleting : (t : ℕ) → eqb n t ≡ false → is_going told.known t ≡ true →
       is_among eqb d (told.known.task t).disks ≡ false

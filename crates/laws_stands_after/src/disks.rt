@@ -1,5 +1,5 @@
 //! Calls of disks that belong to no instance.
-ghost use Rattle.std.specs.Prelude.{◌≡◌, ℕ, is_some, true};
+ghost use Rattle.std.specs.Prelude.{◌≡◌, ℕ, Some, is_some, true};
 ghost use Rattle.std.specs.Ordering.{nat_cmp};
 ghost use Rattle.bosh_base.specs.declared.answer.Answer.{Answer};
 ghost use Rattle.bosh_base.specs.declared.call.Call.{Call};
@@ -15,8 +15,8 @@ ghost use Rattle.bosh_records.specs.declared.records.Records.{Records};
 ghost use Rattle.laws_stands.specs.Stands.{Stands, StandsIn};
 ghost use Rattle.laws_stands.specs.Told.{Told, telling};
 ghost use Rattle.laws_stands_after.specs.Disks.{AllowsDisk};
-ghost use Rattle.laws_stands_on.specs.Allows.{AllowsNext, IsOnlyCall};
-ghost use Rattle.laws_stands_on.specs.Once.{IsOnce};
+ghost use Rattle.laws_stands_on.specs.Allows.{AllowsNext};
+ghost use Rattle.laws_stands.specs.Once.{IsOnce};
 
 /// It stands after a call of a disk began that may begin, as it was planned, where there is a place for the call.
 pub fn what_is_recorded_stands_after_a_call_of_a_disk_begins()
@@ -39,9 +39,9 @@ pub fn what_is_recorded_stands_after_a_call_of_a_disk_begins()
 pub fn what_is_recorded_stands_after_a_call_of_a_disk_ends()
     ensures { (told : Told) (was : Records) (it : Recorded) (n number worker : ℕ) (call : Call) (answer : Answer)
         (d : ℕ)
-        → IsOnlyCall told (record { n = number; task = n; worker = worker; owner = Disk d; call = call })
+        → told.calls number ≡ Some (record { n = number; task = n; worker = worker; owner = Disk d; call = call })
         → AllowsDisk told n call d
-        → IsOnce nat_cmp it.calls → IsOnce nat_cmp it.orphans → Stands told was → StandsIn told it
+        → Stands told was → StandsIn told it
         → StandsIn (telling told (entries.End (record { n = number; answer = answer })))
         (learned (entries.End (record { n = number; answer = answer }))
         (changes.Ended (ended_of was (record { n = number; answer = answer }))) it) }

@@ -30,7 +30,7 @@ use Rattle.laws_stands.specs.Stands.{IsWork, StandsIn}
 use Rattle.laws_stands.specs.Told.{Told}
 use Rattle.laws_stands_on.proofs.TableLemmas.{TellsKeys, nat_keys}
 use Rattle.laws_stands_on.proofs.KeyLemmas.{inst_keys, key_keys, machine_keys}
-use Rattle.laws_stands_on.specs.Once.{AreOnce, IsOnce}
+use Rattle.laws_stands.specs.Once.{AreOnce, IsOnce}
 
 not_true : (b : Bool) → not b ≡ false → b ≡ true
 not_true true is = refl
@@ -106,8 +106,11 @@ unknown_says it is =
       change = none_is it.part.change change;
     }
 
-module _ (told : Told) (was now : Recorded) (once : AreOnce was) (once_now : AreOnce now) (alike : kept now
-    ≡ kept was) where
+module _ (told : Told) (was now : Recorded) (once_now : AreOnce now) (alike : kept now ≡ kept was)
+    (stands : StandsIn told was) where
+  once : AreOnce was
+  once = stands.once
+
   -- a table of places
   places_same : {K V : Type 0} (cmp : K → K → Ordering) (tells : TellsKeys cmp) (table : Recorded
       → List (K × Option V))
@@ -192,8 +195,8 @@ module _ (told : Told) (was now : Recorded) (once : AreOnce was) (once_now : Are
   things_same = sym (things_kept now.deployments) ∙ ap (λ (it : Recorded). things it.deployments) alike
       ∙ things_kept was.deployments
 
-  pub alike_stands : StandsIn told was → StandsIn told now
-  alike_stands stands = record {
+  pub alike_stands : StandsIn told now
+  alike_stands = record {
     uploads = ap (λ (it : Recorded). it.came) alike ∙ stands.uploads;
     deployments = things_same ∙ stands.deployments;
     rows = λ i. instance_same (λ it. it.row) (λ it says. says.row) i ∙ stands.rows i;
@@ -228,6 +231,7 @@ module _ (told : Told) (was now : Recorded) (once : AreOnce was) (once_now : Are
           stands.linked.deletions t w d loose (sym (work_same t) ∙ is) (sym (orphan_same d) ∙ there)
           (sym (dep_same t) ∙ dep);
     };
+    once = once_now;
     tells_well = stands.tells_well;
   }
     where

@@ -28,6 +28,7 @@ use Rattle.bosh_history.specs.Steps.{compiles}
 use Rattle.bosh_history.specs.Words.{at, inserted, is_among}
 use Rattle.bosh_plan.specs.declared.beginning.Subject.TheVariants as subjects
 use Rattle.bosh_progress.specs.Tree.{first_marked}
+use Rattle.bosh_records.specs.Changes.{with_one_call}
 use Rattle.bosh_records.specs.Places.{part_of, places_in}
 use Rattle.bosh_records.specs.Recorded.{Recorded}
 use Rattle.bosh_records.specs.Table.{altered, found}
@@ -57,6 +58,7 @@ use Rattle.laws_stands_on.proofs.KeyLemmas.{inst_at, inst_keys}
 use Rattle.laws_stands_on.proofs.LinkLemmas.{ListsSame, changed_work, links_go_on}
 use Rattle.laws_stands_on.proofs.ListedLemmas.{SameListed, listed_goes_on}
 use Rattle.laws_stands_on.proofs.TableLemmas.{found_altered, nat_at, nat_keys, thing_changed}
+use Rattle.laws_stands_on.proofs.OnceLemmas.{once_altered}
 use Rattle.laws_stands_on.proofs.CallLemmas.{inst_flip}
 use Rattle.laws_stands_on.proofs.NextCallLemmas as next_call
 use Rattle.laws_stands_on.proofs.WorkLemmas.{after_call_begun, compiles_itself}
@@ -115,8 +117,8 @@ module _ (told : Told) (it : Recorded) (n number worker : ℕ) (call : Call) (i 
     small = allows.small;
     going = allows.going;
     none_failed = allows.none_failed;
-    counted = allows.counted;
     idle = allows.idle;
+    compiles_new = λ c d key is compiled. absurd (false≢true (sym (allows.compiles_none key) ∙ compiled));
   }
 
   -- ---- the instance
@@ -191,6 +193,16 @@ module _ (told : Told) (it : Recorded) (n number worker : ℕ) (call : Call) (i 
       ≡ (same_inst x i || is_among same_inst x k.instances)
   among_is x = any_inserted inst_cmp (same_inst x) (λ a b same. ap (same_inst x) (inst_equal a b same)) i
       k.instances
+
+  or_true : (a b : Bool) → b ≡ true → (a || b) ≡ true
+  or_true true b is = refl
+  or_true false b is = is
+
+  own_first : (x : Inst) → b.owner ≡ Instance x → (same_inst x i || is_among same_inst x k.instances) ≡ true
+  own_first x own =
+      let e : i ≡ x = cc in
+      (λ j. same_inst (sym e j) i || is_among same_inst x k.instances) ∙ ap (λ t. t || is_among same_inst x k.instances)
+      (itself i)
 
   rows : (x : Inst) → row_of begun x
       ≡ (if is_among same_inst x (inserted inst_cmp i k.instances)
@@ -387,7 +399,21 @@ module _ (told : Told) (it : Recorded) (n number worker : ℕ) (call : Call) (i 
       machines = λ name. refl;
       orphans = λ d. refl;
     }) stands.linked;
-    tells_well = let tells : TellsWell _ = next_call.tells_next told it b next stands in record {
+    once = record {
+      instances = once_altered inst_cmp i (λ known. record known { call = Some number }) (with_row row it).instances
+          (once_altered inst_cmp row.inst (λ known. record known { row = Some row }) it.instances
+          (stands.once).instances);
+      machines = (stands.once).machines;
+      orphans = (stands.once).orphans;
+      keys = (stands.once).keys;
+      tasks = once_altered nat_cmp n (option_map with_one_call) it.tasks (stands.once).tasks;
+      works = once_altered nat_cmp n (option_map (λ work. taken work (places_in noted (Instance i)))) it.works
+          (stands.once).works;
+      calls = once_altered nat_cmp number (λ _. Some b) it.calls (stands.once).calls;
+    };
+    tells_well = let tells : TellsWell _ = next_call.tells_next told it b next stands (inserted inst_cmp i k.instances)
+        (λ x is. among_is x ∙ or_true (same_inst x i) (is_among same_inst x k.instances) is)
+        (λ x own. among_is x ∙ own_first x own) in record {
       number = tells.number;
       low = tells.low;
       past = tells.past;
@@ -395,6 +421,11 @@ module _ (told : Told) (it : Recorded) (n number worker : ℕ) (call : Call) (i 
       begun_past = tells.begun_past;
       failed = tells.failed;
       going = tells.going;
+      one_owner = tells.one_owner;
+      one_key = tells.one_key;
+      recorded = tells.recorded;
+      counted = tells.counted;
+      disks_apart = tells.disks_apart;
       updates = tells.updates;
     };
   }

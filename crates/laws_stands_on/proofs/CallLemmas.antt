@@ -68,7 +68,7 @@ inst_flip i x = by (same_inst x i) (same_inst i x) refl refl
     by true false e f = e ∙ sym (ap (λ y. same_inst y x) (sym (inst_is x i e)) ∙ itself x)
     by false true e f = ap (λ y. same_inst x y) (inst_is i x f) ∙ itself x ∙ sym f
 
-same_owner_is : (a b : Owner) → same_owner a b ≡ true → a ≡ b
+pub same_owner_is : (a b : Owner) → same_owner a b ≡ true → a ≡ b
 same_owner_is (Instance i) (Instance j) is = ap Instance (inst_is i j is)
 same_owner_is (Compile t s) (Compile u r) is =
     let both : (eqb t u ≡ true) × (eqb s r ≡ true) = and_parts (eqb t u) (eqb s r) is in
@@ -80,6 +80,23 @@ same_owner_is (Compile t s) (Instance j) is = absurd (false≢true is)
 same_owner_is (Compile t s) (Disk e) is = absurd (false≢true is)
 same_owner_is (Disk d) (Instance j) is = absurd (false≢true is)
 same_owner_is (Disk d) (Compile u r) is = absurd (false≢true is)
+
+-- what holds of all numbers holds of each
+pub all_numbered : (p : ℕ → Bool) (n c : ℕ) → 1 ≤ c → c ≤ n → list_all p (numbers_to n) ≡ true → p c ≡ true
+all_numbered p zero c low high all = absurd (omega arith)
+all_numbered p (suc n) c low high all =
+    let parts : (list_all p (numbers_to n) ≡ true) × ((p (suc n) && true) ≡ true) =
+    and_parts (list_all p (numbers_to n)) (p (suc n) && true)
+    (sym (list_all-append p (numbers_to n) (suc n ∷ [])) ∙ all) in
+    by (eqb c (suc n)) refl (and_parts (p (suc n)) true parts.1).0
+    (λ high. all_numbered p n c low high parts.0)
+  where
+    by : (b : Bool) → eqb c (suc n) ≡ b → p (suc n) ≡ true → (c ≤ n → p c ≡ true) → p c ≡ true
+    by true is last more = ap p (eqb-true c (suc n) is) ∙ last
+    by false other last more = more (below other)
+      where
+        below : eqb c (suc n) ≡ false → c ≤ n
+        below other = grind (arith, nat_tests)
 
 all_true : (p : ℕ → Bool) (n : ℕ) → ((c : ℕ) → p c ≡ true) → list_all p (numbers_to n) ≡ true
 all_true p zero is = refl

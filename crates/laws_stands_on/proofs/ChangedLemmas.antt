@@ -8,7 +8,7 @@ use Rattle.std.specs.Ordering.{nat_cmp}
 use Rattle.std.proofs.lemmas.Bool.{eq-eqb, eqb-true, true≢false}
 use Rattle.bosh_records.specs.Table.{changed, each_thing, found, thing_in, without}
 use Rattle.laws_stands_on.proofs.TableLemmas.{found_without, nat_at, nat_keys, thing_changed}
-use Rattle.laws_stands_on.specs.Once.{IsOnce}
+use Rattle.laws_stands.specs.Once.{IsOnce}
 
 changed_twice : {V : Type 0} (f g : V → V) (b : Bool) (o : Option V)
     → (if b then option_map g (if b then option_map f o else o) else (if b then option_map f o else o))

@@ -67,8 +67,8 @@ use Rattle.laws_stands_on.proofs.CallLemmas.{inst_flip}
 use Rattle.laws_stands_on.proofs.NextCallLemmas.{row_by}
 use Rattle.laws_stands_on.proofs.OnlyCallLemmas as only_call
 use Rattle.laws_stands_on.proofs.WorkLemmas.{after_call_ended, after_ping}
-use Rattle.laws_stands_on.specs.Allows.{AllowsEnd, IsOnlyCall}
-use Rattle.laws_stands_on.specs.Once.{IsOnce}
+use Rattle.laws_stands_on.specs.Allows.{AllowsEnd}
+use Rattle.laws_stands_on.proofs.OnceLemmas.{once_altered, once_without}
 use Rattle.laws_stands_on.proofs.AnsweredLemmas.{ended_as, ended_work, ends_same, none_built}
 use Rattle.laws_stands_on.proofs.AnsweredLemmas.{none_known, pinged_as, takes_as, takes_ping}
 
@@ -76,7 +76,7 @@ module _ (told : Told) (was : Records) (it : Recorded) (n number worker : ℕ) (
     (i : Inst)
     (allows : AllowsEnd told (record { n = number; task = n; worker = worker; owner = Instance i; call = call })
     answer i)
-    (once : IsOnce nat_cmp it.calls) (stood : Stands told was) (stands : StandsIn told it) where
+    (stood : Stands told was) (stands : StandsIn told it) where
   abbrev b : Begin
   b = record { n = number; task = n; worker = worker; owner = Instance i; call = call }
 
@@ -86,9 +86,16 @@ module _ (told : Told) (was : Records) (it : Recorded) (n number worker : ℕ) (
   abbrev k : Known
   k = told.known
 
-  -- what the end of any call needs
-  only : IsOnlyCall told b
-  only = record { is_open = allows.is_open; only = allows.only }
+  -- the call is open
+  only : told.calls number ≡ Some b
+  only = allows.is_open
+
+  -- .. and no other is its instance's
+  only_one : (c : ℕ) (d : Begin) → told.calls c ≡ Some d → same_owner d.owner (Instance i) ≡ true → c ≡ number
+  only_one c d there same = stands.tells_well.one_owner c number d b there only same
+
+  recorded : is_among same_inst i k.instances ≡ true
+  recorded = stands.tells_well.recorded number b i only refl
 
   -- its row
   abbrev row : Row
@@ -132,7 +139,7 @@ module _ (told : Told) (was : Records) (it : Recorded) (n number worker : ℕ) (
   -- ---- what is planned
 
   row_there : row_at was i ≡ Some (k.row i)
-  row_there = stood.rows i ∙ (λ j. if allows.recorded j then Some (k.row i) else None)
+  row_there = stood.rows i ∙ (λ j. if recorded j then Some (k.row i) else None)
 
   abbrev fail : Option TaskEnd
   fail = planned.failure_of was answer b
@@ -280,8 +287,8 @@ module _ (told : Told) (was : Records) (it : Recorded) (n number worker : ℕ) (
           ∙ ap (λ x. option_and_then (λ (known : instances.Instance). known.row)
           (option_map said (instance_of it x))) (sym same)
           ∙ recorded_some (instance_of it i) (stands.rows i
-          ∙ (λ j. if allows.recorded j then Some (k.row i) else None))
-          ∙ (λ j. if sym (ap (λ x. is_among same_inst x k.instances) (sym same) ∙ allows.recorded) j
+          ∙ (λ j. if recorded j then Some (k.row i) else None))
+          ∙ (λ j. if sym (ap (λ x. is_among same_inst x k.instances) (sym same) ∙ recorded) j
           then Some (if sym is j then row else k.row x) else None)
       by false other =
           (λ j. option_and_then (λ (known : instances.Instance). known.row)
@@ -390,7 +397,7 @@ module _ (told : Told) (was : Records) (it : Recorded) (n number worker : ℕ) (
           allows.compiles_none (stands.tells_well.low number b allows.is_open)
           (stands.tells_well.past number b allows.is_open)
           (only_call.has_begun told it b answer pinged only stands) allows.is_open
-          allows.only
+          only_one
           (ended_as asked places fail work
           ∙ (λ j. record (given work (places_are work swept is work_stands j)) {
             pings = asked_line (takes_as call answer j)
@@ -478,7 +485,7 @@ module _ (told : Told) (was : Records) (it : Recorded) (n number worker : ℕ) (
         ∙ sym (only_call.task_same told it b answer pinged only stands
         (λ (it : Task). if nat_le 1 t && nat_le t k.tasks then Some (row_by t it) else None) refl
         t);
-    calls = only_call.calls_last told it b answer pinged only stands once;
+    calls = only_call.calls_last told it b answer pinged only stands (stands.once).calls;
     works = works;
     linked = links_go_on it ended (record {
       wants = kept_of (λ known. known.want) (λ known. refl);
@@ -489,6 +496,16 @@ module _ (told : Told) (was : Records) (it : Recorded) (n number worker : ℕ) (
       machines = λ name. refl;
       orphans = λ d. refl;
     }) stands.linked;
+    once = record {
+      instances = once_altered inst_cmp row.inst (λ known. record known { row = Some row }) closed.instances
+          (once_altered inst_cmp i (λ known. record known { call = None }) it.instances (stands.once).instances);
+      machines = (stands.once).machines;
+      orphans = (stands.once).orphans;
+      keys = (stands.once).keys;
+      tasks = (stands.once).tasks;
+      works = only_call.once_ended n asked places fail it.works (stands.once).works;
+      calls = once_without nat_cmp number it.calls (stands.once).calls;
+    };
     tells_well = let tells : TellsWell _ = only_call.tells_last told it b answer pinged only stands in record {
       number = tells.number;
       low = tells.low;
@@ -497,6 +514,11 @@ module _ (told : Told) (was : Records) (it : Recorded) (n number worker : ℕ) (
       begun_past = tells.begun_past;
       failed = tells.failed;
       going = tells.going;
+      one_owner = tells.one_owner;
+      one_key = tells.one_key;
+      recorded = tells.recorded;
+      counted = tells.counted;
+      disks_apart = tells.disks_apart;
       updates = tells.updates;
     };
   }

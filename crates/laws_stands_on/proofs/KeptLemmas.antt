@@ -18,9 +18,9 @@ use Rattle.bosh_progress.specs.Tree.{first_marked}
 use Rattle.bosh_progress.specs.declared.rolling.Rolling.{Rolling}
 use Rattle.bosh_roll.specs.Upd.{is_busy}
 use Rattle.bosh_roll.specs.declared.upd.Upd.{Upd}
-use Rattle.bosh_roll.specs.declared.upd.Upd.TheVariants.{Busy}
+use Rattle.bosh_roll.specs.declared.upd.Upd.TheVariants.{Busy, Finished}
 use Rattle.bosh_rows.specs.Same.{same_inst}
-use Rattle.bosh_work.specs.Rolling.{at_change, begun, given, taken, with_roll}
+use Rattle.bosh_work.specs.Rolling.{at_change, begun, finished, given, taken, with_roll}
 use Rattle.bosh_work.specs.declared.groups.GroupWork.{GroupWork}
 use Rattle.laws_stands.specs.GroupsStand.{EachStands, GroupStands, GroupsStand, both_places, change_place, gone_on}
 use Rattle.laws_stands.specs.GroupsStand.{names_of}
@@ -241,6 +241,46 @@ module _ (t : Task) (idle : Inst → Bool) (i : Inst) (apart : are_distinct same
             place it.roll.busy place_is g.busy_are busy;
         idle_are = marks_set t i apart (λ x. is_busy (t.upd x) && idle x)
             (λ x. is_busy (at same_inst i Busy t.upd x) && idle x) true place it.roll.idle place_is g.idle_are
+            idles;
+      }
+
+  -- .. and is done
+  pub update_finished : GroupsStand (update_at Finished i t) idle
+      (at_change finished groups (change_place t.changed i))
+  update_finished = groups_changed t t.pinged (at same_inst i Finished t.upd) t.gone t.failed t.calls t.end idle idle
+      i false false false waits busy idles apart finished one groups stands
+    where
+      waits : (x : Inst) → is_waiting (at same_inst i Finished t.upd x)
+          ≡ at same_inst i false (λ x. is_waiting (t.upd x)) x
+      waits x = told_anew is_waiting i Finished t.upd x
+
+      busy : (x : Inst) → is_busy (at same_inst i Finished t.upd x) ≡ at same_inst i false (λ x. is_busy (t.upd x)) x
+      busy x = told_anew is_busy i Finished t.upd x
+
+      idles : (x : Inst) → (is_busy (at same_inst i Finished t.upd x) && idle x)
+          ≡ at same_inst i false (λ x. is_busy (t.upd x) && idle x) x
+      idles x = by (same_inst i x)
+        where
+          by : (b : Bool) → (is_busy (if b then Finished else t.upd x) && idle x)
+              ≡ (if b then false else is_busy (t.upd x) && idle x)
+          by true = refl
+          by false = refl
+
+      one : (place : ℕ) (it : GroupWork) → place_of same_inst i (changed_in t i.group) ≡ Some place
+          → GroupStands t idle i.group it
+          → GroupStands (update_at Finished i t) idle i.group (record it { roll = finished place it.roll })
+      one place it place_is g = record {
+        stage_is = g.stage_is;
+        canaries_are = g.canaries_are;
+        limit_is = g.limit_is;
+        places_are = g.places_are;
+        waiting_are = marks_set t i apart (λ x. is_waiting (t.upd x))
+            (λ x. is_waiting (at same_inst i Finished t.upd x)) false place it.roll.waiting place_is g.waiting_are
+            waits;
+        busy_are = marks_set t i apart (λ x. is_busy (t.upd x)) (λ x. is_busy (at same_inst i Finished t.upd x)) false
+            place it.roll.busy place_is g.busy_are busy;
+        idle_are = marks_set t i apart (λ x. is_busy (t.upd x) && idle x)
+            (λ x. is_busy (at same_inst i Finished t.upd x) && idle x) false place it.roll.idle place_is g.idle_are
             idles;
       }
 

@@ -10,8 +10,11 @@ pub mod KeyLemmas
 pub mod LinkLemmas
 pub mod ListedLemmas
 pub mod NextCallLemmas
+pub mod OnceLemmas
 pub mod OnlyCallLemmas
+pub mod RoomyLemmas
 pub mod TableLemmas
 pub mod UpdateBegunLemmas
 pub mod UploadLemmas
 pub mod WorkLemmas
+pub mod WorksLemmas

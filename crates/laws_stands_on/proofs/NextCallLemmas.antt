@@ -1,33 +1,38 @@
 -- A call of any owner begins: what is told of it and of its task.
-use Rattle.std.proofs.Common.{◌≡◌, ◌∙◌, ℕ, ◌+◌, ◌<◌, ◌≤◌, suc, Bool, true, false, ◌&&◌, not}
+use Rattle.std.proofs.Common.{◌≡◌, ◌∙◌, ℕ, ◌+◌, ◌<◌, ◌≤◌, suc, Bool, true, false, ◌&&◌, not, List}
 use Rattle.std.proofs.Common.{◌==◌, Option, Some, None, add-one, ap, refl, subst, sym, arith}
 use Rattle.std.specs.Prelude.{cond, count_by, eqb, is_some, min, nat_le, if◌then◌else◌}
 use Rattle.std.specs.Option.{option_and_then, option_map, option_or}
 use Rattle.std.specs.Ordering.{nat_cmp}
-use Rattle.std.proofs.lemmas.Bool.{eq-eqb, eqb-true, false≢true, ne_eqb}
+use Rattle.std.proofs.lemmas.Bool.{eq-eqb, eqb-true, false≢true, ne_eqb, not-true}
 use Rattle.std.proofs.lemmas.List.Sums.{sum_by_push}
 use Rattle.bosh_base.specs.Cloud.{numbers_to}
 use Rattle.bosh_base.specs.declared.entry.Begin.{Begin}
 use Rattle.bosh_base.specs.declared.failure.Failure.{Failure}
+use Rattle.bosh_base.specs.declared.key.Key.{Key}
+use Rattle.bosh_base.specs.declared.inst.Inst.{Inst}
 use Rattle.bosh_base.specs.declared.owner.Owner.{Owner}
+use Rattle.bosh_base.specs.declared.owner.Owner.TheVariants.{Instance}
 use Rattle.bosh_base.specs.declared.task.TaskRow.{TaskRow}
 use Rattle.bosh_history.specs.Calls.{number_of, task_with_call}
 use Rattle.bosh_history.specs.Goals.{is_waiting}
 use Rattle.bosh_history.specs.Items.{is_finished}
 use Rattle.bosh_history.specs.Known.{Known, Task}
 use Rattle.bosh_history.specs.Snapshots.{task_row}
+use Rattle.bosh_history.specs.Steps.{compiles}
 use Rattle.bosh_history.specs.Tasks.{end_by}
-use Rattle.bosh_history.specs.Words.{at, holds}
+use Rattle.bosh_history.specs.Words.{at, holds, is_among}
 use Rattle.bosh_records.specs.Changes.{with_one_call}
 use Rattle.bosh_records.specs.Recorded.{Recorded}
 use Rattle.bosh_records.specs.Table.{changed, found, put_at, thing_in}
 use Rattle.bosh_roll.specs.Upd.{is_busy}
-use Rattle.bosh_rows.specs.Same.{same_owner}
+use Rattle.bosh_rows.specs.Same.{same_inst, same_owner}
+use Rattle.bosh_rows.specs.SoundSnapshot.{are_distinct}
 use Rattle.laws_stands.specs.Reading.{dep_of, task_of}
 use Rattle.laws_stands.specs.Stands.{StandsIn, call_of}
 use Rattle.laws_stands.specs.Told.{TellsWell, Told, is_going, is_idle}
 use Rattle.laws_stands.specs.WorkStands.{end_of, is_task_call}
-use Rattle.laws_stands_on.proofs.CallLemmas.{count_within, idle_begun}
+use Rattle.laws_stands_on.proofs.CallLemmas.{all_numbered, count_within, idle_begun, same_owner_is}
 use Rattle.laws_stands_on.proofs.FindLemmas.{found_begun, none_is_found}
 use Rattle.laws_stands_on.proofs.TableLemmas.{found_altered, nat_at, nat_keys, thing_changed}
 use Rattle.laws_stands_on.specs.Allows.{AllowsNext}
@@ -130,17 +135,19 @@ module _ (told : Told) (it : Recorded) (b : Begin) (allows : AllowsNext told b) 
       ≡ (if nat_le 1 t && nat_le t k.tasks then Some (row_by t (task_now t)) else None)
   tasks_next t = task_is t ∙ by (eqb b.task t) refl
     where
-      one_more : (o : Option ℕ) → ((c : ℕ) → o ≡ Some c → c < 18446744073709551615)
+      one_more : (o : Option ℕ) → ((c : ℕ) → o ≡ Some c → c ≤ k.last_call)
           → option_map (λ c. min (c + 1) 18446744073709551615) o ≡ option_map (λ c. c + 1) o
       one_more None few = refl
       one_more (Some c) few = ap Some (within c (few c refl))
         where
-          within : (c : ℕ) → c < 18446744073709551615 → min (c + 1) 18446744073709551615 ≡ c + 1
-          within c few = omega arith
+          within : (c : ℕ) → c ≤ k.last_call → min (c + 1) 18446744073709551615 ≡ c + 1
+          within c few =
+              let next : b.n ≡ k.last_call + 1 = allows.next in
+              let small : b.n ≤ 18446744073709551615 = allows.small in omega arith
 
       own_row_is : with_one_call (row_by t (k.task b.task)) ≡ row_by t (task_with_call (k.task b.task))
       own_row_is = λ j. record (row_by t (k.task b.task)) {
-        calls = one_more (k.task b.task).calls allows.counted j;
+        calls = one_more (k.task b.task).calls (stands.tells_well.counted b.task) j;
       }
 
       mapped : (u : Bool) (row other : TaskRow) → with_one_call row ≡ other
@@ -239,8 +246,75 @@ module _ (told : Told) (it : Recorded) (b : Begin) (allows : AllowsNext told b) 
       by true = refl
       by false = was
 
-  pub tells_next : TellsWell told_next
-  tells_next = record {
+  -- no call that is open is its owner's
+  not_own : (c : ℕ) (d : Begin) → told.calls c ≡ Some d → same_owner b.owner d.owner ≡ false
+  not_own c d is =
+      not-true (same_owner b.owner d.owner)
+      (ap (λ o. not (holds (λ (e : Begin). same_owner b.owner e.owner) o)) (sym is)
+      ∙ all_numbered (λ c. not (holds (λ (e : Begin). same_owner b.owner e.owner) (told.calls c))) k.last_call c
+      (stands.tells_well.low c d is) (stands.tells_well.past c d is) allows.idle)
+
+  owner_flip : (d : Begin) → same_owner d.owner b.owner ≡ true → same_owner b.owner d.owner ≡ true
+  owner_flip d same =
+      let e : d.owner ≡ b.owner = same_owner_is d.owner b.owner same in (λ j. same_owner (sym e j) (e j)) ∙ same
+
+  one_owner : (c d : ℕ) (x y : Begin) → calls_now c ≡ Some x → calls_now d ≡ Some y
+      → same_owner x.owner y.owner ≡ true → c ≡ d
+  one_owner c d x y is there same = by (eqb b.n c) (eqb b.n d) refl refl is there
+    where
+      by : (t u : Bool) → eqb b.n c ≡ t → eqb b.n d ≡ u → (if t then Some b else told.calls c) ≡ Some x
+          → (if u then Some b else told.calls d) ≡ Some y → c ≡ d
+      by true true own its is there = sym (eqb-true b.n c own) ∙ eqb-true b.n d its
+      by true false own other is there =
+          let e : b ≡ x = cc in
+          absurd (false≢true (sym (not_own d y there) ∙ ap (λ (z : Begin). same_owner z.owner y.owner) e ∙ same))
+      by false true other own is there =
+          let e : b ≡ y = cc in
+          absurd (false≢true (sym (not_own c x is)
+          ∙ owner_flip x (ap (λ (z : Begin). same_owner x.owner z.owner) e ∙ same)))
+      by false false other others is there = stands.tells_well.one_owner c d x y is there same
+
+  one_key : (c d : ℕ) (x y : Begin) (key : Key) → calls_now c ≡ Some x → calls_now d ≡ Some y
+      → compiles key x.call ≡ true → compiles key y.call ≡ true → c ≡ d
+  one_key c d x y key is there one two = by (eqb b.n c) (eqb b.n d) refl refl is there
+    where
+      by : (t u : Bool) → eqb b.n c ≡ t → eqb b.n d ≡ u → (if t then Some b else told.calls c) ≡ Some x
+          → (if u then Some b else told.calls d) ≡ Some y → c ≡ d
+      by true true own its is there = sym (eqb-true b.n c own) ∙ eqb-true b.n d its
+      by true false own other is there =
+          let e : b ≡ x = cc in
+          absurd (false≢true (sym (allows.compiles_new d y key there (ap (λ (z : Begin). compiles key z.call) e ∙ one))
+          ∙ two))
+      by false true other own is there =
+          let e : b ≡ y = cc in
+          absurd (false≢true (sym (allows.compiles_new c x key is (ap (λ (z : Begin). compiles key z.call) e ∙ two))
+          ∙ one))
+      by false false other others is there = stands.tells_well.one_key c d x y key is there one two
+
+  counted_next : (t c : ℕ) → (task_now t).calls ≡ Some c → c ≤ b.n
+  counted_next t c is = by (eqb b.task t) is
+    where
+      one : (o : Option ℕ) → ((d : ℕ) → o ≡ Some d → d ≤ k.last_call) → option_map (λ d. d + 1) o ≡ Some c → c ≤ b.n
+      one None few is = absurd cc
+      one (Some d) few is =
+          let few_here : d ≤ k.last_call = few d refl in
+          let e : d + 1 ≡ c = cc in
+          let next : b.n ≡ k.last_call + 1 = allows.next in omega arith
+
+      by : (u : Bool) → (if u then task_with_call (k.task b.task) else k.task t).calls ≡ Some c → c ≤ b.n
+      by true is = one (k.task b.task).calls (stands.tells_well.counted b.task) is
+      by false is = low (stands.tells_well.counted t c is)
+
+  -- .. and these instances are recorded
+  pub tells_next : (instances : List Inst)
+      → ((i : Inst) → is_among same_inst i k.instances ≡ true → is_among same_inst i instances ≡ true)
+      → ((i : Inst) → b.owner ≡ Instance i → is_among same_inst i instances ≡ true)
+      → TellsWell (record told_next { known = record told_next.known { instances = instances } })
+  tells_next instances more own = record {
+    recorded = λ c d i is. by_now told.calls (λ c d. d.owner ≡ Instance i → is_among same_inst i instances ≡ true)
+        (own i) (λ c d is own. more i (stands.tells_well.recorded c d i is own)) c d is;
+    counted = counted_next;
+    disks_apart = λ t. task_same (λ it. are_distinct eqb it.disks) (λ it. refl) t ∙ stands.tells_well.disks_apart t;
     number = by_now told.calls (λ c d. d.n ≡ c) refl stands.tells_well.number;
     low = by_now told.calls (λ c d. 1 ≤ c) (let next : b.n ≡ k.last_call + 1 = allows.next in omega arith)
         stands.tells_well.low;
@@ -251,6 +325,8 @@ module _ (told : Told) (it : Recorded) (b : Begin) (allows : AllowsNext told b) 
         (stands.tells_well.failed t failure (sym (task_same (λ it. it.failed) (λ it. refl) t) ∙ is));
     going = λ c d is. going_same d.task
         ∙ by_now told.calls (λ c d. is_going k d.task ≡ true) allows.going stands.tells_well.going c d is;
+    one_owner = one_owner;
+    one_key = one_key;
     updates = λ t x. task_same (λ it. is_finished (it.upd x)) (λ it. refl) t ∙ stands.tells_well.updates t x
         ∙ sym (task_same (λ it. not (is_waiting (it.upd x)) && not (is_busy (it.upd x))) (λ it. refl) t);
   }

@@ -30,6 +30,7 @@ use Rattle.bosh_records.specs.Table.{changed, found, thing_in, without}
 use Rattle.bosh_records.specs.declared.records.Records.{Records}
 use Rattle.bosh_roll.specs.Upd.{is_busy}
 use Rattle.bosh_rows.specs.Same.{same_owner}
+use Rattle.bosh_rows.specs.SoundSnapshot.{are_distinct}
 use Rattle.bosh_work.specs.Work as work_specs
 use Rattle.bosh_work.specs.Work.{failed_by, given}
 use Rattle.bosh_work.specs.declared.part.Places.{Places}
@@ -40,10 +41,10 @@ use Rattle.laws_stands.specs.WorkStands.{end_of, is_task_call}
 use Rattle.laws_stands_on.proofs.AnsweredLemmas.{ended_work, failed_as, least_is}
 use Rattle.laws_stands_on.proofs.CallLemmas.{count_within, idle_ended, one_less}
 use Rattle.laws_stands_on.proofs.FindLemmas.{find_within, none_is_found}
+use Rattle.laws_stands_on.proofs.OnceLemmas.{once_altered}
 use Rattle.laws_stands_on.proofs.TableLemmas.{found_without, nat_at, nat_keys}
-use Rattle.laws_stands_on.specs.Once.{IsOnce}
+use Rattle.laws_stands.specs.Once.{IsOnce}
 use Rattle.laws_stands_on.proofs.ChangedLemmas.{things_changed, thing_at_key}
-use Rattle.laws_stands_on.specs.Allows.{IsOnlyCall}
 
 -- ---- the works of a task once its call ended
 
@@ -76,9 +77,27 @@ ended_works_are n true places fail works t =
     by true None = refl
     by false o = refl
 
+pub once_ended : (n : ℕ) (asked : Bool) (places : Places) (fail : Option TaskEnd) (works : List (ℕ × Option Work))
+    → IsOnce nat_cmp works → IsOnce nat_cmp (ended_works n asked places fail works)
+once_ended n asked places fail works once =
+    once_altered nat_cmp n (option_map (λ work. failed_by work fail)) (pinged asked) (by asked)
+  where
+    given_works : List (ℕ × Option Work)
+    given_works = changed nat_cmp n (λ work. given work places) works
+
+    pinged : Bool → List (ℕ × Option Work)
+    pinged asked = if asked then changed nat_cmp n (with_pinged places.part.ping) given_works else given_works
+
+    given_once : IsOnce nat_cmp given_works
+    given_once = once_altered nat_cmp n (option_map (λ work. given work places)) works once
+
+    by : (asked : Bool) → IsOnce nat_cmp (pinged asked)
+    by true = once_altered nat_cmp n (option_map (with_pinged places.part.ping)) given_works given_once
+    by false = given_once
+
 -- .. of which it is told who answered a ping
 module _ (told : Told) (it : Recorded) (b : Begin) (answer : Answer) (pinged : Inst → Bool)
-    (only : IsOnlyCall told b) (stands : StandsIn told it) where
+    (is_open : told.calls b.n ≡ Some b) (stands : StandsIn told it) where
   abbrev k : Known
   k = told.known
 
@@ -99,8 +118,12 @@ module _ (told : Told) (it : Recorded) (b : Begin) (answer : Answer) (pinged : I
     snapped = told.snapped;
   }
 
+  -- no other call is its owner's
+  only : (c : ℕ) (d : Begin) → told.calls c ≡ Some d → same_owner d.owner b.owner ≡ true → c ≡ b.n
+  only c d there same = stands.tells_well.one_owner c b.n d b there is_open same
+
   pub has_begun : k.begun b.n ≡ Some b
-  has_begun = stands.tells_well.begun b.n b only.is_open
+  has_begun = stands.tells_well.begun b.n b is_open
 
   -- ---- how it failed
 
@@ -186,7 +209,7 @@ module _ (told : Told) (it : Recorded) (b : Begin) (answer : Answer) (pinged : I
   still f same c = by (eqb b.n c) refl
     where
       by : (t : Bool) → eqb b.n c ≡ t → f (if t then None else told.calls c) ≡ f (told.calls c)
-      by true is = same ∙ sym (ap f (ap told.calls (sym (eqb-true b.n c is)) ∙ only.is_open))
+      by true is = same ∙ sym (ap f (ap told.calls (sym (eqb-true b.n c is)) ∙ is_open))
       by false other = refl
 
   pub other_calls : (owner : Owner) → same_owner owner b.owner ≡ false → call_of told_last owner ≡ call_of told owner
@@ -197,7 +220,7 @@ module _ (told : Told) (it : Recorded) (b : Begin) (answer : Answer) (pinged : I
 
   pub idle_as : (owner : Owner) → is_idle told_last owner
       ≡ (if same_owner owner b.owner then true else is_idle told owner)
-  idle_as owner = idle_ended told b.n b owner only.is_open only.only
+  idle_as owner = idle_ended told b.n b owner is_open only
 
   -- its owner has none
   pub own_call : same_owner b.owner b.owner ≡ true → call_of told_last b.owner ≡ None
@@ -220,8 +243,8 @@ module _ (told : Told) (it : Recorded) (b : Begin) (answer : Answer) (pinged : I
   pub one_less_call : count_by (is_task_call told b.task) (numbers_to k.last_call)
       ≡ count_by (is_task_call told_last b.task) (numbers_to k.last_call) + 1
   one_less_call = one_less (is_task_call told b.task) (is_task_call told_last b.task) b.n k.last_call
-      (stands.tells_well.low b.n b only.is_open) (stands.tells_well.past b.n b only.is_open)
-      (ap (holds (λ (d : Begin). d.task == b.task)) only.is_open ∙ eq-eqb b.task b.task refl)
+      (stands.tells_well.low b.n b is_open) (stands.tells_well.past b.n b is_open)
+      (ap (holds (λ (d : Begin). d.task == b.task)) is_open ∙ eq-eqb b.task b.task refl)
       (ap (λ t. holds (λ (d : Begin). d.task == b.task) (if t then None else told.calls b.n)) (eq-eqb b.n b.n refl))
       (λ c differs. ap (λ t. holds (λ (d : Begin). d.task == b.task) (if t then None else told.calls c)) differs)
 
@@ -261,6 +284,11 @@ module _ (told : Told) (it : Recorded) (b : Begin) (answer : Answer) (pinged : I
     begun_past = stands.tells_well.begun_past;
     failed = failed_began;
     going = λ c d is. going_same d.task ∙ stands.tells_well.going c d (was_open c d is);
+    one_owner = λ c d x y is there. stands.tells_well.one_owner c d x y (was_open c x is) (was_open d y there);
+    one_key = λ c d x y key is there. stands.tells_well.one_key c d x y key (was_open c x is) (was_open d y there);
+    recorded = λ c d i is own. stands.tells_well.recorded c d i (was_open c d is) own;
+    counted = λ t c is. stands.tells_well.counted t c (sym (task_same (λ it. it.calls) refl t) ∙ is);
+    disks_apart = λ t. task_same (λ it. are_distinct eqb it.disks) refl t ∙ stands.tells_well.disks_apart t;
     updates = λ t x. task_same (λ it. is_finished (it.upd x)) refl t ∙ stands.tells_well.updates t x
         ∙ sym (task_same (λ it. not (is_waiting (it.upd x)) && not (is_busy (it.upd x))) refl t);
   }

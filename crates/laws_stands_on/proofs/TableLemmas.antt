@@ -10,7 +10,7 @@ use Rattle.std.specs.declared.cmp.Ordering.{Ordering}
 use Rattle.std.proofs.lemmas.Bool.{eqb-true, true≢false}
 use Rattle.std.proofs.lemmas.Bool.Decides.{nat_tests}
 use Rattle.bosh_records.specs.Table.{altered, changed, found, thing_in, without}
-use Rattle.laws_stands_on.specs.Once.{IsOnce}
+use Rattle.laws_stands.specs.Once.{IsOnce}
 
 -- keys that compare as equal are one
 abbrev pub TellsKeys : {K : Type 0} → (K → K → Ordering) → Type 0

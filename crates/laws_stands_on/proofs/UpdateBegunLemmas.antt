@@ -24,6 +24,7 @@ use Rattle.bosh_records.specs.Recorded.{Recorded}
 use Rattle.bosh_roll.specs.Upd.{is_busy}
 use Rattle.bosh_roll.specs.declared.upd.Upd.TheVariants.{Busy}
 use Rattle.bosh_rows.specs.Same.{same_inst}
+use Rattle.bosh_rows.specs.SoundSnapshot.{are_distinct}
 use Rattle.bosh_work.specs.Work as work_specs
 use Rattle.bosh_work.specs.declared.part.MachineName.{MachineName}
 use Rattle.bosh_work.specs.declared.work.Work.{Work}
@@ -34,6 +35,7 @@ use Rattle.laws_stands.specs.Told.{Told, is_going, telling}
 use Rattle.laws_stands.specs.WorkStands.{StandsFor}
 use Rattle.laws_stands_on.proofs.LinkLemmas.{changed_work, links_go_on}
 use Rattle.laws_stands_on.proofs.ListedLemmas.{SameListed, listed_goes_on}
+use Rattle.laws_stands_on.proofs.OnceLemmas.{once_altered}
 use Rattle.laws_stands_on.proofs.TableLemmas.{nat_at, nat_keys, thing_changed}
 use Rattle.laws_stands_on.proofs.WorkLemmas.{after_update_begun}
 use Rattle.laws_stands_on.specs.Allows.{AllowsUpdate}
@@ -210,6 +212,16 @@ module _ (u : Update) (told : Told) (it : Recorded) (allows : AllowsUpdate told 
       machines = λ name. refl;
       orphans = λ d. refl;
     }) stands.linked;
+    once = record {
+      instances = (stands.once).instances;
+      machines = (stands.once).machines;
+      orphans = (stands.once).orphans;
+      keys = (stands.once).keys;
+      tasks = (stands.once).tasks;
+      works = once_altered nat_cmp n (option_map (λ work. work_specs.update_begun work (part_of it i).change)) it.works
+          (stands.once).works;
+      calls = (stands.once).calls;
+    };
     tells_well = record {
       number = stands.tells_well.number;
       low = stands.tells_well.low;
@@ -219,6 +231,12 @@ module _ (u : Update) (told : Told) (it : Recorded) (allows : AllowsUpdate told 
       failed = λ t failure is. stands.tells_well.failed t failure (sym (task_same (λ it. it.failed) (λ it. refl) t)
           ∙ is);
       going = λ c b is. going_same b.task ∙ stands.tells_well.going c b is;
+      one_owner = stands.tells_well.one_owner;
+      one_key = stands.tells_well.one_key;
+      recorded = stands.tells_well.recorded;
+      counted = λ t c is. stands.tells_well.counted t c (sym (task_same (λ it. it.calls) (λ it. refl) t) ∙ is);
+      disks_apart = λ t. task_same (λ it. are_distinct eqb it.disks) (λ it. refl) t
+          ∙ stands.tells_well.disks_apart t;
       updates = updates_told;
     };
   }

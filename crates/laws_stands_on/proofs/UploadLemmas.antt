@@ -67,6 +67,15 @@ module _ (releases : List Release) (stemcells : List Stemcell) (config : Option 
       sweeps = stands.linked.sweeps;
       deletions = stands.linked.deletions;
     };
+    once = record {
+      instances = (stands.once).instances;
+      machines = (stands.once).machines;
+      orphans = (stands.once).orphans;
+      keys = (stands.once).keys;
+      tasks = (stands.once).tasks;
+      works = (stands.once).works;
+      calls = (stands.once).calls;
+    };
     tells_well = record {
       number = stands.tells_well.number;
       low = stands.tells_well.low;
@@ -75,6 +84,11 @@ module _ (releases : List Release) (stemcells : List Stemcell) (config : Option 
       begun_past = stands.tells_well.begun_past;
       failed = stands.tells_well.failed;
       going = stands.tells_well.going;
+      one_owner = stands.tells_well.one_owner;
+      one_key = stands.tells_well.one_key;
+      recorded = stands.tells_well.recorded;
+      counted = stands.tells_well.counted;
+      disks_apart = stands.tells_well.disks_apart;
       updates = stands.tells_well.updates;
     };
   }

@@ -31,13 +31,9 @@ pub record AllowsNext (told : Told) (begin : Begin) : Type 0 where
   pub small : begin.n ≤ 18446744073709551615
   pub going : is_going told.known begin.task ≡ true
   pub none_failed : (told.known.task begin.task).failed ≡ None
-  pub counted : (c : ℕ) → (told.known.task begin.task).calls ≡ Some c → c < 18446744073709551615
   pub idle : is_idle told begin.owner ≡ true
-
--- an open call is the only one of its owner
-pub record IsOnlyCall (told : Told) (begin : Begin) : Type 0 where
-  pub is_open : told.calls begin.n ≡ Some begin
-  pub only : (c : ℕ) (d : Begin) → told.calls c ≡ Some d → same_owner d.owner begin.owner ≡ true → c ≡ begin.n
+  pub compiles_new : (c : ℕ) (d : Begin) (key : Key) → told.calls c ≡ Some d → compiles key begin.call ≡ true →
+      compiles key d.call ≡ false
 
 -- a call of an instance may begin for an open task: it has the next number, the instance is of the task's deployment, and no
 -- other open task lists it
@@ -47,7 +43,6 @@ pub record AllowsCall (told : Told) (n number : ℕ) (call : Call) (i : Inst) : 
   pub going : is_going told.known n ≡ true
   pub dep : (told.known.task n).dep ≡ Some i.dep
   pub none_failed : (told.known.task n).failed ≡ None
-  pub counted : (c : ℕ) → (told.known.task n).calls ≡ Some c → c < 18446744073709551615
   pub changed_apart : are_distinct same_inst (told.known.task n).changed ≡ true
   pub pings_apart : are_distinct same_inst (told.known.task n).to_ping ≡ true
   pub obsolete_apart : are_distinct same_inst (told.known.task n).obsolete ≡ true
@@ -67,17 +62,14 @@ pub record HasPlaces (it : Recorded) (number : ℕ) (i : Inst) : Type 0 where
   pub instance : is_some (instance_of it i) ≡ true
   pub call : is_some (found nat_cmp it.calls number) ≡ true
 
--- an open call of an instance may end: it is the only one of the instance, which is recorded, and no other open task lists
--- it
+-- an open call of an instance may end: no other open task lists the instance
 pub record AllowsEnd (told : Told) (begin : Begin) (answer : Answer) (i : Inst) : Type 0 where
   pub is_open : told.calls begin.n ≡ Some begin
-  pub only : (c : ℕ) (d : Begin) → told.calls c ≡ Some d → same_owner d.owner (Instance i) ≡ true → c ≡ begin.n
   pub dep : (told.known.task begin.task).dep ≡ Some i.dep
   pub changed_apart : are_distinct same_inst (told.known.task begin.task).changed ≡ true
   pub pings_apart : are_distinct same_inst (told.known.task begin.task).to_ping ≡ true
   pub obsolete_apart : are_distinct same_inst (told.known.task begin.task).obsolete ≡ true
   pub compiles_none : (key : Key) → compiles key begin.call ≡ false
-  pub recorded : is_among same_inst i told.known.instances ≡ true
   pub own_row : (after begin.n begin.call answer (told.known.row i)).inst ≡ i
   pub not_asked : (t : ℕ) → eqb begin.task t ≡ false → is_going told.known t ≡ true →
       is_among same_inst i (told.known.task t).to_ping ≡ false

@@ -1,2 +1,1 @@
 pub mod Allows
-pub mod Once

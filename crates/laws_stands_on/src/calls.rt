@@ -18,7 +18,7 @@ ghost use Rattle.laws_stands.specs.Reading.{row_of};
 ghost use Rattle.laws_stands.specs.Stands.{Stands, StandsIn};
 ghost use Rattle.laws_stands.specs.Told.{Told, telling};
 ghost use Rattle.laws_stands_on.specs.Allows.{AllowsCall, AllowsEnd, HasPlaces};
-ghost use Rattle.laws_stands_on.specs.Once.{IsOnce};
+ghost use Rattle.laws_stands.specs.Once.{IsOnce};
 
 /// It stands after a call of an instance began that may begin, where there is a place for the call and one for what is said
 /// of the instance.
@@ -40,7 +40,7 @@ pub fn what_is_recorded_stands_after_a_call_ends()
     ensures { (told : Told) (was : Records) (it : Recorded) (n number worker : ℕ) (call : Call) (answer : Answer)
         (i : Inst)
         → AllowsEnd told (record { n = number; task = n; worker = worker; owner = Instance i; call = call }) answer i
-        → IsOnce nat_cmp it.calls → Stands told was → StandsIn told it
+        → Stands told was → StandsIn told it
         → StandsIn (telling told (entries.End (record { n = number; answer = answer })))
         (learned (entries.End (record { n = number; answer = answer }))
         (changes.Ended (ended_of was (record { n = number; answer = answer }))) it) }
