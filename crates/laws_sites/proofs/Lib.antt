@@ -1,2 +1,4 @@
 pub mod CallLemmas
 pub mod MomentLemmas
+pub mod PerformLemmas
+pub mod PerformedLemmas

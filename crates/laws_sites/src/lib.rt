@@ -3,5 +3,7 @@
 #![tactic(auto)]
 
 mod calls;
+mod performed;
 
 pub use calls::open_calls_are_those_of_the_moment;
+pub use performed::a_good_site_performs_what_it_may;
