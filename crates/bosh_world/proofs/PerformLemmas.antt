@@ -47,6 +47,7 @@ pub halts_in_cloud : {K L : Type 0} {k : keeper.Ghosts K} {l : keeper.Ghosts L} 
     Follows was.history was.book.journal.entries now.cloud.effects (Some cause) now.history →
     HaltsInCloud bodies faults was cause now
 halts_in_cloud bodies faults was now cause of running goes book calls opening follows = record {
+  ran = running;
   comes = record {
     grows = follows.grows;
     story =
@@ -124,6 +125,7 @@ comes_followed was now of running book follows = record {
 pub lacks_first : {K L : Type 0} {k : keeper.Ghosts K} {l : keeper.Ghosts L} (bodies : L → Option (List (List ℕ)))
     (was : Site K L k l) → was.history.is_halted ≡ false → LacksMemory bodies was was
 lacks_first bodies was running = record {
+  ran = running;
   running = running;
   comes = comes_nothing was was refl refl refl;
   same_effects = refl;

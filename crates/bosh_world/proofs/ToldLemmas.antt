@@ -43,6 +43,7 @@ halts_told : {K L : Type 0} {k : keeper.Ghosts K} {l : keeper.Ghosts L} (bodies 
     (faults : L → ℕ) (was mid now : Site K L k l) (cause : Cause) → Comes was [] mid → KeepsBooks was mid →
     HaltsInCloud bodies faults mid cause now → HaltsInCloud bodies faults was cause now
 halts_told bodies faults was mid now cause comes keeps halts = record {
+  ran = sym keeps.same_halt ∙ halts.ran;
   comes = comes_then was mid now [] (moves.Halt cause ∷ []) comes halts.comes;
   halted = halts.halted;
   effects = subst (λ (it : CloudView _). Extends it.effects now.cloud.effects) keeps.same_cloud halts.effects;
@@ -86,6 +87,7 @@ lacks_told : {K L : Type 0} {k : keeper.Ghosts K} {l : keeper.Ghosts L} (bodies 
     (was mid now : Site K L k l) → Comes was [] mid → KeepsBooks was mid → LacksMemory bodies mid now →
     LacksMemory bodies was now
 lacks_told bodies was mid now comes keeps lacks = record {
+  ran = sym keeps.same_halt ∙ lacks.ran;
   running = lacks.running;
   comes = comes_then was mid now [] [] comes lacks.comes;
   same_effects = lacks.same_effects ∙ ap (λ it. it.effects) keeps.same_cloud;
@@ -195,6 +197,7 @@ cloud_refuses {k = k} {l = l} bodies faults was now permit e fault told n owner 
       }) same_book same_calls same_opening told_so;
     })
     each cloud.Memory done meets seen told_so = record {
+      ran = running;
       running = told_so.halted;
       comes = comes_followed was now of running same_book told_so;
       same_effects = done.notes.2;

@@ -95,6 +95,7 @@ pub record Performs {K L : Type 0} {k : keeper.Ghosts K} {l : keeper.Ghosts L}
 pub record HaltsInCloud {K L : Type 0} {k : keeper.Ghosts K} {l : keeper.Ghosts L}
     (bodies : L → Option (List (List ℕ))) (faults : L → ℕ) (was : Site K L k l) (cause : Cause) (now : Site K L k l) :
     Type 0 where
+  pub ran : was.history.is_halted ≡ false
   pub comes : Comes was (moves.Halt cause ∷ []) now
   pub halted : now.history.is_halted ≡ true
   pub effects : Extends was.cloud.effects now.cloud.effects
@@ -136,6 +137,7 @@ traps_by fault method owner traps = traps_after method owner traps
 -- There was no memory in a call on the cloud: nothing was done, and no fate and no trap has seen the call.
 pub record LacksMemory {K L : Type 0} {k : keeper.Ghosts K} {l : keeper.Ghosts L}
     (bodies : L → Option (List (List ℕ))) (was now : Site K L k l) : Type 0 where
+  pub ran : was.history.is_halted ≡ false
   pub running : now.history.is_halted ≡ false
   pub comes : Comes was [] now
   pub same_effects : now.cloud.effects ≡ was.cloud.effects
