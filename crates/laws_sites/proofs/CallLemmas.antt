@@ -16,7 +16,7 @@ use Rattle.laws_sites.specs.Calls.{AreCalls, HasDone, IsCall}
 
 -- ---- moves
 
-front : {A : Type 0} (xs ys : List A) (k : ℕ) (x : A) → slice_get xs k ≡ Some x → slice_get (xs ++ ys) k ≡ Some x
+pub front : {A : Type 0} (xs ys : List A) (k : ℕ) (x : A) → slice_get xs k ≡ Some x → slice_get (xs ++ ys) k ≡ Some x
 front [] ys k x is = absurd (let none : None ≡ Some x = is in cc)
 front (a ∷ xs) ys zero x is = is
 front (a ∷ xs) ys (suc k) x is = front xs ys k x is

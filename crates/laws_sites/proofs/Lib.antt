@@ -1,4 +1,11 @@
 pub mod CallLemmas
+pub mod HaltLemmas
+pub mod HeldLemmas
 pub mod MomentLemmas
 pub mod PerformLemmas
 pub mod PerformedLemmas
+pub mod RefusedLemmas
+pub mod StepLemmas
+pub mod StopLemmas
+pub mod WriteLemmas
+pub mod WrittenLemmas
