@@ -1,14 +1,13 @@
 -- The open calls go on: as more moves come, and as one begins, is performed, or ends.
-use Rattle.std.proofs.Common.{◌≡◌, ◌∙◌, ◌<◌, ◌≤◌, ℕ, zero, suc, Bool, true, false, List, [], ◌∷◌, ◌++◌, Option, Some, None, ap, arith, length, refl, subst, sym}
-use Rattle.std.specs.Prelude.{◌==◌, cond, eqb, filter, find, is_some, map, not, slice_get, if◌then◌else◌}
-use Rattle.std.proofs.lemmas.Bool.{eq-eqb, eqb-true, false≢true, true≢false}
+use Rattle.std.proofs.Common.{◌≡◌, ◌∙◌, ℕ, zero, suc, Bool, true, false, List, [], ◌∷◌, ◌++◌, Option, Some, None, length, refl, subst, sym}
+use Rattle.std.specs.Prelude.{◌==◌, eqb, find, is_some, not, slice_get, if◌then◌else◌}
+use Rattle.std.proofs.lemmas.Bool.{eq-eqb, eqb-true, false≢true}
 use Rattle.bosh_base.specs.declared.entry.Begin.{Begin}
-use Rattle.bosh_base.specs.declared.entry.Entry.{Entry}
 use Rattle.bosh_base.specs.declared.entry.Entry.TheVariants as entries
 use Rattle.bosh_base.specs.declared.moves.Did as did
 use Rattle.bosh_base.specs.declared.moves.Move.{Move}
 use Rattle.bosh_base.specs.declared.moves.Move.TheVariants.{Did}
-use Rattle.bosh_calls.specs.Calls.{begun, is_free, is_of, is_other, is_performable, performed, with_begun, with_performed, without}
+use Rattle.bosh_calls.specs.Calls.{begun, is_free, is_of, is_performable, with_begun, with_performed, without}
 use Rattle.bosh_calls.specs.declared.calls.OpenCall as site
 use Rattle.bosh_history.specs.Moments.{OpenCall, calls_after, performed_call}
 use Rattle.bosh_history.specs.Words.{at}

@@ -1,61 +1,36 @@
 -- A site stays good where a call on the cloud is refused, and where a call is given up.
-use Rattle.std.proofs.Common.{◌≡◌, ◌∙◌, ◌<◌, ℕ, Bool, true, false, List, [], ◌∷◌, ◌++◌, Option, Some, None, ap, append-nil, refl, subst, sym}
-use Rattle.std.specs.Prelude.{◌≢◌, ◌⊎◌, Err, eqb, find, nat_lt}
-use Rattle.std.proofs.lemmas.Bool.{and_from, false≢true, lt-ltb, true≢false}
-use Rattle.bosh_agent.specs.Compiled.{compiled_digest}
-use Rattle.bosh_asks.specs.declared.fault.BookFault.{BookFault}
+use Rattle.std.proofs.Common.{◌≡◌, ◌∙◌, ℕ, Bool, true, false, List, [], ◌∷◌, ◌++◌, Option, Some, None, append-nil, refl, subst, sym}
+use Rattle.std.specs.Prelude.{◌≢◌}
+use Rattle.std.proofs.lemmas.Bool.{false≢true, true≢false}
 use Rattle.bosh_asks.specs.declared.fault.BookFault.TheVariants as book
-use Rattle.bosh_base.specs.CallStep.{takes_effect}
-use Rattle.bosh_base.specs.declared.entry.Begin.{Begin}
-use Rattle.bosh_base.specs.declared.call.Call.{Call}
-use Rattle.bosh_base.specs.declared.digest.Digest.{Digest}
-use Rattle.bosh_base.specs.declared.entry.Effect as effect
 use Rattle.bosh_base.specs.declared.entry.Entry.{Entry}
-use Rattle.bosh_base.specs.declared.entry.Entry.TheVariants as entries
-use Rattle.bosh_base.specs.declared.key.KeyWork.{KeyWork}
 use Rattle.bosh_base.specs.declared.moves.Cause.{Cause}
 use Rattle.bosh_base.specs.declared.moves.Cause.TheVariants as causes
 use Rattle.bosh_base.specs.declared.moves.Move.{Move}
-use Rattle.bosh_base.specs.declared.moves.Move.TheVariants as moves
-use Rattle.bosh_base.specs.declared.owner.Owner.{Owner}
-use Rattle.bosh_book.specs.Current as current
 use Rattle.bosh_book.specs.declared.book.Book.{Book}
-use Rattle.bosh_book.specs.declared.granted.Granted.{Granted}
-use Rattle.bosh_book.specs.declared.standing.Standing.TheVariants.{Abandoned, Unread}
-use Rattle.bosh_calls.specs.Calls.{is_performable}
+use Rattle.bosh_book.specs.declared.standing.Standing.TheVariants.{Unread}
 use Rattle.bosh_calls.specs.declared.calls.OpenCall as site
 use Rattle.bosh_cloud.specs.CloudView.{CloudView}
 use Rattle.bosh_cloud.specs.Loading as cloud
-use Rattle.bosh_cloud.specs.Notes.{IsPending}
-use Rattle.bosh_cloud.specs.Performs.{effects_if, fate_of, has_effect}
-use Rattle.bosh_entry.specs.Body.{spelling}
 use Rattle.bosh_history.specs.Fit.{IsFit}
-use Rattle.bosh_history.specs.Moments.{Moment, OpenCall, Opening, dep_of, taking, with_written}
+use Rattle.bosh_history.specs.Moments.{Moment, Opening}
 use Rattle.bosh_history.specs.Notes.{Outside}
-use Rattle.bosh_history.specs.Permitted.{MayTake, may_take}
+use Rattle.bosh_history.specs.Permitted.{may_take}
 use Rattle.bosh_journal.specs.JournalView.{Pending}
 use Rattle.bosh_journal.specs.Kept as journal
 use Rattle.bosh_moves.specs.Story.{story}
 use Rattle.bosh_ports.specs.Rigged.{RigState}
 use Rattle.bosh_ports.specs.declared.keeper.Keeper as keeper
-use Rattle.bosh_records.specs.Readers.{call_at}
-use Rattle.bosh_world.specs.Abandons.{Abandons, GivesUp}
+use Rattle.bosh_world.specs.Abandons.{GivesUp}
 use Rattle.bosh_world.specs.Performing as world
-use Rattle.bosh_world.specs.Steps.{Comes, IsSame, bodies_of}
-use Rattle.bosh_world.specs.Stopping as stopping
-use Rattle.bosh_world.specs.Told.{IsPerformable, story_of}
-use Rattle.bosh_world.specs.declared.fault.SiteFault.{SiteFault}
-use Rattle.bosh_world.specs.declared.fault.SiteFault.TheVariants as fault
+use Rattle.bosh_world.specs.Steps.{bodies_of}
+use Rattle.bosh_world.specs.Told.{story_of}
 use Rattle.bosh_world.specs.declared.site.Site.{Site}
-use Rattle.laws_sites.proofs.CallLemmas.{performable_is}
-use Rattle.laws_sites.proofs.PerformLemmas.{dep_is, effects_are}
-use Rattle.laws_sites.proofs.StepLemmas.{IsAfter, book_goes_on, good_on, halted_good, stopped}
-use Rattle.laws_sites.proofs.StopLemmas.{HasTaken, Left, MayTakeMore, all_taken, effects_stopped, take_stopped}
+use Rattle.laws_sites.proofs.StepLemmas.{book_goes_on, good_on, halted_good, stopped}
+use Rattle.laws_sites.proofs.StopLemmas.{HasTaken, MayTakeMore, effects_stopped, take_stopped}
 use Rattle.laws_sites.specs.Calls.{AreCalls, AreRising}
 use Rattle.laws_sites.specs.Good.{GoesOn, HasHalted, IsGood, IsRecorded, MayCome, MayPend, moment_of}
-use Rattle.laws_stands.specs.Agrees.{Agrees}
 use Rattle.laws_stands.specs.Stands.{Stands}
-use Rattle.laws_stands.specs.Told.{Told}
 
 -- ---- what is pending
 
@@ -75,9 +50,21 @@ may_come_taken : (outside : Outside) (m : Moment) (took : List ℕ) (b : Bool) (
     → MayTakeMore outside m 0 took b pending → MayCome outside (stopped m) None took b pending
 may_come_taken outside m took false pending more = tt
 may_come_taken outside m took true None more = tt
-may_come_taken outside m took true (Some body) (entry, spelled, (others, (may, effects))) =
-    (entry, spelled, (None, (others, (tt, take_stopped outside m 0 others may,
-    effects_stopped m others ∙ effects ∙ (λ i. sym (effects_stopped m took) i ++ entry ∷ [])))))
+may_come_taken outside m took true (Some body) (entry, spelled, (others, (may, effects))) = (
+  entry,
+  spelled,
+  (
+    None,
+    (
+      others,
+      (
+        tt,
+        take_stopped outside m 0 others may,
+        effects_stopped m others ∙ effects ∙ (λ i. sym (effects_stopped m took) i ++ entry ∷ []),
+      ),
+    ),
+  ),
+)
 
 module _ {K L : Type 0} {k : keeper.Ghosts K} {l : keeper.Ghosts L} (outside : Outside) (bodies : K → Option (List (List ℕ)))
     (cloud_bodies : L → Option (List (List ℕ))) (o : Opening) where
@@ -110,6 +97,7 @@ module _ {K L : Type 0} {k : keeper.Ghosts K} {l : keeper.Ghosts L} (outside : O
       goes : GoesOn bodies cloud_bodies (moment_of o was) was → GoesOn bodies cloud_bodies (moment_of o was) now
       goes it = record {
         recovered = it.recovered;
+        numbers = it.numbers;
         effects = lacks.same_effects ∙ it.effects;
         calls = subst (λ (moves : List Move). AreCalls moves now.calls.unsettled (moment_of o was).calls)
             (sym (lacks.comes.story ∙ append-nil (story_of was)))

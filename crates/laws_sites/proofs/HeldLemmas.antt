@@ -1,5 +1,5 @@
 -- A call that was performed, and is held, may be settled.
-use Rattle.std.proofs.Common.{◌≡◌, ◌∙◌, ℕ, Bool, true, false, not, List, Option, Some, None, ap, refl, subst, sym}
+use Rattle.std.proofs.Common.{◌≡◌, ◌∙◌, ℕ, false, not, List, Option, Some, None, ap, refl, sym}
 use Rattle.std.specs.Prelude.{◌||◌, find, slice_get}
 use Rattle.std.specs.Option.{option_and_then}
 use Rattle.bosh_base.specs.declared.answer.Answer.{Answer}
@@ -8,12 +8,12 @@ use Rattle.bosh_base.specs.declared.entry.Entry.TheVariants as entries
 use Rattle.bosh_base.specs.declared.moves.Did as did
 use Rattle.bosh_base.specs.declared.moves.Move.{Move}
 use Rattle.bosh_base.specs.declared.moves.Move.TheVariants as moves
-use Rattle.bosh_calls.specs.Calls.{is_of, place_of}
+use Rattle.bosh_calls.specs.Calls.{is_of}
 use Rattle.bosh_calls.specs.declared.calls.OpenCall as site
-use Rattle.bosh_history.specs.Moments.{Moment, OpenCall, Opening}
+use Rattle.bosh_history.specs.Moments.{OpenCall, Opening}
 use Rattle.bosh_history.specs.Notes.{EndsCall, Outside}
 use Rattle.bosh_history.specs.Permitted.{IsPermitted}
-use Rattle.bosh_history.specs.Recovered.{is_interruption, may_follow}
+use Rattle.bosh_history.specs.Recovered.{is_interruption}
 use Rattle.bosh_moves.specs.Story.{HistoryView, story, to_tell}
 use Rattle.bosh_ports.specs.declared.keeper.Keeper as keeper
 use Rattle.bosh_world.specs.Holds.{HasAnswered, IsDid, IsHeld}
@@ -60,13 +60,14 @@ pub held_may_end : {K L : Type 0} {k : keeper.Ghosts K} {l : keeper.Ghosts L} (o
     (call : HeldCall) → IsGood outside bodies cloud_bodies o site → site.history.is_halted ≡ false → IsHeld site call
     → IsPermitted outside (moment_of o site)
     (moves.Note (entries.End (record { n = call.permit.n; answer = call.answer })))
-held_may_end outside bodies cloud_bodies o site call good running held =
-    (good.halted ∙ running,
-    (λ i. not (goes.recovered i) || is_interruption (entries.End (record { n = call.permit.n; answer = call.answer }))),
-    answered site.history.moves (story_of site)
-    (told_first site.history site.book.journal.entries site.cloud.effects) call.permit.n call.answer
-    (find (is_of call.permit.n) site.calls.unsettled) ((moment_of o site).calls call.permit.n)
-    (goes.calls call.permit.n) held.1)
+held_may_end outside bodies cloud_bodies o site call good running held = (
+  good.halted ∙ running,
+  (λ i. not (goes.recovered i) || is_interruption (entries.End (record { n = call.permit.n; answer = call.answer }))),
+  answered site.history.moves (story_of site)
+      (told_first site.history site.book.journal.entries site.cloud.effects) call.permit.n call.answer
+      (find (is_of call.permit.n) site.calls.unsettled) ((moment_of o site).calls call.permit.n)
+      (goes.calls call.permit.n) held.1,
+)
   where
     goes : GoesOn bodies cloud_bodies (moment_of o site) site
     goes = good.runs running

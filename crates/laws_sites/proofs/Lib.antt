@@ -1,4 +1,5 @@
 pub mod CallLemmas
+pub mod ChoiceLemmas
 pub mod HaltLemmas
 pub mod HeldLemmas
 pub mod MomentLemmas

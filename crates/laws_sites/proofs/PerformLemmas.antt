@@ -1,33 +1,23 @@
 -- A call is performed: the cloud may answer so, and what is told of it is what happened.
-use Rattle.std.proofs.Common.{◌≡◌, ◌∙◌, ◌<◌, ℕ, Bool, true, false, not, List, [], ◌∷◌, ◌++◌, Option, Some, None, ap, append-nil, inl, inr, length, refl, subst, sym}
-use Rattle.std.specs.Prelude.{◌==◌, ◌&&◌, Ok, cond, eqb, fold, is_some, map, nat_le, if◌then◌else◌}
-use Rattle.std.specs.List.{filter_map}
+use Rattle.std.proofs.Common.{◌≡◌, ◌∙◌, ℕ, Bool, true, false, List, [], ◌∷◌, Option, Some, None, ap, inl, inr, refl, subst, sym}
+use Rattle.std.specs.Prelude.{◌==◌, ◌&&◌, is_some, nat_le, if◌then◌else◌}
 use Rattle.std.specs.Option.{option_and_then, option_map}
-use Rattle.std.proofs.lemmas.Bool.{false≢true}
 use Rattle.bosh_agent.specs.Compiled.{compiled_digest}
-use Rattle.bosh_base.specs.CallStep.{CallStep, takes_effect}
-use Rattle.bosh_base.specs.declared.answer.Answer.{Answer}
+use Rattle.bosh_base.specs.CallStep.{CallStep}
 use Rattle.bosh_base.specs.declared.call.Call.{Call}
 use Rattle.bosh_base.specs.declared.digest.Digest.{Digest}
-use Rattle.bosh_base.specs.declared.entry.Begin.{Begin}
-use Rattle.bosh_base.specs.declared.entry.Effect as effect
 use Rattle.bosh_base.specs.declared.entry.Entry.{Entry}
 use Rattle.bosh_base.specs.declared.entry.Entry.TheVariants as entries
 use Rattle.bosh_base.specs.declared.key.KeyWork.{KeyWork}
-use Rattle.bosh_base.specs.declared.moves.Did as did
-use Rattle.bosh_base.specs.declared.moves.Move.{Move}
-use Rattle.bosh_base.specs.declared.moves.Move.TheVariants.{Did}
 use Rattle.bosh_base.specs.declared.owner.Owner.{Owner}
 use Rattle.bosh_base.specs.declared.owner.Owner.TheVariants.{Instance, Compile, Disk}
 use Rattle.bosh_base.specs.declared.snapshot.Orphan.{Orphan}
 use Rattle.bosh_base.specs.declared.task.TaskRow.{TaskRow}
 use Rattle.bosh_book.specs.Current as current
-use Rattle.bosh_book.specs.declared.book.Book.{Book}
 use Rattle.bosh_book.specs.declared.granted.Granted.{Granted}
-use Rattle.bosh_calls.specs.Calls.{performed, with_performed}
+use Rattle.bosh_calls.specs.Calls.{with_performed}
 use Rattle.bosh_calls.specs.declared.calls.OpenCall as site
-use Rattle.bosh_cloud.specs.CloudView.{CloudView}
-use Rattle.bosh_cloud.specs.Performs.{answer_under, effects_if, fate_of, has_effect}
+use Rattle.bosh_cloud.specs.Performs.{answer_under, effects_if, has_effect}
 use Rattle.bosh_fates.specs.declared.fate.Fate.{Fate}
 use Rattle.bosh_fates.specs.declared.fate.Fate.TheVariants.{Late, Lose}
 use Rattle.bosh_history.specs.Known.{dep_named, dep_of_task}
@@ -35,12 +25,11 @@ use Rattle.bosh_history.specs.Moments.{Moment, OpenCall, call_effects, dep_of, d
 use Rattle.bosh_history.specs.Notes.{Outside}
 use Rattle.bosh_history.specs.Permitted.{PerformsOpen}
 use Rattle.bosh_history.specs.Snapshots.{task_row}
-use Rattle.bosh_records.specs.Readers.{call_at, orphan_at, task_at}
+use Rattle.bosh_records.specs.Readers.{orphan_at}
 use Rattle.bosh_records.specs.declared.orphans.LooseDisk.{LooseDisk}
 use Rattle.bosh_records.specs.declared.records.Records.{Records}
 use Rattle.bosh_world.specs.Performing as world
 use Rattle.laws_sites.specs.Calls.{AreRising}
-use Rattle.laws_stands.specs.Agrees.{Agrees}
 use Rattle.laws_stands.specs.Stands.{Stands}
 use Rattle.laws_stands.specs.Told.{Told}
 

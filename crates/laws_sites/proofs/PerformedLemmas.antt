@@ -1,46 +1,36 @@
 -- A site is good once it performed a call that it might perform.
-use Rattle.std.proofs.Common.{◌≡◌, ◌∙◌, ℕ, Bool, true, false, List, [], ◌∷◌, ◌++◌, Option, Some, None, ap, append-nil, length, refl, subst, sym}
-use Rattle.std.specs.Prelude.{◌≢◌, Ok, eqb}
+use Rattle.std.proofs.Common.{◌≡◌, ◌∙◌, ℕ, Bool, true, false, List, [], ◌∷◌, ◌++◌, Option, Some, None, ap, append-nil, length, subst, sym}
+use Rattle.std.specs.Prelude.{◌≢◌}
 use Rattle.std.proofs.lemmas.Bool.{false≢true}
 use Rattle.bosh_agent.specs.Compiled.{compiled_digest}
 use Rattle.bosh_base.specs.declared.answer.Answer.{Answer}
-use Rattle.bosh_base.specs.declared.digest.Digest.{Digest}
 use Rattle.bosh_base.specs.declared.entry.Begin.{Begin}
-use Rattle.bosh_base.specs.declared.entry.Entry.{Entry}
-use Rattle.bosh_base.specs.declared.key.KeyWork.{KeyWork}
 use Rattle.bosh_base.specs.declared.moves.Did as did
 use Rattle.bosh_base.specs.declared.moves.Move.{Move}
 use Rattle.bosh_base.specs.declared.moves.Move.TheVariants.{Did}
 use Rattle.bosh_book.specs.Current as current
 use Rattle.bosh_book.specs.declared.book.Book.{Book}
 use Rattle.bosh_book.specs.declared.granted.Granted.{Granted}
-use Rattle.bosh_book.specs.declared.standing.Standing.TheVariants.{Unread}
-use Rattle.bosh_calls.specs.Calls.{with_performed}
 use Rattle.bosh_calls.specs.declared.calls.OpenCall as site
-use Rattle.bosh_cloud.specs.Performs.{answer_under, fate_of, has_effect, new_effects}
+use Rattle.bosh_cloud.specs.Performs.{answer_under, fate_of, has_effect}
 use Rattle.bosh_history.specs.Fit.{IsFit}
-use Rattle.bosh_history.specs.Moments.{Moment, OpenCall, Opening, call_effects, dep_of, durable, later, moment, performed_call, performing}
+use Rattle.bosh_history.specs.Moments.{Moment, OpenCall, Opening, dep_of, durable, moment, performing}
 use Rattle.bosh_history.specs.Notes.{Outside}
 use Rattle.bosh_history.specs.Permitted.{IsPermitted, IsRun, PerformsOpen}
-use Rattle.bosh_history.specs.Words.{at}
 use Rattle.bosh_journal.specs.Kept as journal
 use Rattle.bosh_ports.specs.Rigged.{RigState}
 use Rattle.bosh_ports.specs.declared.keeper.Keeper as keeper
-use Rattle.bosh_records.specs.declared.records.Records.{Records}
 use Rattle.bosh_world.specs.Performing as world
 use Rattle.bosh_world.specs.Steps.{bodies_of}
 use Rattle.bosh_world.specs.Told.{IsPerformable, story_of}
 use Rattle.bosh_world.specs.declared.site.Site.{Site}
-use Rattle.laws_facts.specs.KnownFacts.{KnownFacts}
 use Rattle.laws_runs.proofs.ReadLemmas.{run_facts}
 use Rattle.laws_sites.proofs.CallLemmas.{calls_performed, performable_is}
 use Rattle.laws_sites.proofs.MomentLemmas.{durable_on, later_on, run_on}
 use Rattle.laws_sites.proofs.PerformLemmas.{dep_is, effects_are, may_perform, rising_performed}
 use Rattle.laws_sites.specs.Calls.{AreCalls, AreRising}
-use Rattle.laws_sites.specs.Good.{GoesOn, HasHalted, IsGood, IsRecorded, moment_of}
-use Rattle.laws_stands.specs.Agrees.{Agrees}
+use Rattle.laws_sites.specs.Good.{GoesOn, IsGood, IsRecorded, moment_of}
 use Rattle.laws_stands.specs.Stands.{Stands}
-use Rattle.laws_stands.specs.Told.{TellsWell, Told}
 use Rattle.laws_stands_noted.proofs.AgreesLemmas.{move_agrees}
 
 module _ {K L : Type 0} {k : keeper.Ghosts K} {l : keeper.Ghosts L} (outside : Outside) (bodies : K → Option (List (List ℕ)))
@@ -124,6 +114,7 @@ module _ {K L : Type 0} {k : keeper.Ghosts K} {l : keeper.Ghosts L} (outside : O
   goes_on : GoesOn bodies cloud_bodies (performing m d) now
   goes_on = record {
     recovered = goes.recovered;
+    numbers = goes.numbers;
     effects = performs.asks.does.notes.2
         ∙ (λ i. goes.effects i ++ effects_are m (has_effect (fate_of was.cloud permit.owner permit.call) was.cloud.effects permit.call)
         permit found.0 (m.calls permit.n) found.1 for of_dep i);

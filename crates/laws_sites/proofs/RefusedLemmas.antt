@@ -1,7 +1,7 @@
 -- A site stays good where it refuses to perform a call that it might perform, and where that call is given up then.
-use Rattle.std.proofs.Common.{◌≡◌, ◌∙◌, ◌<◌, ◌≤◌, ℕ, Bool, true, false, List, [], ◌∷◌, ◌++◌, Option, Some, None, ap, refl, subst, sym, inl, inr}
-use Rattle.std.specs.Prelude.{◌≢◌, ◌⊎◌, ◌&&◌, eqb, find, is_some, nat_lt}
-use Rattle.std.proofs.lemmas.Bool.{and_from, false≢true, lt-ltb}
+use Rattle.std.proofs.Common.{◌≡◌, ◌∙◌, ℕ, Bool, true, false, List, [], ◌∷◌, ◌++◌, Option, Some, None, ap, refl, subst, sym, inl, inr}
+use Rattle.std.specs.Prelude.{◌&&◌, nat_lt}
+use Rattle.std.proofs.lemmas.Bool.{and_from, lt-ltb}
 use Rattle.bosh_agent.specs.Compiled.{compiled_digest}
 use Rattle.bosh_asks.specs.declared.fault.BookFault.TheVariants as book
 use Rattle.bosh_base.specs.CallStep.{takes_effect}
@@ -18,7 +18,7 @@ use Rattle.bosh_book.specs.declared.granted.Granted.{Granted}
 use Rattle.bosh_cloud.specs.Notes.{IsPending}
 use Rattle.bosh_cloud.specs.Performs.{effects_if, fate_of, has_effect}
 use Rattle.bosh_history.specs.Fit.{IsFit}
-use Rattle.bosh_history.specs.Moments.{Moment, OpenCall, Opening, call_effects, dep_of, taking}
+use Rattle.bosh_history.specs.Moments.{Moment, OpenCall, Opening, dep_of}
 use Rattle.bosh_history.specs.Notes.{Outside}
 use Rattle.bosh_history.specs.Permitted.{may_take}
 use Rattle.bosh_ports.specs.Rigged.{RigState}
@@ -33,7 +33,7 @@ use Rattle.bosh_world.specs.declared.site.Site.{Site}
 use Rattle.laws_sites.proofs.CallLemmas.{performable_is}
 use Rattle.laws_sites.proofs.HaltLemmas.{gives_up_good, halts_good, lacks_good, same_good}
 use Rattle.laws_sites.proofs.PerformLemmas.{dep_is, effects_are}
-use Rattle.laws_sites.proofs.StopLemmas.{HasTaken, Left, MayTakeMore, all_taken, may_take_open, takes_under}
+use Rattle.laws_sites.proofs.StopLemmas.{HasTaken, MayTakeMore, all_taken, may_take_open, takes_under}
 use Rattle.laws_sites.specs.Good.{GoesOn, IsGood, IsRecorded, moment_of}
 
 module _ {K L : Type 0} {k : keeper.Ghosts K} {l : keeper.Ghosts L} (outside : Outside) (bodies : K → Option (List (List ℕ)))
@@ -91,9 +91,17 @@ module _ {K L : Type 0} {k : keeper.Ghosts K} {l : keeper.Ghosts L} (outside : O
     pends false has is_stale pending stale is = absurd is
     pends true has is_stale pending stale is =
         subst (λ (b : Bool). MayTakeMore outside m 0 [] b pending) (sym stale)
-        (subst (λ (p : Option (List ℕ)). MayTakeMore outside m 0 [] true p) (sym is)
-        (entries.Effect (world.effect_of permit), refl, (permit.n ∷ [], ((may has, tt),
-        ap (λ es. m.effects ++ es) (sym (effects_are m true permit found.0 (m.calls permit.n) found.1 for of_dep))))))
+        (subst (λ (p : Option (List ℕ)). MayTakeMore outside m 0 [] true p) (sym is) (
+          entries.Effect (world.effect_of permit),
+          refl,
+          (
+            permit.n ∷ [],
+            (
+              (may has, tt),
+              ap (λ es. m.effects ++ es) (sym (effects_are m true permit found.0 (m.calls permit.n) found.1 for of_dep)),
+            ),
+          ),
+        ))
 
     fails : world.FailsInCall cloud_bodies faults was permit now → HasTaken outside m 0 now.cloud
     fails failed = record {

@@ -1,6 +1,6 @@
 -- The effects of open calls that come in a stop are those that may be taken, in order of number.
 use Rattle.std.proofs.Common.{◌≡◌, ◌∙◌, ◌<◌, ℕ, Bool, true, false, not, List, [], ◌∷◌, ◌++◌, Option, Some, None, ap, append-nil, arith, inl, inr, refl, subst, sym}
-use Rattle.std.specs.Prelude.{◌==◌, ◌&&◌, ◌⊎◌, Err, Ok, eqb, find, fold, is_some, nat_lt, option_map, if◌then◌else◌}
+use Rattle.std.specs.Prelude.{◌==◌, ◌&&◌, ◌⊎◌, Err, find, fold, is_some, nat_lt, option_map, if◌then◌else◌}
 use Rattle.std.specs.Option.{option_and_then}
 use Rattle.std.proofs.lemmas.Bool.{and_from, and_parts, eq-eqb, eqb-true, false≢true, lt-ltb, ltb-true, ne_eqb, true≢false}
 use Rattle.bosh_agent.specs.Compiled.{compiled_digest}
@@ -8,7 +8,6 @@ use Rattle.bosh_base.specs.CallStep.{takes_effect}
 use Rattle.bosh_base.specs.declared.call.Call.{Call}
 use Rattle.bosh_base.specs.declared.digest.Digest.{Digest}
 use Rattle.bosh_base.specs.declared.entry.Begin.{Begin}
-use Rattle.bosh_base.specs.declared.entry.Effect as effect
 use Rattle.bosh_base.specs.declared.entry.Entry.{Entry}
 use Rattle.bosh_base.specs.declared.entry.Entry.TheVariants as entries
 use Rattle.bosh_base.specs.declared.key.KeyWork.{KeyWork}
@@ -332,7 +331,14 @@ module _ {L : Type 0} (outside : Outside) (built : outside.built ≡ compiled_di
           pends (inr taken) =
               subst (λ (b : Bool). MayTakeMore outside m last [] b now.pending) (sym failed.does.notes.1)
               (subst (λ (o : Option (List ℕ)). MayTakeMore outside m last [] true o)
-              (sym (subst (λ (es : List Entry). IsPending es now.pending) taken.news_are failed.does.notes.3))
-              (effect_of m.known taken.call.begin, refl, (it.n ∷ [],
-              ((and_from (nat_lt last it.n) (may_take outside m it.n) (lt-ltb last it.n left.rising.0) taken.may, tt),
-              taken_effects m it.n taken.call taken.is_open))))
+              (sym (subst (λ (es : List Entry). IsPending es now.pending) taken.news_are failed.does.notes.3)) (
+                effect_of m.known taken.call.begin,
+                refl,
+                (
+                  it.n ∷ [],
+                  (
+                    (and_from (nat_lt last it.n) (may_take outside m it.n) (lt-ltb last it.n left.rising.0) taken.may, tt),
+                    taken_effects m it.n taken.call taken.is_open,
+                  ),
+                ),
+              ))

@@ -3,7 +3,7 @@ use Rattle.std.proofs.Common.{◌≡◌, ◌∙◌, ℕ, zero, suc, Bool, true, 
 use Rattle.std.specs.Prelude.{◌&&◌, ◌||◌, ◌==◌, filter, find, map, option_map, slice_get, if◌then◌else◌}
 use Rattle.std.specs.List.{list_any}
 use Rattle.std.specs.Option.{option_and_then}
-use Rattle.std.proofs.lemmas.Bool.{and_from, and_parts, eq-eqb, eqb-true, false≢true, not-true}
+use Rattle.std.proofs.lemmas.Bool.{and_from, and_parts, eq-eqb, eqb-true, false≢true}
 use Rattle.bosh_base.specs.CallStep.{is_attached, is_mounted_on}
 use Rattle.bosh_base.specs.Cloud.{attached_to, disks_created, is_disk_mounted, is_disk_there, is_holder, is_running, is_silent, is_vm_there, machine_made, machine_of, make_of, mounted_on, numbers_to, vm_creation, vms_created}
 use Rattle.bosh_base.specs.declared.entry.Effect.{Effect}
@@ -18,7 +18,7 @@ use Rattle.bosh_base.specs.declared.row.Row.{Row}
 use Rattle.bosh_base.specs.declared.row.Vm as vm
 use Rattle.bosh_history.specs.Permitted.{is_instances}
 use Rattle.bosh_history.specs.Permitted as history
-use Rattle.bosh_holdings.specs.Finding.{active_of, first_of, is_its, is_of, is_owned, its_machine_of, job_disk_of, kept_if, lost_vm_of, machines_in, or_else, recorded_of, runs_with, thing_of, written_disk_of}
+use Rattle.bosh_holdings.specs.Finding.{first_of, is_its, is_of, is_owned, its_machine_of, job_disk_of, kept_if, lost_vm_of, machines_in, or_else, recorded_of, runs_with, thing_of, written_disk_of}
 use Rattle.bosh_rows.specs.Disks.{active, is_active}
 use Rattle.bosh_rows.specs.Same.{same_owner}
 use Rattle.bosh_rows.specs.Tied.{is_made_for, vms_of}
@@ -63,9 +63,10 @@ told_first row test (x ∷ xs) it is = by (test (row x)) refl is (told_first row
   where
     by : (b : Bool) → test (row x) ≡ b → (if b then Some (row x) else find test (map row xs)) ≡ Some it
         → (find test (map row xs) ≡ Some it → Told row xs it × (test it ≡ true)) → Told row (x ∷ xs) it × (test it ≡ true)
-    by true hit is more =
-        (record { number = x; is_told = some_is (row x) it is; is_in = in_head x xs },
-        sym (ap test (some_is (row x) it is)) ∙ hit)
+    by true hit is more = (
+      record { number = x; is_told = some_is (row x) it is; is_in = in_head x xs },
+      sym (ap test (some_is (row x) it is)) ∙ hit,
+    )
     by false miss is more =
         let rest : Told row xs it × (test it ≡ true) = more is in
         (record { number = rest.0.number; is_told = rest.0.is_told; is_in = in_tail rest.0.number x xs rest.0.is_in }, rest.1)

@@ -1,8 +1,8 @@
 -- A site stays good as a job writes and as a machine is lost, and where the cloud's store fails in that.
-use Rattle.std.proofs.Common.{◌≡◌, ◌∙◌, ℕ, Bool, true, false, List, [], ◌∷◌, ◌++◌, Option, Some, None, ap, append-nil, refl, subst, sym}
-use Rattle.std.specs.Prelude.{◌≢◌, ◌&&◌, ◌||◌, ◌==◌, fold, if◌then◌else◌}
+use Rattle.std.proofs.Common.{◌≡◌, ◌∙◌, ◌≤◌, ℕ, Bool, true, false, List, [], ◌∷◌, ◌++◌, Option, Some, None, ap, append-nil, refl, subst, sym}
+use Rattle.std.specs.Prelude.{◌≢◌, ◌||◌, ◌==◌, if◌then◌else◌}
 use Rattle.std.specs.List.{filter_map, list_any}
-use Rattle.std.proofs.lemmas.Bool.{and_from, eq-eqb, false≢true, true≢false}
+use Rattle.std.proofs.lemmas.Bool.{and_from, eq-eqb, false≢true}
 use Rattle.bosh_asks.specs.declared.fault.BookFault.TheVariants as book
 use Rattle.bosh_base.specs.declared.entry.Entry.{Entry}
 use Rattle.bosh_base.specs.declared.entry.Entry.TheVariants as entries
@@ -16,9 +16,8 @@ use Rattle.bosh_base.specs.declared.row.DiskRow.{DiskRow}
 use Rattle.bosh_base.specs.declared.row.Row.{Row}
 use Rattle.bosh_book.specs.declared.book.Book.{Book}
 use Rattle.bosh_calls.specs.CallsView.{CallsView}
-use Rattle.bosh_entry.specs.Body.{spelling}
 use Rattle.bosh_history.specs.Fit.{IsFit}
-use Rattle.bosh_history.specs.Moments.{Moment, Opening, durable_entry, later, losing, with_written, write_to, writing}
+use Rattle.bosh_history.specs.Moments.{Moment, Opening, durable_entry, later, with_written, write_to}
 use Rattle.bosh_history.specs.Notes.{Outside}
 use Rattle.bosh_history.specs.Permitted.{IsPermitted, MayWrite, can_lose, can_write, has_active}
 use Rattle.bosh_history.specs.Permitted as history
@@ -38,13 +37,14 @@ use Rattle.bosh_world.specs.Told.{story_of}
 use Rattle.bosh_world.specs.declared.fault.SiteFault.{SiteFault}
 use Rattle.bosh_world.specs.declared.fault.SiteFault.TheVariants as fault
 use Rattle.bosh_world.specs.declared.site.Site.{Site}
+use Rattle.laws_facts.specs.Owners.{works}
 use Rattle.laws_runs.proofs.ReadLemmas.{run_facts}
 use Rattle.laws_sites.proofs.CallLemmas.{calls_on}
 use Rattle.laws_sites.proofs.HaltLemmas.{lacks_good, may_pend_none, same_good}
 use Rattle.laws_sites.proofs.StepLemmas.{book_goes_on, good_on, halted_good, stopped}
 use Rattle.laws_sites.proofs.WriteLemmas.{Writes, loss_is, write_is}
 use Rattle.laws_sites.specs.Calls.{AreCalls, AreRising}
-use Rattle.laws_sites.specs.Good.{GoesOn, HasHalted, IsGood, IsRecorded, MayCome, moment_of}
+use Rattle.laws_sites.specs.Good.{GoesOn, IsGood, IsRecorded, MayCome, moment_of}
 use Rattle.laws_stands.proofs.MemberLemmas.{inst_is}
 use Rattle.laws_stands.specs.Agrees.{Agrees}
 use Rattle.laws_stands.specs.Stands.{Stands}
@@ -76,11 +76,12 @@ module _ {K L : Type 0} {k : keeper.Ghosts K} {l : keeper.Ghosts L} (outside : O
 
   changed_good : (done : Entry) (move : Move) → Changes cloud_bodies faults was done move now → IsPermitted outside m move
       → filter_map durable_entry (move ∷ []) ≡ [] → (later m move).halted ≡ m.halted
-      → is_recovering (later m move) ≡ is_recovering m → (later m move).calls ≡ m.calls
+      → is_recovering (later m move) ≡ is_recovering m → ((t : ℕ) → works (later m move) t ≡ works m t)
+      → (later m move).known.last_call ≡ m.known.last_call → (later m move).calls ≡ m.calls
       → (later m move).effects ≡ m.effects ++ done ∷ []
       → ((told : Told) → Agrees m told → TellsWell told → Agrees (later m move) told)
       → IsGood outside bodies cloud_bodies o now
-  changed_good done move changes may nothing same_halt same_recovery same_calls effects agrees =
+  changed_good done move changes may nothing same_halt same_recovery same_work same_number same_calls effects agrees =
       good_on outside bodies cloud_bodies o was now (move ∷ []) good changes.comes.story changes.same_opening (may, tt)
       ((λ i. (changes.same_book i).journal.entries) ∙ sym (append-nil was.book.journal.entries)
       ∙ ap (λ es. was.book.journal.entries ++ es) (sym nothing))
@@ -101,6 +102,8 @@ module _ {K L : Type 0} {k : keeper.Ghosts K} {l : keeper.Ghosts L} (outside : O
       goes_on : GoesOn bodies cloud_bodies m was → GoesOn bodies cloud_bodies (later m move) now
       goes_on it = record {
         recovered = same_recovery ∙ it.recovered;
+        numbers = λ t working. subst (λ (n : ℕ). n ≤ 4611686018427387904) (sym same_number)
+            (it.numbers t (sym (same_work t) ∙ working));
         effects = changes.does.notes.2 ∙ ap (λ es. es ++ done ∷ []) it.effects ∙ sym effects;
         calls = subst (λ calls. AreCalls (story_of now) now.calls.unsettled calls) (sym same_calls)
             (subst (λ (moves : List Move). AreCalls moves now.calls.unsettled m.calls) (sym changes.comes.story)
@@ -157,10 +160,11 @@ module _ {K L : Type 0} {k : keeper.Ghosts K} {l : keeper.Ghosts L} (outside : O
         by : (b : Bool) → is_among same_inst inst its_records.told.known.instances ≡ b
             → ◌≡◌ {A = Option Row} (if b then Some (its_records.told.known.row inst) else None) (Some writes.it)
             → (writes.it ≡ m.known.row inst) × (is_among same_inst inst m.known.instances ≡ true)
-        by true among is =
-            (sym (some_row (its_records.told.known.row inst) writes.it is)
-            ∙ (λ i. (its_records.agrees.known_is i).row inst),
-            (λ i. is_among same_inst inst (sym its_records.agrees.known_is i).instances) ∙ among)
+        by true among is = (
+          sym (some_row (its_records.told.known.row inst) writes.it is)
+              ∙ (λ i. (its_records.agrees.known_is i).row inst),
+          (λ i. is_among same_inst inst (sym its_records.agrees.known_is i).instances) ∙ among,
+        )
           where
             some_row : (a b : Row) → ◌≡◌ {A = Option Row} (Some a) (Some b) → a ≡ b
             some_row a b is = cc
@@ -187,7 +191,8 @@ module _ {K L : Type 0} {k : keeper.Ghosts K} {l : keeper.Ghosts L} (outside : O
         (moves.Wrote (record { inst = inst; text = text })) now → IsGood outside bodies cloud_bodies o now
     wrote_good changes =
         changed_good (entries.Write (record { disk = disk; text = text }))
-        (moves.Wrote (record { inst = inst; text = text })) changes (good.halted ∙ ran, can) refl refl refl refl is_written
+        (moves.Wrote (record { inst = inst; text = text })) changes (good.halted ∙ ran, can) refl refl refl (λ t. refl) refl
+        refl is_written
         (λ told agrees well. move_agrees outside m told (moves.Wrote (record { inst = inst; text = text })) agrees
         (run_facts outside o (story_of was) fit good.run) well (good.halted ∙ ran, can))
 
@@ -211,7 +216,8 @@ module _ {K L : Type 0} {k : keeper.Ghosts K} {l : keeper.Ghosts L} (outside : O
     pub lost_good : Changes cloud_bodies faults was (entries.Lost loss) (moves.Lost loss) now
         → IsGood outside bodies cloud_bodies o now
     lost_good changes =
-        changed_good (entries.Lost loss) (moves.Lost loss) changes (good.halted ∙ ran, can_be_lost) refl refl refl refl refl
+        changed_good (entries.Lost loss) (moves.Lost loss) changes (good.halted ∙ ran, can_be_lost) refl refl refl
+        (λ t. refl) refl refl refl
         (λ told agrees well. move_agrees outside m told (moves.Lost loss) agrees
         (run_facts outside o (story_of was) fit good.run) well (good.halted ∙ ran, can_be_lost))
 

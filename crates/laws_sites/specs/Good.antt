@@ -1,6 +1,6 @@
 -- A site whose history is permitted: it began on a pair of stores, each move was permitted, and its book, its cloud and its
 -- open calls are as that history tells.
-use Rattle.std.specs.Prelude.{◌≡◌, ◌≢◌, ℕ, Bool, true, false, List, [], ◌∷◌, ◌++◌, Option, Some, None, length, fold}
+use Rattle.std.specs.Prelude.{◌≡◌, ◌≢◌, ◌≤◌, ℕ, Bool, true, false, List, [], ◌∷◌, ◌++◌, Option, Some, length, fold}
 use Rattle.bosh_base.specs.declared.entry.Entry.{Entry}
 use Rattle.bosh_book.specs.declared.standing.Standing.TheVariants.{Unread}
 use Rattle.bosh_cloud.specs.Loading as cloud
@@ -15,6 +15,7 @@ use Rattle.bosh_ports.specs.declared.keeper.Keeper as keeper
 use Rattle.bosh_world.specs.Steps.{bodies_of}
 use Rattle.bosh_world.specs.Told.{story_of}
 use Rattle.bosh_world.specs.declared.site.Site.{Site}
+use Rattle.laws_facts.specs.Owners.{works}
 use Rattle.laws_sites.specs.Calls.{AreCalls, AreRising}
 use Rattle.laws_stands.specs.Agrees.{Agrees}
 use Rattle.laws_stands.specs.Stands.{Stands}
@@ -24,12 +25,13 @@ use Rattle.laws_stands.specs.Told.{Told}
 abbrev pub moment_of : {K L : Type 0} {k : keeper.Ghosts K} {l : keeper.Ghosts L} → Opening → Site K L k l → Moment
 moment_of o site = moment o (story_of site)
 
--- it goes on: no task is left that a stop interrupted, the cloud has what the moves tell, the open calls are those that
--- they leave, in order of number, and both stores hold theirs
+-- it goes on: no task is left that a stop interrupted, calls have numbers as long as a task works, the cloud has what the
+-- moves tell, the open calls are those that they leave, in order of number, and both stores hold theirs
 pub record GoesOn {K L : Type 0} {k : keeper.Ghosts K} {l : keeper.Ghosts L}
     (bodies : K → Option (List (List ℕ))) (cloud_bodies : L → Option (List (List ℕ))) (m : Moment) (site : Site K L k l) :
     Type 0 where
   pub recovered : is_recovering m ≡ false
+  pub numbers : (t : ℕ) → works m t ≡ true → m.known.last_call ≤ 4611686018427387904
   pub effects : site.cloud.effects ≡ m.effects
   pub calls : AreCalls (story_of site) site.calls.unsettled m.calls
   pub rising : AreRising 0 site.calls.unsettled

@@ -17,14 +17,21 @@ use bosh_world::Site;
 
 /// A good site that does not perform a call that it might perform is good: a trap stopped it, its cloud's store failed, or
 /// memory was short.
-pub fn a_good_site_that_refuses_a_call_stays_good<K: Keeper, L: Keeper>(was: &Site<K, L>, now: &Site<K, L>)
+pub fn a_good_site_that_refuses_a_call_stays_good<K: Keeper, L: Keeper>(
+    was: &Site<K, L>,
+    now: &Site<K, L>,
+)
     ensures { (outside : Outside) (o : Opening) (permit : Granted) (fault : SiteFault) → IsFit outside o
         → outside.built ≡ compiled_digest → IsGood outside K.bodies L.bodies o was.now → IsPerformable was.now permit
         → RefusesToPerform L.bodies L.faults was.now permit fault now.now → IsGood outside K.bodies L.bodies o now.now }
 {}
 
 /// .. and so it is once that call is given up.
-pub fn a_good_site_stops_in_a_call<K: Keeper, L: Keeper>(was: &Site<K, L>, mid: &Site<K, L>, now: &Site<K, L>)
+pub fn a_good_site_stops_in_a_call<K: Keeper, L: Keeper>(
+    was: &Site<K, L>,
+    mid: &Site<K, L>,
+    now: &Site<K, L>,
+)
     ensures { (outside : Outside) (o : Opening) (permit : Granted) (fault : SiteFault) → IsFit outside o
         → outside.built ≡ compiled_digest → IsGood outside K.bodies L.bodies o was.now → IsPerformable was.now permit
         → RefusesToPerform L.bodies L.faults was.now permit fault mid.now → Abandons mid.now permit now.now
