@@ -24,13 +24,15 @@ seam : {A : Type 0} (xs : List A) (y : A) → slice_get (xs ++ y ∷ []) (length
 seam [] y = refl
 seam (x ∷ xs) y = seam xs y
 
-done_on : (moves more : List Move) (place : Option ℕ) (it : Option did.Did) → HasDone moves place it → HasDone (moves ++ more) place it
+done_on : (moves more : List Move) (place : Option ℕ) (it : Option did.Did) → HasDone moves place it
+    → HasDone (moves ++ more) place it
 done_on moves more None None is = tt
 done_on moves more (Some place) (Some it) is = front moves more place (Did it) is
 done_on moves more None (Some it) is = absurd is
 done_on moves more (Some place) None is = absurd is
 
-call_on : (moves more : List Move) (it : Option site.OpenCall) (call : Option OpenCall) → IsCall moves it call → IsCall (moves ++ more) it call
+call_on : (moves more : List Move) (it : Option site.OpenCall) (call : Option OpenCall) → IsCall moves it call
+    → IsCall (moves ++ more) it call
 call_on moves more None None is = tt
 call_on moves more (Some it) (Some call) is = done_on moves more it.place call.did is
 call_on moves more None (Some call) is = absurd is
@@ -44,7 +46,8 @@ calls_on moves more unsettled calls are n = call_on moves more (find (is_of n) u
 -- ---- the list
 
 -- another call is found where it was
-found_without : (n x : ℕ) (calls : List site.OpenCall) → eqb n x ≡ false → find (is_of x) (without n calls) ≡ find (is_of x) calls
+found_without : (n x : ℕ) (calls : List site.OpenCall) → eqb n x ≡ false
+    → find (is_of x) (without n calls) ≡ find (is_of x) calls
 found_without n x [] other = refl
 found_without n x (it ∷ calls) other = by (it.n == n) (it.n == x) refl refl (found_without n x calls other)
   where
@@ -95,7 +98,8 @@ calls_begun moves unsettled calls b are x = by (eqb b.n x) refl
             absurd (let some : Some it ≡ None = (λ i. if sym here i then Some it else find (is_of n) list) ∙ none in cc)
         at_first false away none rest = rw away (rest ((λ i. if sym away i then Some it else find (is_of n) list) ∙ none))
 
-    by : (c : Bool) → eqb b.n x ≡ c → IsCall moves (find (is_of x) (with_begun b.n unsettled)) (calls_after (entries.Begin b) calls x)
+    by : (c : Bool) → eqb b.n x ≡ c
+        → IsCall moves (find (is_of x) (with_begun b.n unsettled)) (calls_after (entries.Begin b) calls x)
     by true same =
         let one : b.n ≡ x = eqb-true b.n x same in
         subst (λ (n : ℕ). IsCall moves (find (is_of n) (with_begun b.n unsettled)) (calls_after (entries.Begin b) calls n)) one
@@ -130,7 +134,8 @@ calls_performed moves unsettled calls d are x = by (eqb d.n x) refl
     after : List Move
     after = moves ++ Did d ∷ []
 
-    found : (list : List site.OpenCall) → eqb d.n x ≡ false → find (is_of x) (with_performed d.n (length moves) list) ≡ find (is_of x) list
+    found : (list : List site.OpenCall) → eqb d.n x ≡ false
+        → find (is_of x) (with_performed d.n (length moves) list) ≡ find (is_of x) list
     found [] other = refl
     found (it ∷ list) other = first (it.n == d.n) (it.n == x) refl refl (found list other)
       where
@@ -143,13 +148,15 @@ calls_performed moves unsettled calls d are x = by (eqb d.n x) refl
         first false true another here rest = rw another (rw here refl)
         first false false another there rest = rw another (rw there rest)
 
-    done : (n : ℕ) (list : List site.OpenCall) (call : Option OpenCall) → n ≡ d.n → IsCall moves (find (is_of n) list) call
+    done : (n : ℕ) (list : List site.OpenCall) (call : Option OpenCall) → n ≡ d.n
+        → IsCall moves (find (is_of n) list) call
         → IsCall after (find (is_of n) (with_performed d.n (length moves) list)) (performed_call d call)
     done n [] None one is = tt
     done n [] (Some call) one is = absurd is
     done n (it ∷ list) call one is = first (it.n == n) refl is (done n list call one)
       where
-        told : (c : Option OpenCall) → IsCall moves (Some it) c → IsCall after (Some (record it { place = Some (length moves) })) (performed_call d c)
+        told : (c : Option OpenCall) → IsCall moves (Some it) c
+            → IsCall after (Some (record it { place = Some (length moves) })) (performed_call d c)
         told (Some c) is = seam moves (Did d)
         told None is = absurd is
 
@@ -190,7 +197,8 @@ performable_is moves unsettled calls n are free = by (find (is_of n) unsettled) 
     by (Some it) None is at free = absurd at
     by (Some it) (Some call) is at free = (call, is, none it.place call.did at free)
       where
-        none : (place : Option ℕ) (it : Option did.Did) → HasDone moves place it → not (is_some place) ≡ true → it ≡ None
+        none : (place : Option ℕ) (it : Option did.Did) → HasDone moves place it → not (is_some place) ≡ true
+            → it ≡ None
         none None None at free = refl
         none None (Some d) at free = absurd at
         none (Some place) it at free = absurd (false≢true free)

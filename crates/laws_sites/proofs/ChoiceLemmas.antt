@@ -59,7 +59,8 @@ over_is records worker work end is = by work.failed is
     done_over None is = refl
     done_over (Some phase) is = absurd (let no = is in cc)
 
-    by : (failed : Option TaskEnd) → end_by records failed work ≡ Some end → of_open records work worker failed ≡ choices.Over
+    by : (failed : Option TaskEnd) → end_by records failed work ≡ Some end
+        → of_open records work worker failed ≡ choices.Over
     by (Some failed) is = failed_over (work.open == 0) failed is
     by None is = done_over (present records work) is
 
@@ -153,7 +154,8 @@ module _ {K L : Type 0} {k : keeper.Ghosts K} {l : keeper.Ghosts L} (outside : O
               → is_some (recorded.told.known.begun (number_of failure)) ≡ true
           begun = recorded.stands.tells_well.failed t
 
-          called : (failure : Failure) → (recorded.told.known.task t).failed ≡ Some failure → failure ≢ failures.Interrupted
+          called : (failure : Failure) → (recorded.told.known.task t).failed ≡ Some failure
+              → failure ≢ failures.Interrupted
           called failure failed same = (told_well o (story_of site) t).failures_are_calls
               ((λ i. ((sym known i).task t).failed) ∙ failed ∙ ap (λ (f : Failure). Some f) same)
 

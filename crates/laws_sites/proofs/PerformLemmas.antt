@@ -43,7 +43,8 @@ step_under (Some Late) effects call = inr (refl, λ takes. takes)
 step_under (Some Lose) effects call = inr (refl, λ takes. absurd (let no : false ≡ true = takes in cc))
 
 pub may_perform : (outside : Outside) → outside.built ≡ compiled_digest → (fate : Option Fate) (effects : List Entry)
-    (n : ℕ) (c : Call) (calls : Option OpenCall) (call : OpenCall) → calls ≡ Some call → call.did ≡ None → call.begin.call ≡ c
+    (n : ℕ) (c : Call) (calls : Option OpenCall) (call : OpenCall) → calls ≡ Some call → call.did ≡ None
+    → call.begin.call ≡ c
     → PerformsOpen outside effects
     (record { n = n; effect = has_effect fate effects c; answer = answer_under fate effects c }) calls
 may_perform outside built fate effects n c calls call is none same =
@@ -89,7 +90,8 @@ dep_is told records (Disk d) dep stands is =
 -- ---- the effect
 
 -- what the site adds to what was done is what the move tells
-pub effects_are : (m : Moment) (has : Bool) (permit : Granted) (call : OpenCall) (calls : Option OpenCall) → calls ≡ Some call
+pub effects_are : (m : Moment) (has : Bool) (permit : Granted) (call : OpenCall) (calls : Option OpenCall)
+    → calls ≡ Some call
     → current.IsFor call.begin permit → dep_of m.known call.begin.owner ≡ permit.dep
     → effects_if has (world.effect_of permit) ≡ call_effects m has calls
 effects_are m has permit call calls is for of_dep = by has ∙ ap (call_effects m has) (sym is)

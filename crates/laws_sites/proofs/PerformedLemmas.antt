@@ -100,7 +100,8 @@ module _ {K L : Type 0} {k : keeper.Ghosts K} {l : keeper.Ghosts L} (outside : O
       (run_on outside o (story_of was) (Did d ∷ []) good.run (may, tt))
 
   entries : durable o (story_of now) ≡ now.book.journal.entries
-  entries = ap (durable o) story ∙ durable_on o (story_of was) (Did d ∷ []) ∙ append-nil (durable o (story_of was)) ∙ good.entries
+  entries = ap (durable o) story ∙ durable_on o (story_of was) (Did d ∷ []) ∙ append-nil (durable o (story_of was))
+      ∙ good.entries
       ∙ (λ i. (sym performs.same_book i).journal.entries)
 
   told_so : IsRecorded (performing m d) now

@@ -164,7 +164,8 @@ module _ {K L : Type 0} {k : keeper.Ghosts K} {l : keeper.Ghosts L} (outside : O
   book_same why none = absurd none
 
   -- .. and the call is given up
-  pub abandoned_good : (why : SiteFault) (last : Site K L k l) → world.RefusesToPerform cloud_bodies faults was permit why now
+  pub abandoned_good : (why : SiteFault) (last : Site K L k l)
+      → world.RefusesToPerform cloud_bodies faults was permit why now
       → Abandons now permit last → IsGood outside bodies cloud_bodies o last
   abandoned_good why last refuses abandons =
       gives_up_good outside bodies cloud_bodies o now last fit (refused_good why refuses) still.0

@@ -65,7 +65,8 @@ pub take_stopped : (outside : Outside) (m : Moment) (last : ℕ) (took : List �
 take_stopped outside m last [] may = tt
 take_stopped outside m last (n ∷ took) may = (may.0, take_stopped outside (taking m n) n took may.1)
 
-pub effects_stopped : (m : Moment) (took : List ℕ) → (fold taking (stopped m) took).effects ≡ (fold taking m took).effects
+pub effects_stopped : (m : Moment) (took : List ℕ)
+    → (fold taking (stopped m) took).effects ≡ (fold taking m took).effects
 effects_stopped m [] = refl
 effects_stopped m (n ∷ took) = effects_stopped (taking m n) took
 
@@ -93,7 +94,8 @@ pub record HasTaken {L : Type 0} (outside : Outside) (m : Moment) (last : ℕ) (
   pub effects : now.effects ≡ (fold taking m took).effects
   pub more : MayTakeMore outside m last took now.is_stale now.pending
 
-none_more : (outside : Outside) (m : Moment) (last : ℕ) (took : List ℕ) (b : Bool) (pending : Option (List ℕ)) → b ≡ false
+none_more : (outside : Outside) (m : Moment) (last : ℕ) (took : List ℕ) (b : Bool) (pending : Option (List ℕ))
+    → b ≡ false
     → MayTakeMore outside m last took b pending
 none_more outside m last took false pending is = tt
 none_more outside m last took true pending is = absurd (true≢false is)
@@ -131,7 +133,8 @@ taken_then {L} outside m last n now first has = record {
 
 -- ---- each call that is open
 
-past : (it : site.OpenCall) (rest : List site.OpenCall) (x : ℕ) → it.n < x → find (is_of x) (it ∷ rest) ≡ find (is_of x) rest
+past : (it : site.OpenCall) (rest : List site.OpenCall) (x : ℕ) → it.n < x
+    → find (is_of x) (it ∷ rest) ≡ find (is_of x) rest
 past it rest x less = rw (ne_eqb it.n x (apart it.n x less)) refl
 
 here : (it : site.OpenCall) (rest : List site.OpenCall) → find (is_of it.n) (it ∷ rest) ≡ Some it

@@ -48,7 +48,8 @@ record Told {A : Type 0} (row : ℕ → A) (xs : List ℕ) (it : A) : Type 0 whe
   is_told : row number ≡ it
   is_in : IsIn number xs
 
-told_at : {A : Type 0} (row : ℕ → A) (xs : List ℕ) (n : ℕ) (it : A) → slice_get (map row xs) n ≡ Some it → Told row xs it
+told_at : {A : Type 0} (row : ℕ → A) (xs : List ℕ) (n : ℕ) (it : A) → slice_get (map row xs) n ≡ Some it
+    → Told row xs it
 told_at row [] n it is = absurd (let no : None ≡ Some it = is in cc)
 told_at row (x ∷ xs) zero it is = record { number = x; is_told = some_is (row x) it is; is_in = in_head x xs }
 told_at row (x ∷ xs) (suc n) it is = more (told_at row xs n it is)
@@ -62,7 +63,8 @@ told_first row test [] it is = absurd (let no : None ≡ Some it = is in cc)
 told_first row test (x ∷ xs) it is = by (test (row x)) refl is (told_first row test xs it)
   where
     by : (b : Bool) → test (row x) ≡ b → (if b then Some (row x) else find test (map row xs)) ≡ Some it
-        → (find test (map row xs) ≡ Some it → Told row xs it × (test it ≡ true)) → Told row (x ∷ xs) it × (test it ≡ true)
+        → (find test (map row xs) ≡ Some it → Told row xs it × (test it ≡ true))
+        → Told row (x ∷ xs) it × (test it ≡ true)
     by true hit is more = (
       record { number = x; is_told = some_is (row x) it is; is_in = in_head x xs },
       sym (ap test (some_is (row x) it is)) ∙ hit,

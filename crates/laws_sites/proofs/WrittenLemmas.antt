@@ -74,7 +74,8 @@ module _ {K L : Type 0} {k : keeper.Ghosts K} {l : keeper.Ghosts L} (outside : O
 
   -- ---- the cloud changes as a move tells that is permitted
 
-  changed_good : (done : Entry) (move : Move) → Changes cloud_bodies faults was done move now → IsPermitted outside m move
+  changed_good : (done : Entry) (move : Move) → Changes cloud_bodies faults was done move now
+      → IsPermitted outside m move
       → filter_map durable_entry (move ∷ []) ≡ [] → (later m move).halted ≡ m.halted
       → is_recovering (later m move) ≡ is_recovering m → ((t : ℕ) → works (later m move) t ≡ works m t)
       → (later m move).known.last_call ≡ m.known.last_call → (later m move).calls ≡ m.calls
@@ -118,7 +119,8 @@ module _ {K L : Type 0} {k : keeper.Ghosts K} {l : keeper.Ghosts L} (outside : O
   -- ---- the cloud's store fails in what may be written
 
   failed_good : (done : Entry) → FailsInJob cloud_bodies faults was done now → MayWrite (stopped m) (Some done)
-      → (with_written (stopped m) (Some done)).effects ≡ m.effects ++ done ∷ [] → IsGood outside bodies cloud_bodies o now
+      → (with_written (stopped m) (Some done)).effects ≡ m.effects ++ done ∷ []
+      → IsGood outside bodies cloud_bodies o now
   failed_good done failed may effects =
       halted_good outside bodies cloud_bodies o was now causes.CloudStore fit good failed.halts.ran failed.halts.halted
       failed.halts.comes.story failed.halts.same_opening (λ i. (failed.halts.same_book i).journal.entries)

@@ -14,7 +14,8 @@ ghost use Rattle.laws_sites.specs.Calls.{AreCalls};
 /// They stay those of the moment as one begins, is performed, and ends.
 pub fn open_calls_are_those_of_the_moment()
     ensures begun { (moves : List Move) (unsettled : List site.OpenCall) (calls : ℕ → Option OpenCall) (b : Begin)
-        → AreCalls moves unsettled calls → AreCalls moves (with_begun b.n unsettled) (calls_after (entries.Begin b) calls) }
+        → AreCalls moves unsettled calls
+        → AreCalls moves (with_begun b.n unsettled) (calls_after (entries.Begin b) calls) }
     ensures performed { (moves : List Move) (unsettled : List site.OpenCall) (calls : ℕ → Option OpenCall) (d : did.Did)
         → AreCalls moves unsettled calls
         → AreCalls (moves ++ Did d ∷ []) (with_performed d.n (length moves) unsettled)
