@@ -1,0 +1,12 @@
+pub mod CallLemmas
+pub mod ChoiceLemmas
+pub mod HaltLemmas
+pub mod HeldLemmas
+pub mod MomentLemmas
+pub mod PerformLemmas
+pub mod PerformedLemmas
+pub mod RefusedLemmas
+pub mod StepLemmas
+pub mod StopLemmas
+pub mod WriteLemmas
+pub mod WrittenLemmas

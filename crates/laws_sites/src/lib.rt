@@ -1,0 +1,20 @@
+//! What a site did is permitted, step by step: its history goes on to be one that is permitted, and its book, its cloud and
+//! its open calls go on to be as that history tells.
+#![tactic(auto)]
+
+mod calls;
+mod choices;
+mod jobs;
+mod performed;
+mod refused;
+mod settled;
+
+pub use calls::open_calls_are_those_of_the_moment;
+pub use choices::{a_task_may_end_as_it_comes_to_its_end, what_a_good_site_chooses_is_lawful};
+pub use jobs::{a_good_site_loses_what_may_be_lost, a_good_site_writes_what_a_job_may};
+pub use performed::a_good_site_performs_what_it_may;
+pub use refused::{
+    a_good_site_gives_up_a_call, a_good_site_stops_in_a_call,
+    a_good_site_that_refuses_a_call_stays_good,
+};
+pub use settled::a_call_that_is_held_may_end;
