@@ -1,0 +1,6 @@
+pub mod KeyBuiltLemmas
+pub mod LineOnceLemmas
+pub mod SlotClosedLemmas
+pub mod SlotTableLemmas
+pub mod SlotToldLemmas
+pub mod SweptLemmas
