@@ -7,7 +7,7 @@ use Rattle.std.specs.BTreeMap.{is_at}
 use Rattle.std.specs.Option.{option_and_then, option_map, option_map_or}
 use Rattle.std.specs.Cmp.Lexicographic.{slice_cmp}
 use Rattle.std.specs.Ordering.{is_eq, nat_cmp, ordering_then}
-use Rattle.std.proofs.lemmas.Bool.{false≢true, true≢false}
+use Rattle.std.proofs.lemmas.Bool.{false≢true}
 use Rattle.std.proofs.lemmas.Bool.Decides.{nat_tests}
 use Rattle.std.proofs.lemmas.Map.Text.{is_eq-slice_cmp}
 use Rattle.bosh_base.specs.ExactParts.{Decides-key}
@@ -19,13 +19,12 @@ use Rattle.bosh_base.specs.declared.key.KeyWork.{KeyWork}
 use Rattle.bosh_compile.proofs.KeyLemmas.{same_key_decides}
 use Rattle.bosh_compile.specs.Readiness.{same_key}
 use Rattle.bosh_fold.specs.Calls.{built_in}
-use Rattle.bosh_history.specs.Known.{Known, Task}
+use Rattle.bosh_history.specs.Known.{Known}
 use Rattle.bosh_history.specs.Slots.{is_compiled}
-use Rattle.bosh_history.specs.Words.{at}
 use Rattle.bosh_progress.specs.Tree.{first_marked}
 use Rattle.bosh_records.specs.Keys.{built_as, key_cmp}
 use Rattle.bosh_records.specs.Recorded.{Recorded}
-use Rattle.bosh_records.specs.Table.{altered, each_thing, found}
+use Rattle.bosh_records.specs.Table.{altered, each_thing}
 use Rattle.bosh_records.specs.declared.keys.KeyState.{KeyState}
 use Rattle.bosh_work.specs.Finished.{key_place, without_key}
 use Rattle.bosh_work.specs.Line.{finished_line}

@@ -1,6 +1,6 @@
 -- A line stands on where somebody works on one of its items, nobody does any more, or it is finished, for an item that is
 -- listed once.
-use Rattle.std.proofs.Common.{◌≡◌, ◌∙◌, ℕ, ◌+◌, ◌≤◌, suc, Bool, true, false, not, ◌&&◌, List, [], ◌∷◌, map, Option, Some, None, ap}
+use Rattle.std.proofs.Common.{◌≡◌, ◌∙◌, ℕ, suc, Bool, true, false, not, ◌&&◌, List, [], ◌∷◌, map, Option, Some, None, ap}
 use Rattle.std.proofs.Common.{refl, sym}
 use Rattle.std.specs.Prelude.{slice_get, slice_index_or, slice_set, if◌then◌else◌}
 use Rattle.std.proofs.lemmas.Bool.{not-true}

@@ -5,7 +5,7 @@ use Rattle.std.specs.Prelude.{◌-◌, count_by, eqb, is_some, nat_le, slice_get
 use Rattle.std.specs.List.{list_any}
 use Rattle.std.specs.Option.{option_and_then, option_map, option_map_or}
 use Rattle.std.specs.Ordering.{nat_cmp}
-use Rattle.std.proofs.lemmas.Bool.{eq-eqb, eqb-true, false≢true, true≢false}
+use Rattle.std.proofs.lemmas.Bool.{eq-eqb, eqb-true, true≢false}
 use Rattle.bosh_base.specs.Cloud.{numbers_to}
 use Rattle.bosh_base.specs.declared.answer.Answer.{Answer}
 use Rattle.bosh_base.specs.declared.call.Call.{Call}
@@ -19,10 +19,10 @@ use Rattle.bosh_fold.specs.Calls.{closed_call, failed_in, given_by, pinged_by, w
 use Rattle.bosh_history.specs.Calls as known_calls
 use Rattle.bosh_history.specs.Calls.{least_failure}
 use Rattle.bosh_history.specs.Items.{is_in_deployment}
-use Rattle.bosh_history.specs.Known.{Known, Slot, SlotName, Task}
+use Rattle.bosh_history.specs.Known.{Known, SlotName, Task}
 use Rattle.bosh_history.specs.Slots.{keys_of}
 use Rattle.bosh_history.specs.Steps.{compiles}
-use Rattle.bosh_history.specs.Words.{at, holds, is_among}
+use Rattle.bosh_history.specs.Words.{at, holds}
 use Rattle.bosh_plan.specs.Ended as planned
 use Rattle.bosh_plan.specs.Ended.{is_told}
 use Rattle.bosh_progress.specs.Tree.{first_marked}
@@ -48,7 +48,7 @@ use Rattle.laws_stands.specs.LineStands.{LineStands, place_of}
 use Rattle.laws_stands.specs.Linked.{IsLinked, same_machine}
 use Rattle.laws_stands.specs.Once.{IsOnce}
 use Rattle.laws_stands.specs.Reading.{dep_of, is_compiling, machine_of, work_of}
-use Rattle.laws_stands.specs.Stands.{AreSwept, IsWork, Stands, StandsIn, call_of, key_of_slot, row_of_slot}
+use Rattle.laws_stands.specs.Stands.{AreSwept, IsWork, StandsIn, call_of, key_of_slot, row_of_slot}
 use Rattle.laws_stands.specs.Told.{TellsWell, Told, idle_in, is_going, is_idle}
 use Rattle.laws_stands.specs.WorkStands.{StandsFor, is_task_call}
 use Rattle.laws_stands_on.proofs.AnsweredLemmas.{ended_work, ends_same, pinged_as, takes_ping}

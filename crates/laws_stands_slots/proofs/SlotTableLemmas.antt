@@ -1,6 +1,6 @@
 -- What is known of compile machines once something is told of one, and what is recorded of them.
-use Rattle.std.proofs.Common.{◌≡◌, ◌∙◌, ℕ, Bool, true, false, ◌&&◌, List, Option, Some, None, ap, refl, sym}
-use Rattle.std.specs.Prelude.{◌==◌, eqb, if◌then◌else◌}
+use Rattle.std.proofs.Common.{◌≡◌, ◌∙◌, ℕ, Bool, true, false, ◌&&◌, List, Option, ap, refl}
+use Rattle.std.specs.Prelude.{eqb, if◌then◌else◌}
 use Rattle.std.specs.BTreeMap.{is_at}
 use Rattle.std.specs.Option.{option_map}
 use Rattle.std.specs.Ordering.{nat_cmp}

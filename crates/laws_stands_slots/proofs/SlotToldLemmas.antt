@@ -1,7 +1,7 @@
 -- Something is told of a compile machine that stays.
 use Rattle.std.proofs.Common.{◌≡◌, ◌∙◌, ℕ, Bool, true, false, ◌&&◌, not, List, ◌==◌, filter, map}
 use Rattle.std.proofs.Common.{Option, Some, None, ap, refl, sym, subst}
-use Rattle.std.specs.Prelude.{eqb, is_some, if◌then◌else◌}
+use Rattle.std.specs.Prelude.{is_some, if◌then◌else◌}
 use Rattle.std.specs.List.{list_any}
 use Rattle.std.specs.Option.{option_and_then, option_eq, option_map, option_or}
 use Rattle.std.specs.Str.{bytes_eq}
@@ -12,7 +12,7 @@ use Rattle.bosh_base.specs.declared.row.Vm.{Vm}
 use Rattle.bosh_base.specs.declared.snapshot.CompileRow.{CompileRow}
 use Rattle.bosh_fold.specs.Calls.{machine_name, machine_told, with_doubt}
 use Rattle.bosh_history.specs.Items.{is_leftover}
-use Rattle.bosh_history.specs.Known.{Known, Slot, SlotName, Task}
+use Rattle.bosh_history.specs.Known.{Known, Slot, SlotName}
 use Rattle.bosh_history.specs.Slots.{works_for}
 use Rattle.bosh_history.specs.Words.{holds}
 use Rattle.bosh_plan.specs.declared.ending.Told.TheVariants.{There}
@@ -25,9 +25,8 @@ use Rattle.bosh_work.specs.declared.work.Work.{Work}
 use Rattle.laws_stands.specs.Linked.{IsLinked, same_machine}
 use Rattle.laws_stands.specs.LineStands.{place_of}
 use Rattle.laws_stands.specs.Reading.{dep_of, machine_of, work_of}
-use Rattle.laws_stands.specs.Stands.{AreSwept, IsWork, StandsIn, call_of, key_of_slot, key_place, row_of_slot}
-use Rattle.laws_stands.specs.Told.{TellsWell, Told, is_going}
-use Rattle.laws_stands.specs.WorkStands.{StandsFor}
+use Rattle.laws_stands.specs.Stands.{AreSwept, IsWork, StandsIn, key_of_slot, key_place, row_of_slot}
+use Rattle.laws_stands.specs.Told.{TellsWell, Told}
 use Rattle.laws_stands_on.proofs.ChangedLemmas.{some_mapped}
 use Rattle.laws_stands_on.proofs.LinkLemmas.{WasWork, links_go_on}
 use Rattle.laws_stands_on.proofs.ListedLemmas.{SameListed, listed_goes_on}

@@ -12,7 +12,6 @@ use Rattle.bosh_work.specs.declared.part.MachineName.{MachineName}
 use Rattle.laws_stands.specs.Linked.{same_machine}
 use Rattle.laws_stands.specs.Stands.{AreSwept}
 use Rattle.laws_stands_slots.proofs.LineOnceLemmas.{is_once}
-use Rattle.laws_stands_slots.specs.Slots.{named}
 
 -- ---- how many pass a test
 
