@@ -125,7 +125,8 @@ module _ (told : Told) (it : Recorded) (vm : ℕ) (work : KeyWork) (deps : List 
       ∙ (λ j. if key_at work.key key j then option_map (built_as work digest) (state_of it key) else state_of it key)
 
   digests : (key : Key) → digest_of now key ≡ new.known.digest key
-  digests key = ap (option_and_then (λ (state : KeyState). state.digest)) (state_is key) ∙ by (same_key work.key key) refl
+  digests key = ap (option_and_then (λ (state : KeyState). state.digest)) (state_is key)
+      ∙ by (same_key work.key key) refl
     where
       own : (o : Option KeyState) → is_some o ≡ true
           → option_and_then (λ (state : KeyState). state.digest) (option_map (built_as work digest) o) ≡ Some digest

@@ -1,3 +1,4 @@
+pub mod CompilationEndedLemmas
 pub mod KeyBuiltLemmas
 pub mod LineOnceLemmas
 pub mod SlotClosedLemmas

@@ -1,6 +1,7 @@
--- A line stands on where somebody works on one of its items, nobody does any more, or it is finished, for an item that is
--- listed once.
-use Rattle.std.proofs.Common.{◌≡◌, ◌∙◌, ℕ, suc, Bool, true, false, not, ◌&&◌, List, [], ◌∷◌, map, Option, Some, None, ap}
+-- A line stands on where somebody works on one of its items, nobody does any more, or it is finished, for an item that
+-- is listed once.
+use Rattle.std.proofs.Common.{◌≡◌, ◌∙◌, ℕ, suc, Bool, true, false, not, ◌&&◌, List, [], ◌∷◌, map, ap}
+use Rattle.std.proofs.Common.{None, Option, Some}
 use Rattle.std.proofs.Common.{refl, sym}
 use Rattle.std.specs.Prelude.{slice_get, slice_index_or, slice_set, if◌then◌else◌}
 use Rattle.std.proofs.lemmas.Bool.{not-true}
@@ -34,7 +35,8 @@ marks_of_one same x (y ∷ xs) once b f = by (same x y) once (λ once. marks_of_
     by false once more = ap (λ rest. f y ∷ rest) (more once) ∙ later (place_of same x xs)
 
 module _ {T : Type 0} (same : T → T → Bool) (decides : (a b : T) → same a b ≡ true → a ≡ b) (items : List T)
-    (x : T) (one : (b : Bool) (f : T → Bool) → map (at same x b f) items ≡ set_at (place_of same x items) b (map f items))
+    (x : T)
+    (one : (b : Bool) (f : T → Bool) → map (at same x b f) items ≡ set_at (place_of same x items) b (map f items))
     where
   -- somebody works on an item
   pub stands_taken : (left idle left' idle' : T → Bool) (line : Line T)

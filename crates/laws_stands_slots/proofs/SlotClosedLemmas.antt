@@ -85,11 +85,13 @@ compiling_with call calling it = refl
 
 pub keys_with_found : (call : Call) (calling : Option ℕ) (keys : List (Key × KeyState)) (key : Key)
     → found key_cmp (keys_with call calling keys) key
-    ≡ (if compiles key call then option_map (λ (state : KeyState). record state { call = calling }) (found key_cmp keys key)
+    ≡ (if compiles key call
+    then option_map (λ (state : KeyState). record state { call = calling }) (found key_cmp keys key)
     else found key_cmp keys key)
 keys_with_found (CompilePackage vm work deps) calling keys key =
     found_altered key_cmp key_keys work.key (λ (state : KeyState). record state { call = calling }) keys key
-    ∙ (λ j. if key_at work.key key j then option_map (λ (state : KeyState). record state { call = calling }) (found key_cmp keys key)
+    ∙ (λ j. if key_at work.key key j
+    then option_map (λ (state : KeyState). record state { call = calling }) (found key_cmp keys key)
     else found key_cmp keys key)
 keys_with_found call calling keys key = refl
 
@@ -146,10 +148,10 @@ module _ (told : Told) (was : Records) (it : Recorded) (n number worker : ℕ) (
   abbrev asked : Bool
   asked = takes_ping call (is_told answer)
 
-  abbrev ended : Recorded
+  abbrev pub ended : Recorded
   ended = record closed { works = ended_works n asked places fail it.works }
 
-  ended_is : failed_in n fail (pinged_by (is_told answer) b (given_by n (Compile t s)
+  pub ended_is : failed_in n fail (pinged_by (is_told answer) b (given_by n (Compile t s)
       (closed_call b (record it { calls = without nat_cmp number it.calls })))) ≡ ended
   ended_is =
       (λ j. failed_in n fail (pinged_by (is_told answer) b (given_by n (Compile t s)
@@ -200,7 +202,8 @@ module _ (told : Told) (was : Records) (it : Recorded) (n number worker : ℕ) (
           ∙ sym (own_call told it b answer (k.task n).pinged only stands (λ j. eq-eqb t t refl j && eq-eqb s s refl j))
           ∙ ap (λ (x : MachineName). call_of new (Compile x.task x.slot)) (same_machine_is name x is)
       by false other = stands.machine_calls x
-          ∙ sym (other_calls told it b answer (k.task n).pinged only stands (Compile x.task x.slot) (own_flip x ∙ other))
+          ∙ sym (other_calls told it b answer (k.task n).pinged only stands (Compile x.task x.slot)
+          (own_flip x ∙ other))
 
   -- ---- keys
 
@@ -460,7 +463,7 @@ module _ (told : Told) (was : Records) (it : Recorded) (n number worker : ℕ) (
 
   -- ---- all
 
-  ended_stands : StandsIn new ended
+  pub ended_stands : StandsIn new ended
   ended_stands = record {
     uploads = stands.uploads;
     deployments = stands.deployments;

@@ -84,7 +84,8 @@ module _ (told : Told) (it : Recorded) (t s : ℕ) (f : Slot → Slot) (g : Comp
   machines x =
       ap (option_map (λ machine. machine.row)) (machine_is x)
       ∙ by (same_machine name x) refl
-      ∙ ap (option_map (row_of_slot x.task x.slot)) (sym (with_slot_is t s (option_map f (k.slot t s)) k.slot x.task x.slot))
+      ∙ ap (option_map (row_of_slot x.task x.slot))
+      (sym (with_slot_is t s (option_map f (k.slot t s)) k.slot x.task x.slot))
     where
       mapped : (o : Option Machine) (slot : Option Slot)
           → option_map (λ (machine : Machine). machine.row) o ≡ option_map (row_of_slot t s) slot
@@ -98,12 +99,14 @@ module _ (told : Told) (it : Recorded) (t s : ℕ) (f : Slot → Slot) (g : Comp
 
       own : name ≡ x → option_map (λ (machine : Machine). machine.row) (option_map said (machine_of it x))
           ≡ option_map (row_of_slot x.task x.slot) (option_map f (k.slot t s))
-      own is = subst (λ (x : MachineName). option_map (λ (machine : Machine). machine.row) (option_map said (machine_of it x))
+      own is = subst (λ (x : MachineName).
+          option_map (λ (machine : Machine). machine.row) (option_map said (machine_of it x))
           ≡ option_map (row_of_slot x.task x.slot) (option_map f (k.slot t s))) is
           (mapped (machine_of it name) (k.slot t s) (stands.machines name))
 
       by : (b : Bool) → same_machine name x ≡ b
-          → option_map (λ (machine : Machine). machine.row) (if b then option_map said (machine_of it x) else machine_of it x)
+          → option_map (λ (machine : Machine). machine.row)
+          (if b then option_map said (machine_of it x) else machine_of it x)
           ≡ option_map (row_of_slot x.task x.slot)
           (if b then option_map f (k.slot t s) else k.slot x.task x.slot)
       by true is = own (same_machine_is name x is)

@@ -1,5 +1,6 @@
 -- A compile machine that is listed once is among those that a task sweeps at most once.
-use Rattle.std.proofs.Common.{◌≡◌, ◌∙◌, ◌≤◌, ◌+◌, ℕ, Bool, true, false, ◌||◌, not, List, [], ◌∷◌, filter, map, ap, arith, refl, sym}
+use Rattle.std.proofs.Common.{◌≡◌, ◌∙◌, ◌≤◌, ◌+◌, ℕ, Bool, true, false, ◌||◌, not, List, [], ◌∷◌}
+use Rattle.std.proofs.Common.{ap, arith, filter, map, refl, sym}
 use Rattle.std.proofs.lemmas.Bool.{and_parts, eqb-true, false≢true, true≢false}
 use Rattle.std.proofs.lemmas.List.Sums.{sum_by-cons}
 use Rattle.std.specs.Prelude.{cond, count_by, eqb, is_some, if◌then◌else◌}
@@ -98,7 +99,8 @@ module _ (k : Known) (u : ℕ) (swept : List MachineName) (are : AreSwept k u sw
   is_there x same =
       let both : (eqb name.task x.task ≡ true) × (eqb name.slot x.slot ≡ true) =
       and_parts (eqb name.task x.task) (eqb name.slot x.slot) same in
-      (λ j. is_some (k.slot (sym (eqb-true name.task x.task both.0) j) (sym (eqb-true name.slot x.slot both.1) j))) ∙ there
+      (λ j. is_some (k.slot (sym (eqb-true name.task x.task both.0) j) (sym (eqb-true name.slot x.slot both.1) j)))
+      ∙ there
 
   counted : count_by (same_machine name) swept
       ≡ count_by (same_slot (slot_of name)) (filter (is_leftover k u) k.machines)
