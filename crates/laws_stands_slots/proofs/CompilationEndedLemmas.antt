@@ -1,5 +1,5 @@
 -- A compilation ends.
-use Rattle.std.proofs.Common.{◌≡◌, ◌∙◌, ◌+◌, ◌≤◌, ℕ, Bool, true, false, ◌||◌, zero, suc, [], ◌∷◌, List, Option, Some, None, ap}
+use Rattle.std.proofs.Common.{◌≡◌, ◌∙◌, ◌≤◌, ℕ, Bool, true, false, ◌||◌, zero, suc, [], ◌∷◌, List, Option, Some, None, ap}
 use Rattle.std.proofs.Common.{arith, refl, subst, sym}
 use Rattle.std.specs.Prelude.{eqb, is_some, if◌then◌else◌}
 use Rattle.std.specs.List.{list_any}
@@ -17,7 +17,6 @@ use Rattle.bosh_base.specs.declared.digest.Digest.{Digest}
 use Rattle.bosh_base.specs.declared.entry.Begin.{Begin}
 use Rattle.bosh_base.specs.declared.entry.End.{End}
 use Rattle.bosh_base.specs.declared.entry.Entry.TheVariants as entries
-use Rattle.bosh_base.specs.declared.key.Key.{Key}
 use Rattle.bosh_base.specs.declared.key.KeyWork.{KeyWork}
 use Rattle.bosh_base.specs.declared.owner.Owner.TheVariants.{Compile}
 use Rattle.bosh_compile.proofs.KeyLemmas.{same_key_decides}
@@ -33,7 +32,6 @@ use Rattle.bosh_plan.specs.Ended as planned
 use Rattle.bosh_plan.specs.Ended.{ended_of, is_told}
 use Rattle.bosh_plan.specs.declared.ending.After.TheVariants as afters
 use Rattle.bosh_plan.specs.declared.ending.Ended.{Ended}
-use Rattle.bosh_plan.specs.declared.ending.Told.TheVariants.{Nothing}
 use Rattle.bosh_records.specs.Keys.{key_cmp}
 use Rattle.bosh_records.specs.Recorded.{Recorded}
 use Rattle.bosh_records.specs.Table.{found, without}
@@ -42,13 +40,13 @@ use Rattle.bosh_records.specs.declared.records.Records.{Records}
 use Rattle.bosh_rows.specs.SoundSnapshot.{are_distinct}
 use Rattle.laws_stands.specs.Reading.{state_of}
 use Rattle.laws_stands.specs.Stands.{Stands, StandsIn}
-use Rattle.laws_stands.specs.Told.{Told, is_going, telling}
+use Rattle.laws_stands.specs.Told.{Told, telling}
 use Rattle.laws_stands.specs.WorkStands.{keys_in}
 use Rattle.laws_stands_on.proofs.OnlyCallLemmas.{going_same, has_begun, task_same}
 use Rattle.laws_stands_slots.proofs.KeyBuiltLemmas.{key_built}
 use Rattle.laws_stands_slots.proofs.SlotClosedLemmas.{ended, ended_is, ended_stands, keys_with_found}
 use Rattle.laws_stands_slots.proofs.SlotTableLemmas.{slot_same}
-use Rattle.laws_stands_slots.specs.Slots.{AllowsSlot, AreKeysApart, told_closed, with_slot}
+use Rattle.laws_stands_slots.specs.Slots.{AllowsSlot, AreKeysApart, told_closed}
 
 -- what holds of a number holds of one
 any_numbered : (p : ℕ → Bool) (n c : ℕ) → 1 ≤ c → c ≤ n → list_any p (numbers_to n) ≡ false → p c ≡ false
