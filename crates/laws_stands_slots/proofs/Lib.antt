@@ -1,0 +1,7 @@
+pub mod CompilationEndedLemmas
+pub mod KeyBuiltLemmas
+pub mod LineOnceLemmas
+pub mod SlotClosedLemmas
+pub mod SlotTableLemmas
+pub mod SlotToldLemmas
+pub mod SweptLemmas
