@@ -9,10 +9,10 @@ abbrev pub FitsBuffer : Taken → List ℕ → Type 0
 FitsBuffer (Bytes n) buffer = (1 ≤ n) × (n ≤ length buffer)
 FitsBuffer answer buffer = Unit {0}
 
--- a call fails only where the count of faults rose
+-- a call fails exactly where the count of faults rises
 abbrev pub FailsByCount : Taken → ℕ → ℕ → Type 0
 FailsByCount Failed before after = Rose before after
-FailsByCount answer before after = Unit {0}
+FailsByCount answer before after = after ≡ before
 
 -- The bytes move from the front of what is left to the front of the buffer, the end comes where nothing is left,
 -- and a failed call leaves what was left.

@@ -4,6 +4,7 @@ pub mod Instances
 pub mod Keys
 pub mod Kinds
 pub mod NextKey
+pub mod Ordered
 pub mod Places
 pub mod Readers
 pub mod Recorded

@@ -1,5 +1,5 @@
 ghost use Rattle.std.specs.Prelude.{◌≡◌, [], None, OnErr, OnOk, Some};
-ghost use Rattle.std.specs.BTreeMap.{IsUnchanged, Updates, insert_entry};
+ghost use Rattle.std.specs.BTreeMap.{IsOrdered, IsUnchanged, Updates, insert_entry};
 ghost use Rattle.std.specs.Map.Iter.{ShowsInOrder, deref_pair};
 ghost use Rattle.std.specs.Option.{option_copied};
 ghost use Rattle.bosh_base.specs.Inst.{inst_cmp};
@@ -74,6 +74,7 @@ impl Instances {
     pub fn iter(&self) -> Iter<'_, Inst, Instance>
         ensures rest { result ≡ self.now.by_inst.entries }
         ensures runs { ShowsInOrder (deref_pair {K = Inst} {X = Instance}) }
+        ensures ordered { IsOrdered inst_cmp self.now.by_inst }
     {
         self.by_inst.iter()
     }

@@ -1,5 +1,5 @@
 ghost use Rattle.std.specs.Prelude.{◌≡◌, [], IfOk, IsPermutation, None, OnErr, OnOk, Some, is_some};
-ghost use Rattle.std.specs.BTreeMap.{IsUnchanged, insert_entry};
+ghost use Rattle.std.specs.BTreeMap.{IsOrdered, IsUnchanged, insert_entry};
 ghost use Rattle.std.specs.List.Sorted.{IsSorted};
 ghost use Rattle.bosh_rows.specs.SoundSnapshot.{built_cmp};
 ghost use Rattle.bosh_records.specs.Keys.{IsChanged, asked, built_as, built_of, compiled_of, digest_in, is_compiling_in, key_cmp, state_in};
@@ -33,6 +33,13 @@ impl Keys {
         Keys {
             by_key: BTreeMap::new(alloc),
         }
+    }
+
+    // That the keys stand in order, each once.
+    pub(crate) fn tell_order(&self)
+        ensures { IsOrdered key_cmp self.now.by_key }
+    {
+        self.by_key.iter();
     }
 
     /// The digest of a compiled key.

@@ -9,6 +9,7 @@ mod instances;
 mod keys;
 mod machines;
 mod next_key;
+mod order;
 mod orphans;
 mod places;
 mod records;
