@@ -10,11 +10,12 @@ use Rattle.bosh_base.specs.declared.entry.Entry.{Entry}
 use Rattle.bosh_base.specs.declared.entry.Entry.TheVariants.{Begin}
 use Rattle.bosh_book.specs.Adds.{Adds, arrivals_by}
 use Rattle.bosh_fold.specs.ArrivalsWith.{arrivals_with}
-use Rattle.bosh_fold.proofs.LearnsLemmas.{all_of_one, learned_comes, learned_on, one_learned}
+use Rattle.bosh_fold.proofs.LearnsLemmas.{alike_itself, all_of_one, learned_comes, learned_on, one_learned}
 use Rattle.bosh_fold.specs.Learned.{learned}
 use Rattle.bosh_fold.specs.Learns.{IsAlike, Learns, LearnsAll}
 use Rattle.bosh_fold.specs.Planned.{IsPlanned, roomy_for}
 use Rattle.bosh_fold.specs.declared.change.Change.{Change}
+use Rattle.bosh_records.specs.Ordered.{AreOrdered}
 use Rattle.bosh_records.specs.Recorded.{recorded}
 use Rattle.bosh_records.specs.declared.records.Records.{Records}
 use Rattle.bosh_records.specs.Arrivals.{Arrivals, arrivals}
@@ -36,7 +37,7 @@ pub nothing_added : {K : Type 0} (bodies : K → Option (List (List ℕ))) (faul
     Adds bodies faults book [] book
 nothing_added bodies faults book = record {
   entries = sym (append-nil book.journal.entries);
-  learns = refl;
+  learns = alike_itself book.records;
   recorded = refl;
   kept = λ kept. kept;
   count = le_refl (faults book.journal.store);
@@ -90,10 +91,10 @@ stemcell_added bodies faults made was now result entry is noted =
 -- what comes by entries that are taken in
 pub all_come : (was now : Records) (entries : List Entry) → LearnsAll was entries now →
     arrivals now ≡ arrivals_by entries (arrivals was)
-all_come was now [] alike = ap (λ all. all.came) alike
+all_come was now [] alike = ap (λ all. all.came) alike.same
 all_come was now (entry ∷ entries) it =
     all_come it.1 now entries it.4
-    ∙ ap (arrivals_by entries) (learned_comes it.0 it.1 entry it.3 ∙ ap (λ all. arrivals_with entry all.came) it.2)
+    ∙ ap (arrivals_by entries) (learned_comes it.0 it.1 entry it.3 ∙ ap (λ all. arrivals_with entry all.came) it.2.same)
 
 pub came_after : (one other : List Entry) (before : Arrivals) → arrivals_by (one ++ other) before ≡ arrivals_by other (arrivals_by one before)
 came_after [] other before = refl
@@ -117,9 +118,10 @@ more_added bodies faults first mid last one other was now = record {
 -- an entry that was planned and stored is learned
 pub note_learned : (was now : Records) (entry : Entry) (roomy : Records) (change kept : Change) → IsPlanned was roomy entry change →
     recorded roomy ≡ roomy_for was entry (recorded was) → IsAlike was roomy → kept ≡ change →
-    recorded now ≡ learned entry kept (recorded roomy) → Learns was entry now
-note_learned was now entry roomy change kept planned room alike same is =
+    recorded now ≡ learned entry kept (recorded roomy) → AreOrdered (recorded now) → Learns was entry now
+note_learned was now entry roomy change kept planned room alike same is ordered =
     one_learned was roomy now entry change planned room alike (is ∙ ap (λ it. learned entry it (recorded roomy)) same)
+    ordered
 
 pub note_added : {K : Type 0} (bodies : K → Option (List (List ℕ))) (faults : K → ℕ) (was now : Book K) (entry : Entry)
     (kept : Change) → Learns was.records entry now.records →

@@ -23,7 +23,8 @@ use Rattle.bosh_journal.specs.JournalView.{JournalView}
 use Rattle.bosh_journal.specs.Kept.{IsKept}
 use Rattle.bosh_journal.specs.Reads.{Reads}
 use Rattle.bosh_ports.specs.Faults.{NeverFalls}
-use Rattle.bosh_records.specs.Recorded.{kept, recorded}
+use Rattle.bosh_fold.proofs.LearnsLemmas.{alike_itself}
+use Rattle.bosh_fold.specs.Learns.{IsAlike}
 use Rattle.std.proofs.Math.Nat.{le_refl}
 
 pub starts_from : {K T : Type 0} (bodies : K → Option (List (List ℕ))) (faults : K → ℕ) (is_broken : K → Bool)
@@ -224,7 +225,7 @@ told_start {K} bodies faults was now (Err fault) result read mended same count i
   ended = [];
   are_ended = refl;
   entries = entries;
-  learns = ap (λ (it : Book K). kept (recorded it.records)) same;
+  learns = subst (λ (it : Book K). IsAlike was.records it.records) (sym same) (alike_itself was.records);
   read = count;
   mended = told was.journal.entries [] now.journal.entries mended entries is;
   kept = subst (λ (it : Book K). IsKept bodies was.journal → IsKept bodies it.journal) (sym same) (λ kept. kept);

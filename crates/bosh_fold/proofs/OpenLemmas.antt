@@ -160,18 +160,21 @@ read_stays {V} {W} read change same key places k = by (found nat_cmp places key)
 calls_by_owner : (owner : Owner) (call : Call) (it : Recorded) → (roomy_for_owner owner call it).calls ≡ it.calls
 calls_by_owner (owners.Instance inst) call it = refl
 calls_by_owner (owners.Compile task slot) (calls.CreateVm make disks) it = refl
+calls_by_owner (owners.Compile task slot) (calls.CompilePackage vm work deps) it = refl
 calls_by_owner (owners.Compile task slot) call it = refl
 calls_by_owner (owners.Disk disk) call it = refl
 
 tasks_by_owner : (owner : Owner) (call : Call) (it : Recorded) → (roomy_for_owner owner call it).tasks ≡ it.tasks
 tasks_by_owner (owners.Instance inst) call it = refl
 tasks_by_owner (owners.Compile task slot) (calls.CreateVm make disks) it = refl
+tasks_by_owner (owners.Compile task slot) (calls.CompilePackage vm work deps) it = refl
 tasks_by_owner (owners.Compile task slot) call it = refl
 tasks_by_owner (owners.Disk disk) call it = refl
 
 orphans_by_owner : (owner : Owner) (call : Call) (it : Recorded) → (roomy_for_owner owner call it).orphans ≡ it.orphans
 orphans_by_owner (owners.Instance inst) call it = refl
 orphans_by_owner (owners.Compile task slot) (calls.CreateVm make disks) it = refl
+orphans_by_owner (owners.Compile task slot) (calls.CompilePackage vm work deps) it = refl
 orphans_by_owner (owners.Compile task slot) call it = refl
 orphans_by_owner (owners.Disk disk) call it = refl
 

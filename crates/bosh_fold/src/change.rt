@@ -1,6 +1,7 @@
 ghost use Rattle.std.specs.Prelude.{◌≡◌, IfOk, OnErr, OnOk};
 ghost use Rattle.bosh_records.specs.Arrivals.{arrivals};
 ghost use Rattle.bosh_fold.specs.ArrivalsWith.{arrivals_with};
+ghost use Rattle.bosh_records.specs.Ordered.{AreOrdered};
 ghost use Rattle.bosh_records.specs.Recorded.{kept, recorded};
 ghost use Rattle.bosh_fold.specs.Learned.{learned};
 ghost use Rattle.bosh_fold.specs.Learns.{IsAlike, Learns};
@@ -48,7 +49,9 @@ pub fn plan(records: &mut Records, entry: &Entry) -> Result<Change, RecordsFault
     ensures same { arrivals records.new ≡ arrivals records.old }
     ensures alike { IsAlike records.old records.new }
 {
-    plan_entry(records, entry)
+    let change = plan_entry(records, entry);
+    records.tell_order();
+    change
 }
 
 fn plan_entry(records: &mut Records, entry: &Entry) -> Result<Change, RecordsFault>
@@ -98,8 +101,10 @@ pub fn learn(records: &mut Records, entry: &Entry, change: Change)
     requires { HasRoom records.old change }
     ensures all { recorded records.new ≡ learned entry.now change (recorded records.old) }
     ensures came { arrivals records.new ≡ arrivals_after change (arrivals records.old) }
+    ensures ordered { AreOrdered (recorded records.new) }
 {
     take_in(records, entry, change);
+    records.tell_order();
 }
 
 fn take_in(records: &mut Records, entry: &Entry, change: Change)

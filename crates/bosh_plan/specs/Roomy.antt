@@ -58,6 +58,8 @@ roomy_for_owner (owners.Instance inst) call it =
     record it { instances = with_room inst_cmp inst unknown it.instances }
 roomy_for_owner (owners.Compile task slot) (calls.CreateVm make disks) it =
     record it { machines = with_room machine_cmp (record { task = task; slot = slot }) None it.machines }
+roomy_for_owner (owners.Compile task slot) (calls.CompilePackage vm work deps) it =
+    record it { keys = key_room it.keys work }
 roomy_for_owner owner call it = it
 
 abbrev pub roomy_for_call : Begin → Recorded → Recorded

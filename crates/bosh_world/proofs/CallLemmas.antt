@@ -10,6 +10,7 @@ use Rattle.bosh_asks.specs.declared.ask.Ask.{Ask}
 use Rattle.bosh_base.specs.declared.entry.Entry.{Entry}
 use Rattle.bosh_base.specs.declared.entry.Entry.TheVariants as entries
 use Rattle.bosh_base.specs.declared.moves.Cause.{Cause}
+use Rattle.bosh_book.proofs.AddsLemmas.{nothing_added}
 use Rattle.bosh_book.specs.Adds.{Adds}
 use Rattle.bosh_base.specs.declared.task.TaskEnd.{TaskEnd}
 use Rattle.bosh_book.specs.Claims as claims
@@ -170,16 +171,8 @@ standing_opens bodies faults was now ask (Err fault) none adds = adds.standing
 
 adds_none : {K : Type 0} (bodies : K → Option (List (List ℕ))) (faults : K → ℕ) (was now : Book K) → now ≡ was →
     Adds bodies faults was [] now
-adds_none bodies faults was now same = subst (λ (b : Book _). Adds bodies faults was [] b) (sym same) (record {
-  entries = sym (append-nil was.journal.entries);
-  learns = refl;
-  recorded = refl;
-  kept = λ kept. kept;
-  count = omega arith;
-  standing = refl;
-  read = refl;
-  mended = refl;
-})
+adds_none bodies faults was now same =
+    subst (λ (b : Book _). Adds bodies faults was [] b) (sym same) (nothing_added bodies faults was)
 
 -- a task ends, or had ended
 pub ends_told : {K L : Type 0} {k : keeper.Ghosts K} {l : keeper.Ghosts L} (bodies : K → Option (List (List ℕ)))

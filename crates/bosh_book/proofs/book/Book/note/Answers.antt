@@ -6,7 +6,7 @@ pub returns-clause-learned : goal.returns-clause-learned
 returns-clause-learned g c =
     note_learned c.args.self.now.records _ c.args.entry.now c.plan.new.records c.in_ok-change.change
     c.in_ok-change-2.change c.in_ok-change.ensures.planned c.in_ok-change.ensures.made c.plan.ensures.alike
-    c.in_ok-change-2.ensures.value c.learn.ensures.all
+    c.in_ok-change-2.ensures.value c.learn.ensures.all c.learn.ensures.ordered
 
 pub returns-clause-adds : goal.returns-clause-adds
 returns-clause-adds g c =
