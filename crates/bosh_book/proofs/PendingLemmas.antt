@@ -1,5 +1,5 @@
 -- What is pending where a task was to open or to end.
-use Rattle.std.proofs.Common.{◌≡◌, ℕ, zero, suc, Option, Some, None, Result, Ok, Err, List, [], ◌∷◌, ◌++◌, ap, inl, inr, refl, subst, sym}
+use Rattle.std.proofs.Common.{◌≡◌, ◌∙◌, ℕ, zero, suc, Option, Some, None, Result, Ok, Err, List, [], ◌∷◌, ◌++◌, ap, append-nil, inl, inr, refl, subst, sym}
 use Rattle.std.specs.Prelude.{IfErr, IfOk}
 use Rattle.std.proofs.lemmas.List.Elements.{All-append, All-cons, All-nil}
 use Rattle.bosh_asks.specs.declared.ask.Ask.{Ask}
@@ -73,22 +73,26 @@ made_allowed {V = V} bodies faults entry_of Allowed (Err fault) was now result e
 -- ---- claims
 
 module _ {K : Type 0} (bodies : K → Option (List (List ℕ))) (faults : K → ℕ) (was now : Book K) where
-  taken_pending : (entry : Entry) → TakesOn bodies faults entry was (Err book.StoreFault) now
-      → now.journal.pending ≡ Some (added entry)
+  -- nothing is noted then, and the entry is pending
+  abbrev LeavesBehind : Entry → Type 0
+  LeavesBehind entry =
+      (now.journal.pending ≡ Some (added entry)) × Adds bodies faults was [] now
+
+  taken_pending : (entry : Entry) → TakesOn bodies faults entry was (Err book.StoreFault) now → LeavesBehind entry
   taken_pending (entries.Begin begun) takes = by (dep_of was.records begun.owner) takes
     where
       by : (dep : Option (List ℕ)) → Begins bodies faults begun dep was (Err book.StoreFault) now
-          → now.journal.pending ≡ Some (added (entries.Begin begun))
+          → LeavesBehind (entries.Begin begun)
       by None begins = absurd (let is = begins.0 in cc)
       by (Some dep) (inl begins) = absurd (let is = begins.0 in cc)
-      by (Some dep) (inr begins) = begins.3
-  taken_pending (entries.UpdBegin update) takes = takes.3
-  taken_pending (entries.UpdDone update) takes = takes.3
-  taken_pending (entries.Gone update) takes = takes.3
+      by (Some dep) (inr begins) = (begins.3, begins.2)
+  taken_pending (entries.UpdBegin update) takes = (takes.3, takes.2)
+  taken_pending (entries.UpdDone update) takes = (takes.3, takes.2)
+  taken_pending (entries.Gone update) takes = (takes.3, takes.2)
   taken_pending entry takes = absurd (let is = takes.0 in cc)
 
   turn_pending : (choice : Choice) → Follows bodies faults choice was (Err book.StoreFault) now
-      → (entry : Entry) × (choice ≡ choices.Noted entry) × (now.journal.pending ≡ Some (added entry))
+      → (entry : Entry) × (choice ≡ choices.Noted entry) × LeavesBehind entry
   turn_pending choices.Waits follows = absurd (let is = follows.0 in cc)
   turn_pending choices.Over follows = absurd (let is = follows.0 in cc)
   turn_pending (choices.Noted entry) follows = (entry, refl, taken_pending entry follows)
@@ -117,20 +121,20 @@ module _ {K : Type 0} (bodies : K → Option (List (List ℕ))) (faults : K → 
 -- turn by turn
 turns_pending : {K : Type 0} (bodies : K → Option (List (List ℕ))) (faults : K → ℕ) (task worker room : ℕ) (was now : Book K) →
     Turns bodies faults task worker room was (Err book.StoreFault) now →
-    (entry : Entry) × IsNext bodies faults task worker was entry × (now.journal.pending ≡ Some (added entry))
+    (entry : Entry) × IsNext bodies faults task worker was now entry × (now.journal.pending ≡ Some (added entry))
 turns_pending bodies faults task worker zero was now turns = absurd (let is = turns.0 in cc)
 turns_pending {K} bodies faults task worker (suc room) was now (turned, mid, turn, rest) =
     by turned turn rest (turns_pending bodies faults task worker room mid now)
   where
     more : (entry : Entry) → IsUpdate entry → Adds bodies faults was (entry ∷ []) mid →
-        (next : Entry) × IsNext bodies faults task worker mid next × (now.journal.pending ≡ Some (added next)) →
-        (next : Entry) × IsNext bodies faults task worker was next × (now.journal.pending ≡ Some (added next))
-    more entry is adds (next, (others, are, (last, after, chosen)), pending) = (
+        (next : Entry) × IsNext bodies faults task worker mid now next × (now.journal.pending ≡ Some (added next)) →
+        (next : Entry) × IsNext bodies faults task worker was now next × (now.journal.pending ≡ Some (added next))
+    more entry is adds (next, (others, are, (last, after, chosen, stands)), pending) = (
       next,
       (
         entry ∷ others,
         All-cons IsUpdate entry others is are,
-        (last, more_added bodies faults was mid last (entry ∷ []) others adds after, chosen),
+        (last, more_added bodies faults was mid last (entry ∷ []) others adds after, chosen, stands),
       ),
       pending,
     )
@@ -138,8 +142,8 @@ turns_pending {K} bodies faults task worker (suc room) was now (turned, mid, tur
     by : (turned : Result (Option Claim) BookFault) → Turn bodies faults task worker was turned mid →
         GoesOn (λ it. Turns bodies faults task worker room it (Err book.StoreFault) now) turned mid (Err book.StoreFault) now →
         (Turns bodies faults task worker room mid (Err book.StoreFault) now →
-        (entry : Entry) × IsNext bodies faults task worker mid entry × (now.journal.pending ≡ Some (added entry))) →
-        (entry : Entry) × IsNext bodies faults task worker was entry × (now.journal.pending ≡ Some (added entry))
+        (entry : Entry) × IsNext bodies faults task worker mid now entry × (now.journal.pending ≡ Some (added entry))) →
+        (entry : Entry) × IsNext bodies faults task worker was now entry × (now.journal.pending ≡ Some (added entry))
     by (Ok (Some claim)) turn rest again = absurd (let is = rest.0 in cc)
     by (Ok None) (inl turn) rest again = absurd (let is = turn.0 in cc)
     by (Ok None) (inr turn) rest again =
@@ -149,12 +153,18 @@ turns_pending {K} bodies faults task worker (suc room) was now (turned, mid, tur
       where
         last : (fault : BookFault) → Turn bodies faults task worker was (Err fault) mid →
             ◌≡◌ {A = Result Claim BookFault} (Err book.StoreFault) (Err fault) → now ≡ mid →
-            (entry : Entry) × IsNext bodies faults task worker was entry × (now.journal.pending ≡ Some (added entry))
+            (entry : Entry) × IsNext bodies faults task worker was now entry × (now.journal.pending ≡ Some (added entry))
         last book.StoreFault (inl turn) is same = absurd (let no = turn.0 in cc)
         last book.StoreFault (inr turn) is same =
             let it = turn_pending bodies faults was mid (choice_of was.records task worker) turn in (
               it.0,
-              ([], All-nil IsUpdate, (was, nothing_added bodies faults was, it.1)),
+              ([], All-nil IsUpdate, (
+                was,
+                nothing_added bodies faults was,
+                it.1,
+                subst (λ (b : Book K). b.journal.entries ≡ was.journal.entries) (sym same)
+                    (it.3.entries ∙ append-nil was.journal.entries),
+              )),
               subst (λ (b : Book K). b.journal.pending ≡ Some (added it.0)) (sym same) it.2,
             )
         last fault turn is same = absurd (let no = is in cc)

@@ -8,7 +8,8 @@ use Rattle.bosh_asks.specs.declared.fault.BookFault.TheVariants.{Full}
 use Rattle.bosh_base.specs.declared.entry.Entry.{Entry}
 use Rattle.bosh_base.specs.declared.entry.Entry.TheVariants as entries
 use Rattle.bosh_book.specs.Adds.{Adds}
-use Rattle.bosh_book.specs.Claims.{Follows, TakesOn, Begins, Turn, Turns}
+use Rattle.bosh_book.specs.Claims.{Begins, Claims, Follows, RefusesClaim, TakesOn, Turn, Turns}
+use Rattle.std.specs.Prelude.{IfErr}
 use Rattle.bosh_book.specs.Current.{dep_of}
 use Rattle.bosh_book.specs.Running.{is_long, room_left}
 use Rattle.bosh_book.specs.Turns.{Notes}
@@ -125,3 +126,10 @@ went_on bodies faults task worker first mid last found is short taken notes whol
           (sym (less_room mid last short (turn_longer bodies faults task worker mid last went)))
           (Ok None, last, went, after));
     }
+
+-- what a claim does that is refused
+pub refused_by_turns : {K : Type 0} (bodies : K → Option (List (List ℕ))) (faults : K → ℕ) (task worker : ℕ)
+    (was now : Book K) (result : Result Claim BookFault) → Claims bodies faults task worker was result now →
+    IfErr result (λ fault. RefusesClaim bodies faults task worker was fault now)
+refused_by_turns bodies faults task worker was now (Ok claim) turns = tt
+refused_by_turns bodies faults task worker was now (Err fault) turns = inr turns

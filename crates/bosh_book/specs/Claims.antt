@@ -69,20 +69,26 @@ Turns {K} bodies faults task worker (suc room) was result now =
     (turned : Result (Option Claim) BookFault) × (mid : Book K) × Turn bodies faults task worker was turned mid
     × GoesOn (λ it. Turns bodies faults task worker room it result now) turned mid result now
 
--- once some updates were noted, an entry comes next
-abbrev pub IsNext : {K : Type 0} → (K → Option (List (List ℕ))) → (K → ℕ) → ℕ → ℕ → Book K → Entry → Type 0
-IsNext {K} bodies faults task worker was entry =
+-- once some updates were noted, which are all that stands in the book besides, an entry comes next
+abbrev pub IsNext : {K : Type 0} → (K → Option (List (List ℕ))) → (K → ℕ) → ℕ → ℕ → Book K → Book K → Entry → Type 0
+IsNext {K} bodies faults task worker was now entry =
     (updates : List Entry) × All IsUpdate updates × ((mid : Book K) × Adds bodies faults was updates mid
-    × (choice_of mid.records task worker ≡ choices.Noted entry))
+    × (choice_of mid.records task worker ≡ choices.Noted entry) × (now.journal.entries ≡ mid.journal.entries))
 
 -- what a claim does
 abbrev pub Claims : {K : Type 0} → (K → Option (List (List ℕ))) → (K → ℕ) → ℕ → ℕ →
     Book K → Result Claim BookFault → Book K → Type 0
 Claims bodies faults task worker was result now = Turns bodies faults task worker (room_left was) was result now
 
+-- what a claim that is refused does: nothing, or as much of that
+abbrev pub RefusesClaim : {K : Type 0} → (K → Option (List (List ℕ))) → (K → ℕ) → ℕ → ℕ →
+    Book K → BookFault → Book K → Type 0
+RefusesClaim bodies faults task worker was fault now =
+    (now ≡ was) ⊎ Claims bodies faults task worker was (Err fault) now
+
 -- Where the store failed in it, updates were noted, and what was to come next then is pending.
 abbrev pub ClaimsPending : {K : Type 0} → (K → Option (List (List ℕ))) → (K → ℕ) → ℕ → ℕ →
     Book K → Book K → BookFault → Type 0
 ClaimsPending {K} bodies faults task worker was now StoreFault =
-    (entry : Entry) × IsNext bodies faults task worker was entry × (now.journal.pending ≡ Some (added entry))
+    (entry : Entry) × IsNext bodies faults task worker was now entry × (now.journal.pending ≡ Some (added entry))
 ClaimsPending bodies faults task worker was now fault = Unit {0}

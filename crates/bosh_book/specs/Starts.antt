@@ -20,7 +20,7 @@ use Rattle.bosh_fold.specs.Learns.{LearnsAll}
 use Rattle.bosh_journal.specs.Appends.{added}
 use Rattle.bosh_journal.specs.JournalView.{JournalView}
 use Rattle.bosh_journal.specs.Kept.{IsKept}
-use Rattle.bosh_journal.specs.Reads.{Reads}
+use Rattle.bosh_journal.specs.Reads.{Reads, is_broken_after}
 use Rattle.bosh_journal.specs.declared.fault.JournalFault.{JournalFault}
 use Rattle.bosh_ports.specs.Faults.{NeverFalls}
 use Rattle.bosh_records.specs.declared.records.Records.{Records}
@@ -179,7 +179,8 @@ IsNotLoaded {K} bodies faults is_broken was now fault =
     ⊎ ((book : Book K) × StartsFrom {T = Unit {0}} bodies faults is_broken true was (Err fault) book
     × (now ≡ book.journal.store))
 
--- A reload is refused in the reading: the book is to be read, with its entries as before, and no task is told of.
+-- A reload is refused in the reading: the book is to be read, with its entries and records as before, and no task is told of.
+-- What is pending stays so, and the journal is to be reloaded unless it was not before and memory was short.
 pub record IsNotReloaded {K T : Type 0}
     (bodies : K → Option (List (List ℕ))) (faults : K → ℕ) (is_broken : K → Bool) (was : Book K)
     (result : Result T BookFault) (now : Book K) : Type 0 where
@@ -187,5 +188,10 @@ pub record IsNotReloaded {K T : Type 0}
   pub refused : result ≡ Err fault
   pub reading : IsUnread bodies faults is_broken was.journal.store fault now.journal.store
   pub entries : now.journal.entries ≡ was.journal.entries
+  pub broken : now.journal.is_broken ≡ is_broken_after {T = Unit {0}} (Err reading.refusal) was.journal.is_broken
+  pub pending : now.journal.pending ≡ was.journal.pending
+  pub kept : IsKept bodies was.journal → IsKept bodies now.journal
+  pub records : now.records ≡ was.records
+  pub read : now.read ≡ was.read
   pub standing : now.standing ≡ Unread
   pub mended : now.mended ≡ None

@@ -3,7 +3,7 @@ ghost use Rattle.std.specs.Option.{option_copied};
 ghost use Rattle.bosh_asks.specs.declared.fault.BookFault.TheVariants as faults;
 ghost use Rattle.bosh_base.specs.declared.entry.Entry.TheVariants as entries;
 ghost use Rattle.bosh_book.specs.Adds.{Adds};
-ghost use Rattle.bosh_book.specs.Claims.{Begins, Claims, ClaimsPending, TakesOn, Turn};
+ghost use Rattle.bosh_book.specs.Claims.{Begins, Claims, ClaimsPending, RefusesClaim, TakesOn, Turn};
 ghost use Rattle.bosh_book.specs.Current.{IsFor, dep_of, permit_of};
 ghost use Rattle.bosh_book.specs.Faults.{FailsAs, IsClaimFault, IsNoteFault, IsOpenFault, IsQuiet, IsTurnFault};
 ghost use Rattle.bosh_book.specs.Made.{Noted};
@@ -71,13 +71,15 @@ impl<K: Keeper> Book<K> {
 
     /// Claims work of a task for a worker: what the rules ask for on the way is noted. A task that is not recorded is
     /// over.
-    #[tactic(auto, using(crate::proofs::AddsLemmas::nothing_noted, crate::proofs::FaultLemmas::turn_refused, crate::proofs::PendingLemmas::claims_pending))]
+    #[tactic(auto, using(crate::proofs::AddsLemmas::nothing_noted, crate::proofs::FaultLemmas::turn_refused, crate::proofs::PendingLemmas::claims_pending, crate::proofs::TurnLemmas::refused_by_turns))]
     pub fn claim(&mut self, task: u64, worker: u8) -> Result<Claim, BookFault>
         ensures claims { is_stopped self.old ≡ false → is_full self.old ≡ false
             → Claims K.bodies K.faults task worker self.old result self.new }
         ensures notes { Notes K.bodies K.faults self.old (some result) self.new }
         ensures failed { FailsAs K.faults result self.old.journal self.new.journal }
         ensures pending { IfErr result (ClaimsPending K.bodies K.faults task worker self.old self.new) }
+        ensures refused { IfErr result (λ fault. RefusesClaim K.bodies K.faults task worker self.old fault self.new) }
+        ensures room { OnOk result (is_full self.old ≡ false) }
         ensures fault { IfErr result (IsClaimFault self.old self.new) }
         ensures stopped { is_stopped self.old ≡ true → result ≡ Err faults.Stopped }
         ensures full { is_stopped self.old ≡ false → is_full self.old ≡ true → result ≡ Err faults.Full }

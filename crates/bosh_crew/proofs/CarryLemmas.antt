@@ -16,35 +16,34 @@ use Rattle.bosh_ports.specs.declared.keeper.Keeper as keeper
 use Rattle.bosh_world.specs.declared.fault.SiteFault.{SiteFault}
 use Rattle.bosh_world.specs.declared.site.Site.{Site}
 
--- one step
-pub reached_one : {K L : Type 0} {k : keeper.Ghosts K} {l : keeper.Ghosts L} (bodies : K → Option (List (List ℕ)))
-    (faults : K → ℕ) (cloud_bodies : L → Option (List (List ℕ))) (cloud_faults : L → ℕ) (tasks : List ℕ) (worker : ℕ)
-    (was now : Site K L k l) → Steps bodies faults cloud_bodies cloud_faults tasks worker was now →
-    Reaches bodies faults cloud_bodies cloud_faults tasks worker was now
-reached_one bodies faults cloud_bodies cloud_faults tasks worker was now step =
-    steps was now now step (stays now)
-
 -- steps after steps
 pub reached_then : {K L : Type 0} {k : keeper.Ghosts K} {l : keeper.Ghosts L} (bodies : K → Option (List (List ℕ)))
     (faults : K → ℕ) (cloud_bodies : L → Option (List (List ℕ))) (cloud_faults : L → ℕ) (tasks : List ℕ) (worker : ℕ)
-    (was mid now : Site K L k l) → Reaches bodies faults cloud_bodies cloud_faults tasks worker was mid →
-    Reaches bodies faults cloud_bodies cloud_faults tasks worker mid now →
-    Reaches bodies faults cloud_bodies cloud_faults tasks worker was now
-reached_then bodies faults cloud_bodies cloud_faults tasks worker was mid now (stays site) rest = rest
-reached_then bodies faults cloud_bodies cloud_faults tasks worker was mid now (steps first next last step more) rest =
-    steps first next now step (reached_then bodies faults cloud_bodies cloud_faults tasks worker next last now more rest)
+    (was mid now : Site K L k l) (place at next : Place) →
+    Reaches bodies faults cloud_bodies cloud_faults tasks worker was place mid at →
+    Reaches bodies faults cloud_bodies cloud_faults tasks worker mid at now next →
+    Reaches bodies faults cloud_bodies cloud_faults tasks worker was place now next
+reached_then bodies faults cloud_bodies cloud_faults tasks worker was mid now place at next (stays site there) rest = rest
+reached_then bodies faults cloud_bodies cloud_faults tasks worker was mid now place at next
+    (steps first from one then last to step more) rest =
+    steps first from one then now next step
+    (reached_then bodies faults cloud_bodies cloud_faults tasks worker one last now then to next more rest)
 
 -- a round after steps
 pub round_then : {K L : Type 0} {k : keeper.Ghosts K} {l : keeper.Ghosts L} (bodies : K → Option (List (List ℕ)))
     (faults : K → ℕ) (cloud_bodies : L → Option (List (List ℕ))) (cloud_faults : L → ℕ) (tasks : List ℕ) (worker : ℕ)
-    (was mid now : Site K L k l) (result : Result Round SiteFault) →
-    Reaches bodies faults cloud_bodies cloud_faults tasks worker was mid →
-    GoesRound bodies faults cloud_bodies cloud_faults tasks worker mid result now →
-    GoesRound bodies faults cloud_bodies cloud_faults tasks worker was result now
-round_then bodies faults cloud_bodies cloud_faults tasks worker was mid now (Ok round) before goes =
-    (reached_then bodies faults cloud_bodies cloud_faults tasks worker was mid now before goes.0, goes.1)
-round_then bodies faults cloud_bodies cloud_faults tasks worker was mid now (Err fault) before goes =
-    (goes.0, reached_then bodies faults cloud_bodies cloud_faults tasks worker was mid goes.0 before goes.1, goes.2)
+    (was mid now : Site K L k l) (place at : Place) (result : Result Round SiteFault) →
+    Reaches bodies faults cloud_bodies cloud_faults tasks worker was place mid at →
+    GoesRound bodies faults cloud_bodies cloud_faults tasks worker mid at result now →
+    GoesRound bodies faults cloud_bodies cloud_faults tasks worker was place result now
+round_then bodies faults cloud_bodies cloud_faults tasks worker was mid now place at (Ok round) before goes =
+    (reached_then bodies faults cloud_bodies cloud_faults tasks worker was mid now place at places.Empty before goes.0, goes.1)
+round_then bodies faults cloud_bodies cloud_faults tasks worker was mid now place at (Err fault) before goes = (
+  goes.0,
+  goes.1,
+  reached_then bodies faults cloud_bodies cloud_faults tasks worker was mid goes.0 place at goes.1 before goes.2,
+  goes.3,
+)
 
 -- a task that is over, as a claim said, ends or not
 pub over_then : {K L : Type 0} {k : keeper.Ghosts K} {l : keeper.Ghosts L} (bodies : K → Option (List (List ℕ)))
@@ -57,7 +56,9 @@ over_then bodies faults cloud_bodies cloud_faults task worker was mid now (Ok (s
 over_then bodies faults cloud_bodies cloud_faults task worker was mid now (Ok step) claimed ended = absurd ended
 over_then bodies faults cloud_bodies cloud_faults task worker was mid now (Err fault) claimed ended = λ tasks there. (
   mid,
-  steps was mid mid (claims task Over there claimed.0 claimed.1) (stays mid),
+  places.Empty,
+  steps was places.Empty mid places.Empty mid places.Empty (claims task Over refl refl there claimed.0 claimed.1)
+      (stays mid places.Empty),
   ended tasks worker there,
 )
 
@@ -66,16 +67,20 @@ pub advanced : {K L : Type 0} {k : keeper.Ghosts K} {l : keeper.Ghosts L} (bodie
     (faults : K → ℕ) (cloud_bodies : L → Option (List (List ℕ))) (cloud_faults : L → ℕ) (tasks : List ℕ)
     (task worker : ℕ) (was now : Site K L k l) (place next : Place) → Contains tasks task → IsAt was place →
     Advances bodies faults cloud_bodies cloud_faults task worker was place (Ok (step.Moved next)) now →
-    Reaches bodies faults cloud_bodies cloud_faults tasks worker was now
+    Reaches bodies faults cloud_bodies cloud_faults tasks worker was place now next
 advanced bodies faults cloud_bodies cloud_faults tasks task worker was now places.Empty (places.Granted permit) there at goes =
-    steps was now now (claims task (Work permit) there goes.0 goes.1) (stays now)
+    steps was places.Empty now (places.Granted permit) now (places.Granted permit)
+    (claims task (Work permit) refl refl there goes.0 goes.1) (stays now (places.Granted permit))
 advanced bodies faults cloud_bodies cloud_faults tasks task worker was now places.Empty places.Empty there at goes =
-    steps was goes.0 now (claims task Over there goes.1.0 goes.1.1)
-    (steps goes.0 now now (ends task goes.2.0 there goes.2.1 goes.2.2) (stays now))
+    steps was places.Empty goes.0 places.Empty now places.Empty (claims task Over refl refl there goes.1.0 goes.1.1)
+    (steps goes.0 places.Empty now places.Empty now places.Empty (ends task goes.2.0 refl refl there goes.2.1 goes.2.2)
+    (stays now places.Empty))
 advanced bodies faults cloud_bodies cloud_faults tasks task worker was now (places.Granted permit) (places.Held call) there at goes =
-    steps was now now (performs permit call.answer at goes.1) (stays now)
+    steps was (places.Granted permit) now (places.Held call) now (places.Held call)
+    (performs permit call refl refl goes.0 at goes.1) (stays now (places.Held call))
 advanced bodies faults cloud_bodies cloud_faults tasks task worker was now (places.Held call) places.Empty there at goes =
-    steps was now now (settles call at goes.0 goes.1 goes.2) (stays now)
+    steps was (places.Held call) now places.Empty now places.Empty
+    (settles call refl refl at goes.0 goes.1 goes.2) (stays now places.Empty)
 advanced bodies faults cloud_bodies cloud_faults tasks task worker was now places.Empty (places.Held call) there at goes = absurd goes
 advanced bodies faults cloud_bodies cloud_faults tasks task worker was now (places.Granted permit) places.Empty there at goes = absurd goes
 advanced bodies faults cloud_bodies cloud_faults tasks task worker was now (places.Granted permit) (places.Granted other) there at goes = absurd goes
@@ -87,9 +92,14 @@ pub advanced_waits : {K L : Type 0} {k : keeper.Ghosts K} {l : keeper.Ghosts L} 
     (faults : K → ℕ) (cloud_bodies : L → Option (List (List ℕ))) (cloud_faults : L → ℕ) (tasks : List ℕ)
     (task worker : ℕ) (was now : Site K L k l) (place : Place) → Contains tasks task →
     Advances bodies faults cloud_bodies cloud_faults task worker was place (Ok step.Waits) now →
-    Reaches bodies faults cloud_bodies cloud_faults tasks worker was now × IsWaiting bodies faults tasks worker task now
+    Reaches bodies faults cloud_bodies cloud_faults tasks worker was place now places.Empty
+    × IsWaiting bodies faults tasks worker task now
 advanced_waits bodies faults cloud_bodies cloud_faults tasks task worker was now places.Empty there goes =
-    (steps was now now (claims task Wait there goes.0 goes.1) (stays now), (there, (was, goes.0)))
+    (
+      steps was places.Empty now places.Empty now places.Empty (claims task Wait refl refl there goes.0 goes.1)
+          (stays now places.Empty),
+      (there, (was, goes.0)),
+    )
 advanced_waits bodies faults cloud_bodies cloud_faults tasks task worker was now (places.Granted permit) there goes = absurd goes
 advanced_waits bodies faults cloud_bodies cloud_faults tasks task worker was now (places.Held call) there goes = absurd goes
 
@@ -107,24 +117,14 @@ nearer bodies faults cloud_bodies cloud_faults task worker was now (places.Grant
 nearer bodies faults cloud_bodies cloud_faults task worker was now (places.Held call) (places.Granted permit) goes left = absurd goes
 nearer bodies faults cloud_bodies cloud_faults task worker was now (places.Held call) (places.Held other) goes left = absurd goes
 
--- a round after one step
-pub round_after : {K L : Type 0} {k : keeper.Ghosts K} {l : keeper.Ghosts L} (bodies : K → Option (List (List ℕ)))
-    (faults : K → ℕ) (cloud_bodies : L → Option (List (List ℕ))) (cloud_faults : L → ℕ) (tasks : List ℕ) (worker : ℕ)
-    (was mid now : Site K L k l) (result : Result Round SiteFault) →
-    Steps bodies faults cloud_bodies cloud_faults tasks worker was mid →
-    GoesRound bodies faults cloud_bodies cloud_faults tasks worker mid result now →
-    GoesRound bodies faults cloud_bodies cloud_faults tasks worker was result now
-round_after bodies faults cloud_bodies cloud_faults tasks worker was mid now result step goes =
-    round_then bodies faults cloud_bodies cloud_faults tasks worker was mid now result
-    (reached_one bodies faults cloud_bodies cloud_faults tasks worker was mid step) goes
-
 -- the worker is stopped at once
 pub stopped_at_once : {K L : Type 0} {k : keeper.Ghosts K} {l : keeper.Ghosts L} (bodies : K → Option (List (List ℕ)))
     (faults : K → ℕ) (cloud_bodies : L → Option (List (List ℕ))) (cloud_faults : L → ℕ) (tasks : List ℕ) (worker : ℕ)
-    (was : Site K L k l) (fault : SiteFault) (now : Site K L k l) →
-    Stops bodies faults cloud_bodies cloud_faults tasks worker was fault now →
-    IsStopped bodies faults cloud_bodies cloud_faults tasks worker was fault now
-stopped_at_once bodies faults cloud_bodies cloud_faults tasks worker was fault now stops = (was, stays was, stops)
+    (was : Site K L k l) (place : Place) (fault : SiteFault) (now : Site K L k l) →
+    Stops bodies faults cloud_bodies cloud_faults tasks worker was place fault now →
+    IsStopped bodies faults cloud_bodies cloud_faults tasks worker was place fault now
+stopped_at_once bodies faults cloud_bodies cloud_faults tasks worker was place fault now stops =
+    (was, place, stays was place, stops)
 
 -- after a step for one task a round waits only where that step does
 pub left_by : {K L : Type 0} {k : keeper.Ghosts K} {l : keeper.Ghosts L} (bodies : K → Option (List (List ℕ)))

@@ -14,29 +14,30 @@ use Rattle.bosh_world.specs.declared.site.Site.{Site}
 
 -- a claim was refused
 pub stuck_in_claim : {K L : Type 0} {k : keeper.Ghosts K} {l : keeper.Ghosts L} (bodies : K → Option (List (List ℕ)))
-    (faults : K → ℕ) (was now : Site K L k l) (fault : SiteFault) → RefusesClaim bodies faults was fault now →
+    (faults : K → ℕ) (was now : Site K L k l) (task worker : ℕ) (fault : SiteFault) →
+    RefusesClaim bodies faults task worker was fault now →
     IsBooks (IsClaimFault was.book now.book) fault → IsStuck now fault
-stuck_in_claim bodies faults was now (Book book.Stopped) (noted, updates, inl (halted, same)) is =
+stuck_in_claim bodies faults was now task worker (Book book.Stopped) (noted, updates, inl (halted, same), turned) is =
     (λ j. (same j).history.is_halted) ∙ halted
-stuck_in_claim bodies faults was now (Book book.Stopped) (noted, updates, inr (running, fails)) is = fails.notes.halted
-stuck_in_claim bodies faults was now (Book book.StoreFault) (noted, updates, (running, fails)) is = fails.notes.halted
-stuck_in_claim bodies faults was now (Book book.Full) left is = is.1
-stuck_in_claim bodies faults was now (Book (book.Locked task)) left is = tt
-stuck_in_claim bodies faults was now (Book book.Memory) left is = absurd is
-stuck_in_claim bodies faults was now (Book (book.Damaged place)) left is = absurd is
-stuck_in_claim bodies faults was now (Book (book.Differs name)) left is = absurd is
-stuck_in_claim bodies faults was now (Book (book.NoDeployment name)) left is = absurd is
-stuck_in_claim bodies faults was now (Book (book.NoInstance inst)) left is = absurd is
-stuck_in_claim bodies faults was now (Book (book.NoDisk disk)) left is = absurd is
-stuck_in_claim bodies faults was now (Book (book.NotOrphaned disk)) left is = absurd is
-stuck_in_claim bodies faults was now (Book (book.Goal other)) left is = absurd is
-stuck_in_claim bodies faults was now (Book book.Limit) left is = absurd is
-stuck_in_claim bodies faults was now (Book (book.Consumed by)) left is = absurd is
-stuck_in_claim bodies faults was now Memory left is = tt
-stuck_in_claim bodies faults was now CloudStore left is = absurd is
-stuck_in_claim bodies faults was now (CloudDamaged position) left is = absurd is
-stuck_in_claim bodies faults was now (NotRunning inst) left is = absurd is
-stuck_in_claim bodies faults was now (NoMachine inst) left is = absurd is
+stuck_in_claim bodies faults was now task worker (Book book.Stopped) (noted, updates, inr (running, fails), turned) is = fails.notes.halted
+stuck_in_claim bodies faults was now task worker (Book book.StoreFault) (noted, updates, (running, fails), turned) is = fails.notes.halted
+stuck_in_claim bodies faults was now task worker (Book book.Full) left is = is.1
+stuck_in_claim bodies faults was now task worker (Book (book.Locked task)) left is = tt
+stuck_in_claim bodies faults was now task worker (Book book.Memory) left is = absurd is
+stuck_in_claim bodies faults was now task worker (Book (book.Damaged place)) left is = absurd is
+stuck_in_claim bodies faults was now task worker (Book (book.Differs name)) left is = absurd is
+stuck_in_claim bodies faults was now task worker (Book (book.NoDeployment name)) left is = absurd is
+stuck_in_claim bodies faults was now task worker (Book (book.NoInstance inst)) left is = absurd is
+stuck_in_claim bodies faults was now task worker (Book (book.NoDisk disk)) left is = absurd is
+stuck_in_claim bodies faults was now task worker (Book (book.NotOrphaned disk)) left is = absurd is
+stuck_in_claim bodies faults was now task worker (Book (book.Goal other)) left is = absurd is
+stuck_in_claim bodies faults was now task worker (Book book.Limit) left is = absurd is
+stuck_in_claim bodies faults was now task worker (Book (book.Consumed by)) left is = absurd is
+stuck_in_claim bodies faults was now task worker Memory left is = tt
+stuck_in_claim bodies faults was now task worker CloudStore left is = absurd is
+stuck_in_claim bodies faults was now task worker (CloudDamaged position) left is = absurd is
+stuck_in_claim bodies faults was now task worker (NotRunning inst) left is = absurd is
+stuck_in_claim bodies faults was now task worker (NoMachine inst) left is = absurd is
 
 -- the end of a task was refused
 pub stuck_in_end : {K L : Type 0} {k : keeper.Ghosts K} {l : keeper.Ghosts L} (bodies : K → Option (List (List ℕ)))

@@ -4,6 +4,7 @@ ghost use Rattle.bosh_crew.specs.Carried.{Carries, GoesRound, IsLeft};
 ghost use Rattle.bosh_crew.specs.Driven.{AreEnded, Goes, IsEnded, IsStuck};
 ghost use Rattle.bosh_crew.specs.Places.{IsAt};
 ghost use Rattle.bosh_crew.specs.declared.driver.Round.TheVariants.{Ended, Moved};
+ghost use Rattle.bosh_crew.specs.declared.place.Place.TheVariants.{Empty};
 ghost use Rattle.bosh_world.specs.Silent.{IsSilent};
 ghost use Rattle.bosh_world.specs.declared.fault.SiteFault.TheVariants.{Book};
 
@@ -57,7 +58,7 @@ fn locked(task: u64) -> SiteFault
 // Takes a step of each task that has no end.
 fn go_round<K: Keeper, L: Keeper>(site: &mut Site<K, L>, tasks: &[u64]) -> Result<Round, SiteFault>
     ensures ended { IfOk result (λ round. round ≡ Ended → AreEnded site.new tasks.now) }
-    ensures goes_round { GoesRound K.bodies K.faults L.bodies L.faults tasks.now 0 site.old result site.new }
+    ensures goes_round { GoesRound K.bodies K.faults L.bodies L.faults tasks.now 0 site.old Empty result site.new }
     ensures goes { Goes site.old site.new }
     ensures silent { IsSilent site.old site.new }
     ensures stuck { IfErr result (IsStuck site.new) }
@@ -81,7 +82,7 @@ fn attend<K: Keeper, L: Keeper>(
     ensures ended { IfOk result (λ now. now ≡ Ended → (round ≡ Ended)
         × (site.new.book.records ≡ site.old.book.records) × IsEnded site.old.book.records task) }
     ensures goes_round { (tasks : List ℕ) → Contains tasks task → IsLeft K.bodies K.faults tasks 0 round site.old →
-        GoesRound K.bodies K.faults L.bodies L.faults tasks 0 site.old result site.new }
+        GoesRound K.bodies K.faults L.bodies L.faults tasks 0 site.old Empty result site.new }
     ensures goes { Goes site.old site.new }
     ensures silent { IsSilent site.old site.new }
     ensures stuck { IfErr result (IsStuck site.new) }
@@ -125,7 +126,7 @@ fn take_steps<K: Keeper, L: Keeper>(
     requires { IsAt site.old place }
     ensures moved { IfOk result (λ round. round ≢ Ended) }
     ensures goes_round { (tasks : List ℕ) → Contains tasks task →
-        GoesRound K.bodies K.faults L.bodies L.faults tasks 0 site.old result site.new }
+        GoesRound K.bodies K.faults L.bodies L.faults tasks 0 site.old place result site.new }
     ensures goes { Goes site.old site.new }
     ensures silent { IsSilent site.old site.new }
     ensures stuck { IfErr result (IsStuck site.new) }

@@ -1,6 +1,6 @@
 -- What a call of the book leaves of a site, where it was told.
 use Rattle.std.proofs.Common.{◌≡◌, ◌⊎◌, ℕ, Bool, true, false, Option, Some, None, Result, Ok, Err, List, [], ◌∷◌, ◌++◌, inl, inr, refl, sym, ◌∙◌, ap, subst, append-nil, arith, not, ◌||◌}
-use Rattle.std.specs.Prelude.{IfErr, IfOk, OnErr}
+use Rattle.std.specs.Prelude.{IfErr, IfOk, OnErr, OnOk}
 use Rattle.std.specs.Result.{IsErrAnd}
 use Rattle.std.proofs.lemmas.List.Elements.{All-nil}
 use Rattle.std.proofs.lemmas.Bool.{false≢true}
@@ -219,10 +219,6 @@ comes_nothing was now same_book same_cloud same_history = record {
 
 -- ---- claims
 
-by_full : {A : Type 0} (full : Bool) (b : Bool) → full ≡ b → (full ≡ false → A) → (full ≡ true → A) → A
-by_full full true is room filled = filled is
-by_full full false is room filled = room is
-
 -- work of a task is claimed
 pub claims_told : {K L : Type 0} {k : keeper.Ghosts K} {l : keeper.Ghosts L} (bodies : K → Option (List (List ℕ)))
     (faults : K → ℕ) (was now : Site K L k l) (task worker : ℕ) (result : Result Claim SiteFault)
@@ -230,27 +226,28 @@ pub claims_told : {K L : Type 0} {k : keeper.Ghosts K} {l : keeper.Ghosts L} (bo
     turns.Notes (bodies_of bodies) (faults_of faults) was.book (some answer) now.book →
     (is_full was.book ≡ false →
     claims.Claims (bodies_of bodies) (faults_of faults) task worker was.book answer now.book) →
-    (is_full was.book ≡ true → answer ≡ Err book.Full) →
+    OnOk answer (is_full was.book ≡ false) →
     Follows was.history now.book.journal.entries now.cloud.effects (halt_of sprung answer) now.history →
     IfOk result (λ claim. Claims bodies faults was task worker claim now)
-claims_told {k = k} {l = l} bodies faults was now task worker result answer sprung is rest notes claimed full follows =
+claims_told {k = k} {l = l} bodies faults was now task worker result answer sprung is rest notes claimed room follows =
     subst (λ (r : Result Claim SiteFault). IfOk r (λ claim. Claims {k = k} {l = l} bodies faults was task worker claim now))
-    (sym is) (each answer notes claimed full follows)
+    (sym is) (each answer notes claimed room follows)
   where
     each : (a : Result Claim BookFault) → turns.Notes (bodies_of bodies) (faults_of faults) was.book (some a) now.book →
         (is_full was.book ≡ false → claims.Claims (bodies_of bodies) (faults_of faults) task worker was.book a now.book) →
-        (is_full was.book ≡ true → a ≡ Err book.Full) →
+        OnOk a (is_full was.book ≡ false) →
         Follows was.history now.book.journal.entries now.cloud.effects (halt_of sprung a) now.history →
         IfOk (answered_as sprung a) (λ claim. Claims {k = k} {l = l} bodies faults was task worker claim now)
-    each (Ok claim) notes claimed full follows = record {
+    each (Ok claim) notes claimed room follows = record {
       updates = notes.updates;
       are_updates = notes.are_updates;
       last = notes.last;
       gives = notes.gives;
       notes = noted bodies faults was now (notes.updates ++ notes.last) None rest notes.adds follows;
-      by_turns = by_full (is_full was.book) (is_full was.book) refl claimed (λ filled. absurd (let never : Ok claim ≡ Err book.Full = full filled in cc));
+      by_turns = claimed room;
+      has_room = room;
     }
-    each (Err fault) notes claimed full follows = tt
+    each (Err fault) notes claimed room follows = tt
 
 -- a book that goes on was read
 read_runs : {K : Type 0} (book : Book K) → is_stopped book ≡ false → (book.standing ≡ Unread → ⊥)
@@ -287,30 +284,36 @@ given_told {K} {L} {k} {l} bodies faults was now unsettled result answer sprung 
 
 -- a claim is refused
 pub claim_refused : {K L : Type 0} {k : keeper.Ghosts K} {l : keeper.Ghosts L} (bodies : K → Option (List (List ℕ)))
-    (faults : K → ℕ) (was now : Site K L k l) (result : Result Claim SiteFault)
+    (faults : K → ℕ) (was now : Site K L k l) (task worker : ℕ) (result : Result Claim SiteFault)
     (answer : Result Claim BookFault) (sprung : Option Rig) → result ≡ answered_as sprung answer → SameRest was now →
     sprung ≡ now.book.journal.store.sprung →
     turns.Notes (bodies_of bodies) (faults_of faults) was.book (some answer) now.book →
     FailsAs (faults_of faults) answer was.book.journal now.book.journal →
     IfErr answer (λ fault. fault ≡ book.Stopped → ⊥) →
+    IfErr answer (λ fault.
+    claims.RefusesClaim (bodies_of bodies) (faults_of faults) task worker was.book fault now.book) →
     Follows was.history now.book.journal.entries now.cloud.effects (halt_of sprung answer) now.history →
-    IfErr result (λ fault. RefusesClaim bodies faults was fault now)
-claim_refused {k = k} {l = l} bodies faults was now result answer sprung is rest by notes fails not follows =
-    subst (λ (r : Result Claim SiteFault). IfErr r (λ fault. RefusesClaim {k = k} {l = l} bodies faults was fault now))
-    (sym is) (each answer notes fails not follows)
+    IfErr result (λ fault. RefusesClaim bodies faults task worker was fault now)
+claim_refused {k = k} {l = l} bodies faults was now task worker result answer sprung is rest by notes fails not turned follows =
+    subst (λ (r : Result Claim SiteFault). IfErr r (λ fault.
+    RefusesClaim {k = k} {l = l} bodies faults task worker was fault now))
+    (sym is) (each answer notes fails not turned follows)
   where
     each : (a : Result Claim BookFault) → turns.Notes (bodies_of bodies) (faults_of faults) was.book (some a) now.book →
         FailsAs (faults_of faults) a was.book.journal now.book.journal → IfErr a (λ fault. fault ≡ book.Stopped → ⊥) →
+        IfErr a (λ fault.
+        claims.RefusesClaim (bodies_of bodies) (faults_of faults) task worker was.book fault now.book) →
         Follows was.history now.book.journal.entries now.cloud.effects (halt_of sprung a) now.history →
-        IfErr (answered_as sprung a) (λ fault. RefusesClaim {k = k} {l = l} bodies faults was fault now)
-    each (Ok claim) notes fails not follows = tt
-    each (Err fault) notes fails not follows = (
+        IfErr (answered_as sprung a) (λ fault. RefusesClaim {k = k} {l = l} bodies faults task worker was fault now)
+    each (Ok claim) notes fails not turned follows = tt
+    each (Err fault) notes fails not turned follows = (
       notes.updates,
       notes.are_updates,
       refuses_if {T = Claim} bodies faults was now (Err fault) sprung notes.updates rest by
           (subst (λ (es : List Entry). Adds (bodies_of bodies) (faults_of faults) was.book es now.book)
           (ap (λ (more : List Entry). notes.updates ++ more) notes.gives ∙ append-nil notes.updates) notes.adds)
           fails not follows,
+      (fault, turned),
     )
 
 -- nothing was noted, and nothing has happened
@@ -328,15 +331,23 @@ notes_nothing bodies faults was now running same_book same_cloud same_history sa
   same_opening = same_opening;
 }
 
--- there is no memory for a claim
+-- a claim that the book was not asked for is refused
+pub claim_unasked : {K L : Type 0} {k : keeper.Ghosts K} {l : keeper.Ghosts L} (bodies : K → Option (List (List ℕ)))
+    (faults : K → ℕ) (was now : Site K L k l) (task worker : ℕ) (result : Result Claim SiteFault) → now.book ≡ was.book →
+    IfErr result (λ fault. Refuses bodies faults was [] fault now) →
+    IfErr result (λ fault. RefusesClaim bodies faults task worker was fault now)
+claim_unasked bodies faults was now task worker (Ok claim) same refuses = tt
+claim_unasked bodies faults was now task worker (Err fault) same refuses =
+    ([], All-nil IsUpdate, refuses, (book.Memory, inl same))
+
+-- .. for want of memory
 pub claim_lost : {K L : Type 0} {k : keeper.Ghosts K} {l : keeper.Ghosts L} (bodies : K → Option (List (List ℕ)))
     (faults : K → ℕ) (was now : Site K L k l) (result : Result Claim SiteFault) (cause : SiteFault) →
     IsErrAnd result (λ fault. fault ≡ cause) → cause ≡ Memory → was.history.is_halted ≡ false →
-    Notes bodies faults was [] None now → IfErr result (λ fault. RefusesClaim bodies faults was fault now)
+    Notes bodies faults was [] None now → IfErr result (λ fault. Refuses bodies faults was [] fault now)
 claim_lost bodies faults was now (Ok claim) cause is memory running notes = tt
 claim_lost {k = k} {l = l} bodies faults was now (Err fault) cause is memory running notes =
-    subst (λ (f : SiteFault). RefusesClaim {k = k} {l = l} bodies faults was f now) (sym (is ∙ memory))
-    ([], All-nil IsUpdate, (running, notes))
+    subst (λ (f : SiteFault). Refuses {k = k} {l = l} bodies faults was [] f now) (sym (is ∙ memory)) (running, notes)
 
 -- ---- calls that are settled
 

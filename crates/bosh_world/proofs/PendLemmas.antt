@@ -9,7 +9,7 @@ use Rattle.bosh_base.specs.declared.entry.Entry.{Entry}
 use Rattle.bosh_base.specs.declared.entry.Entry.TheVariants as entries
 use Rattle.bosh_base.specs.declared.task.TaskEnd.{TaskEnd}
 use Rattle.bosh_book.specs.Appends.{LeavesAllowed}
-use Rattle.bosh_book.specs.Claims.{ClaimsPending}
+use Rattle.bosh_book.specs.Claims.{ClaimsPending, IsNext}
 use Rattle.bosh_book.specs.Ends.{EndsPending, closing}
 use Rattle.bosh_book.specs.Opens.{OpensPending}
 use Rattle.bosh_book.specs.declared.book.Book as books
@@ -21,7 +21,7 @@ use Rattle.bosh_ports.specs.declared.keeper.Keeper as keeper
 use Rattle.bosh_ports.specs.declared.rig.Rig.{Rig}
 use Rattle.bosh_records.specs.declared.records.Records.{Records}
 use Rattle.bosh_world.specs.Faults.{halt_by, halt_of}
-use Rattle.bosh_world.specs.Pending.{IsAllowed, IsClaimed, IsClosing, IsOpening, Pends}
+use Rattle.bosh_world.specs.Pending.{IsAllowed, IsClosing, IsOpening, Pends}
 use Rattle.bosh_world.specs.Steps.{bodies_of}
 use Rattle.bosh_world.specs.declared.site.Site.{Site}
 
@@ -89,7 +89,7 @@ alloweds_as {T = T} Allowed given now (Err fault) it = allowed_as T Allowed give
 claim_as : {K L : Type 0} {k : keeper.Ghosts K} {l : keeper.Ghosts L} (bodies : K → Option (List (List ℕ))) (faults : K → ℕ)
     (task worker : ℕ) (was : Site K L k l) (now : books.Book (RigState K)) (fault : BookFault) →
     ClaimsPending (bodies_of bodies) (faults_of faults) task worker was.book now fault →
-    PendsAs (IsClaimed bodies faults task worker was) now.journal fault
+    PendsAs (IsNext (bodies_of bodies) (faults_of faults) task worker was.book now) now.journal fault
 claim_as bodies faults task worker was now book.StoreFault it is = it
 claim_as bodies faults task worker was now fault it is = absurd (let no = is in cc)
 
@@ -97,6 +97,6 @@ pub claims_as : {K L : Type 0} {k : keeper.Ghosts K} {l : keeper.Ghosts L} (bodi
     (faults : K → ℕ) (task worker : ℕ) (was : Site K L k l) (now : books.Book (RigState K))
     (answer : Result Claim BookFault) →
     IfErr answer (ClaimsPending (bodies_of bodies) (faults_of faults) task worker was.book now) →
-    IfErr answer (PendsAs (IsClaimed bodies faults task worker was) now.journal)
+    IfErr answer (PendsAs (IsNext (bodies_of bodies) (faults_of faults) task worker was.book now) now.journal)
 claims_as bodies faults task worker was now (Ok claim) it = tt
 claims_as bodies faults task worker was now (Err fault) it = claim_as bodies faults task worker was now fault it

@@ -15,7 +15,6 @@ use Rattle.bosh_book.specs.declared.book.Book.{Book}
 use Rattle.bosh_cloud.specs.CloudView.{CloudView}
 use Rattle.bosh_cloud.specs.Loading.{IsKept}
 use Rattle.bosh_cloud.specs.Notes.{SameFates}
-use Rattle.bosh_cloud.specs.Reads.{Reads}
 use Rattle.bosh_moves.proofs.StoryLemmas.{extends_more}
 use Rattle.bosh_moves.proofs.TellLemmas.{story_all, told_on}
 use Rattle.bosh_moves.specs.Found.{kept_at, stop_of}
@@ -24,7 +23,7 @@ use Rattle.bosh_ports.specs.Rigged.{RigState, broken_of, faults_of}
 use Rattle.bosh_ports.specs.declared.keeper.Keeper as keeper
 use Rattle.bosh_world.specs.Anew.{BookRestarts, GoesAnew, Halts, HaltsAnew, IsAtHalt, SameTraps, StaysUnread}
 use Rattle.bosh_world.specs.IsSite.{IsSite}
-use Rattle.bosh_world.specs.Restarts.{IsBookUnread, IsNotRead, IsUnread, RefusesRestart, Rereads, Restarts, first_halt, read_count}
+use Rattle.bosh_world.specs.Restarts.{IsBookUnread, IsCloudUnread, IsNotRead, IsUnread, RefusesRestart, Rereads, Restarts, first_halt, read_count}
 use Rattle.bosh_world.specs.Steps.{bodies_of}
 use Rattle.bosh_world.specs.declared.fault.SiteFault.{SiteFault}
 use Rattle.bosh_world.specs.declared.site.Site.{Site}
@@ -111,12 +110,8 @@ unread_of bodies faults is_broken cloud_bodies cloud_faults was mid now fault of
     inl (memory.0, memory.1 ∙ of.same_cloud, memory.2 ∙ of.same_book)
 unread_of bodies faults is_broken cloud_bodies cloud_faults was mid now fault of (inr (inl refused)) =
     inr (inl (
-      refused.0,
-      (
-        subst (λ (it : CloudView _). Reads cloud_bodies cloud_faults it.store (Err refused.0)
-            now.cloud.store) of.same_cloud refused.1.0,
-        refused.1.1,
-      ),
+      subst (λ (it : CloudView _). IsCloudUnread cloud_bodies cloud_faults it fault now.cloud) of.same_cloud refused.0,
+      refused.1 ∙ of.same_book,
     ))
 unread_of bodies faults is_broken cloud_bodies cloud_faults was mid now fault of (inr (inr unread)) =
     inr (inr (

@@ -1,5 +1,5 @@
 -- What it does to give up a call.
-use Rattle.std.specs.Prelude.{◌≡◌, true, false, [], ◌∷◌}
+use Rattle.std.specs.Prelude.{◌≡◌, ◌⊎◌, true, false, [], ◌∷◌}
 use Rattle.bosh_base.specs.declared.moves.Cause.TheVariants as causes
 use Rattle.bosh_base.specs.declared.moves.Move.TheVariants as moves
 use Rattle.bosh_book.specs.Current.{IsCurrent}
@@ -20,8 +20,9 @@ pub record GivesUp {K L : Type 0} {k : keeper.Ghosts K} {l : keeper.Ghosts L} (w
   pub same_armed : now.traps.items ≡ was.traps.items
   pub same_opening : now.opening ≡ was.opening
 
--- where the permit is not current nothing changes
-pub record Abandons {K L : Type 0} {k : keeper.Ghosts K} {l : keeper.Ghosts L} (was : Site K L k l) (permit : Granted)
-    (now : Site K L k l) : Type 0 where
-  pub current : IsCurrent was.book permit → GivesUp was now
-  pub other : (¬ IsCurrent was.book permit) → IsSame was now
+-- the permit is current, and the call is given up; or it is not, and nothing changes
+abbrev pub Abandons : {K L : Type 0} {k : keeper.Ghosts K} {l : keeper.Ghosts L} → Site K L k l → Granted → Site K L k l →
+    Type 0
+Abandons was permit now =
+    (IsCurrent was.book permit × GivesUp was now)
+    ⊎ ((¬ IsCurrent was.book permit) × IsSame was now)

@@ -37,5 +37,6 @@ IsClosing records task entry = (end : TaskEnd) × (coming_end records task ≡ S
 
 -- it was to come next in a claim
 abbrev pub IsClaimed : {K L : Type 0} {k : keeper.Ghosts K} {l : keeper.Ghosts L} → (K → Option (List (List ℕ))) → (K → ℕ) →
-    ℕ → ℕ → Site K L k l → Entry → Type 0
-IsClaimed bodies faults task worker was entry = IsNext (bodies_of bodies) (faults_of faults) task worker was.book entry
+    ℕ → ℕ → Site K L k l → Site K L k l → Entry → Type 0
+IsClaimed bodies faults task worker was now entry =
+    IsNext (bodies_of bodies) (faults_of faults) task worker was.book now.book entry

@@ -5,6 +5,7 @@ use Rattle.bosh_asks.specs.declared.fault.BookFault.TheVariants as book
 use Rattle.bosh_base.specs.declared.entry.Entry.{Entry}
 use Rattle.bosh_base.specs.declared.moves.Cause.{Cause}
 use Rattle.bosh_base.specs.declared.moves.Cause.TheVariants as causes
+use Rattle.bosh_book.specs.Claims as claims
 use Rattle.bosh_book.specs.Faults.{MayEnd}
 use Rattle.bosh_book.specs.Turns.{IsUpdate}
 use Rattle.bosh_ports.specs.Faults.{Rose}
@@ -13,7 +14,7 @@ use Rattle.bosh_world.specs.Faults.{cause_of}
 use Rattle.bosh_world.specs.Holds.{IsHeld}
 use Rattle.bosh_ports.specs.declared.keeper.Keeper as keeper
 use Rattle.bosh_world.specs.declared.site.Site.{Site}
-use Rattle.bosh_world.specs.Steps.{Notes}
+use Rattle.bosh_world.specs.Steps.{Notes, bodies_of}
 use Rattle.bosh_world.specs.declared.held.HeldCall.{HeldCall}
 use Rattle.bosh_world.specs.declared.fault.SiteFault.{SiteFault}
 use Rattle.bosh_world.specs.declared.fault.SiteFault.TheVariants.{Book, Memory}
@@ -48,12 +49,20 @@ IsBooks may (Book fault) = may fault
 IsBooks may Memory = Unit {0}
 IsBooks may fault = ⊥
 
--- a claim that is refused may have noted updates before
+-- turn by turn
+abbrev pub IsByTurns : {K L : Type 0} {k : keeper.Ghosts K} {l : keeper.Ghosts L} → (K → Option (List (List ℕ))) →
+    (K → ℕ) → ℕ → ℕ → Site K L k l → Site K L k l → Type 0
+IsByTurns bodies faults task worker was now =
+    (refusal : BookFault)
+    × claims.RefusesClaim (bodies_of bodies) (faults_of faults) task worker was.book refusal now.book
+
+-- a claim that is refused may have noted updates before, turn by turn
 abbrev pub RefusesClaim : {K L : Type 0} {k : keeper.Ghosts K} {l : keeper.Ghosts L} → (K → Option (List (List ℕ))) →
-    (K → ℕ) → Site K L k l → SiteFault →
+    (K → ℕ) → ℕ → ℕ → Site K L k l → SiteFault →
     Site K L k l → Type 0
-RefusesClaim bodies faults was fault now =
+RefusesClaim bodies faults task worker was fault now =
     (updates : List Entry) × All IsUpdate updates × Refuses bodies faults was updates fault now
+    × IsByTurns bodies faults task worker was now
 
 -- a call is not settled that is not held, or whose answer is not of its kind; or for a cause that any call may meet
 abbrev pub IsUnheld : {K L : Type 0} {k : keeper.Ghosts K} {l : keeper.Ghosts L} → Site K L k l → HeldCall → SiteFault → Type 0

@@ -12,7 +12,7 @@ use Rattle.bosh_book.specs.declared.book.Book.{Book}
 use Rattle.bosh_cloud.specs.CloudView.{CloudView}
 use Rattle.bosh_cloud.specs.Loading.{IsKept}
 use Rattle.bosh_cloud.specs.Notes.{SameFates}
-use Rattle.bosh_cloud.specs.Reads.{Reads}
+use Rattle.bosh_cloud.specs.Reads.{Reads, is_stale_after}
 use Rattle.bosh_cloud.specs.declared.fault.CloudFault.{CloudFault}
 use Rattle.bosh_moves.specs.Found.{kept_at, stop_of}
 use Rattle.bosh_moves.specs.Story.{effects_told, halts, kept_count}
@@ -57,8 +57,21 @@ pub record Rereads {L : Type 0}
     (bodies : L → Option (List (List ℕ))) (faults : L → ℕ) (was now : CloudView L) : Type 0 where
   pub reads : Reads bodies faults was.store (Ok now.effects) now.store
   pub whole : now.is_stale ≡ false
+  pub pending : now.pending ≡ None
   pub same_fates : SameFates was now
   pub kept : IsKept bodies was → IsKept bodies now
+
+-- The cloud's store was not read: what was done is as before, and what is pending; and the cloud is to be reloaded, unless it
+-- was not before and memory was short.
+pub record IsCloudUnread {L : Type 0}
+    (bodies : L → Option (List (List ℕ))) (faults : L → ℕ) (was : CloudView L) (fault : SiteFault) (now : CloudView L) :
+    Type 0 where
+  pub refusal : CloudFault
+  pub reads : Reads bodies faults was.store (Err refusal) now.store
+  pub told : fault ≡ of_cloud refusal
+  pub effects : now.effects ≡ was.effects
+  pub stale : now.is_stale ≡ is_stale_after {T = Unit {0}} (Err refusal) was.is_stale
+  pub pending : now.pending ≡ was.pending
 
 -- The director starts anew over its two stores, and no call is open.
 pub record Restarts {K L : Type 0} {k : keeper.Ghosts K} {l : keeper.Ghosts L}
@@ -98,8 +111,7 @@ abbrev pub IsUnread : {K L : Type 0} {k : keeper.Ghosts K} {l : keeper.Ghosts L}
     (L → Option (List (List ℕ))) → (L → ℕ) → Site K L k l → SiteFault → Site K L k l → Type 0
 IsUnread bodies faults is_broken cloud_bodies cloud_faults was fault now =
     ((fault ≡ Memory) × (now.cloud ≡ was.cloud) × (now.book ≡ was.book))
-    ⊎ (((refusal : CloudFault) × (Reads cloud_bodies cloud_faults was.cloud.store (Err refusal) now.cloud.store
-    × (fault ≡ of_cloud refusal)))
+    ⊎ (IsCloudUnread cloud_bodies cloud_faults was.cloud fault now.cloud × (now.book ≡ was.book)
     ⊎ (Rereads cloud_bodies cloud_faults was.cloud now.cloud
     × IsBookUnread bodies faults is_broken was.book fault now.book))
 

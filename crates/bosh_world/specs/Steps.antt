@@ -15,6 +15,7 @@ use Rattle.bosh_book.specs.Adds.{Adds}
 use Rattle.bosh_book.specs.Ends.{closing, coming_end, end_of}
 use Rattle.bosh_book.specs.Opens.{IsOpeningOf}
 use Rattle.bosh_book.specs.Claims as claims
+use Rattle.bosh_book.specs.Running.{is_full}
 use Rattle.bosh_book.specs.Turns.{Gives, IsUpdate}
 use Rattle.bosh_book.specs.declared.claim.Claim.{Claim}
 use Rattle.bosh_book.specs.declared.claim.Claim.TheVariants as given
@@ -103,7 +104,7 @@ abbrev pub entries_for : Added → Entry → List Entry
 entries_for New entry = entry ∷ []
 entries_for Same entry = []
 
--- Work of a task is claimed: updates are noted, and then what the answer says.
+-- Work of a task is claimed, of a book that has room: updates are noted, and then what the answer says.
 pub record Claims {K L : Type 0} {k : keeper.Ghosts K} {l : keeper.Ghosts L}
     (bodies : K → Option (List (List ℕ))) (faults : K → ℕ) (was : Site K L k l) (task worker : ℕ) (claim : Claim)
     (now : Site K L k l) : Type 0 where
@@ -113,6 +114,7 @@ pub record Claims {K L : Type 0} {k : keeper.Ghosts K} {l : keeper.Ghosts L}
   pub gives : Gives claim last
   pub notes : Notes bodies faults was (updates ++ last) None now
   pub by_turns : claims.Claims (bodies_of bodies) (faults_of faults) task worker was.book (Ok claim) now.book
+  pub has_room : is_full was.book ≡ false
 
 -- the open calls after a claim: one that was given can be performed
 abbrev pub calls_claimed : {F : Type 0} → Result Claim F → List OpenCall → List OpenCall

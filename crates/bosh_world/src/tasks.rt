@@ -45,9 +45,9 @@ impl<K: Keeper, L: Keeper> Site<K, L> {
         ensures claims { IfOk result (λ claim. Claims K.bodies K.faults self.old task worker claim self.new) }
         ensures calls { self.new.calls.unsettled ≡ calls_claimed result self.old.calls.unsettled }
         ensures performable { IfOk result (IsGiven self.new) }
-        ensures refused { IfErr result (λ fault. RefusesClaim K.bodies K.faults self.old fault self.new) }
+        ensures refused { IfErr result (λ fault. RefusesClaim K.bodies K.faults task worker self.old fault self.new) }
         ensures fault { IfErr result (IsBooks (IsClaimFault self.old.book self.new.book)) }
-        ensures pending { Pends self.old (IsClaimed K.bodies K.faults task worker self.old) self.new }
+        ensures pending { Pends self.old (IsClaimed K.bodies K.faults task worker self.old self.new) self.new }
         ensures grows { Extends (moves_of self.old) (moves_of self.new) }
         ensures silent { IsSilent self.old self.new }
     {
@@ -63,9 +63,9 @@ impl<K: Keeper, L: Keeper> Site<K, L> {
         ensures claims { IfOk result (λ claim. Claims K.bodies K.faults self.old task worker claim self.new) }
         ensures calls { self.new.calls.unsettled ≡ calls_claimed result self.old.calls.unsettled }
         ensures performable { IfOk result (IsGiven self.new) }
-        ensures refused { IfErr result (λ fault. RefusesClaim K.bodies K.faults self.old fault self.new) }
+        ensures refused { IfErr result (λ fault. RefusesClaim K.bodies K.faults task worker self.old fault self.new) }
         ensures fault { IfErr result (IsBooks (IsClaimFault self.old.book self.new.book)) }
-        ensures pending { Pends self.old (IsClaimed K.bodies K.faults task worker self.old) self.new }
+        ensures pending { Pends self.old (IsClaimed K.bodies K.faults task worker self.old self.new) self.new }
         ensures grows { Extends (moves_of self.old) (moves_of self.new) }
         ensures silent { IsSilent self.old self.new }
     {

@@ -1,9 +1,10 @@
 use Rattle.bosh_crew.proofs.CarryLemmas.{left_by}
 use Rattle.bosh_crew.specs.Carried.Reaches.{stays}
+use Rattle.bosh_crew.specs.declared.place.Place.TheVariants.{Empty}
 use Rattle.bosh_crew.proofs.driver.attend.Goals as goal
 
 pub returns-then-has_ended-clause-goes_round : goal.returns-then-has_ended-clause-goes_round
-returns-then-has_ended-clause-goes_round g c = λ tasks there left. (stays c.args.site.now, left)
+returns-then-has_ended-clause-goes_round g c = λ tasks there left. (stays c.args.site.now Empty, left)
 
 pub returns-in-Ok-clause-goes_round : goal.returns-in-Ok-clause-goes_round
 returns-in-Ok-clause-goes_round g c = λ tasks there left. (

@@ -5,6 +5,7 @@ use Rattle.std.proofs.lemmas.List.Elements.{All-more}
 use Rattle.bosh_crew.proofs.CarryLemmas.{reached_then, round_then, task_at}
 use Rattle.bosh_crew.specs.Carried.Reaches.{stays}
 use Rattle.bosh_crew.specs.Driven.{IsEnded}
+use Rattle.bosh_crew.specs.declared.place.Place.TheVariants.{Empty}
 use Rattle.bosh_moves.proofs.StoryLemmas.{extends_more}
 use Rattle.bosh_records.specs.declared.records.Records.{Records}
 use Rattle.bosh_world.specs.Silent.{moves_of}
@@ -15,7 +16,7 @@ loop-task-init g c = record {
   goes = search rules;
   silent = search rules;
   ended = search rules;
-  reaches = stays c.args.site.now;
+  reaches = stays c.args.site.now Empty;
   left = tt;
 }
 
@@ -35,7 +36,7 @@ loop-task-preserved g c =
           (c.loop-task.invariant.ended stood.0))
           (subst (λ (r : Records). IsEnded r (slice_index_or c.args.tasks.now c.loop-task.task-index 0)) (sym stood.1) stood.2);
       reaches = reached_then g.K.Keeper.bodies g.K.Keeper.faults g.L.Keeper.bodies g.L.Keeper.faults c.args.tasks.now 0 c.args.site.now
-          c.loop-task.site c.attend.new.site c.loop-task.invariant.reaches goes.0;
+          c.loop-task.site c.attend.new.site Empty Empty Empty c.loop-task.invariant.reaches goes.0;
       left = goes.1;
     }
 
@@ -43,7 +44,7 @@ pub returns-in-Err-clause-goes_round : goal.returns-in-Err-clause-goes_round
 returns-in-Err-clause-goes_round g c =
     let within : c.loop-task.task-index < length c.args.tasks.now = let t = c.loop-task-test.true in omega (arith, t) in
     round_then g.K.Keeper.bodies g.K.Keeper.faults g.L.Keeper.bodies g.L.Keeper.faults c.args.tasks.now 0 c.args.site.now c.loop-task.site
-    c.attend.new.site (Err c.in-Err.fault) c.loop-task.invariant.reaches
+    c.attend.new.site Empty Empty (Err c.in-Err.fault) c.loop-task.invariant.reaches
     (c.in-Err.ensures.goes_round c.args.tasks.now (task_at c.args.tasks.now c.loop-task.task-index within)
     c.loop-task.invariant.left)
 

@@ -1,8 +1,9 @@
-use Rattle.std.proofs.Common.{◌≡◌, subst}
+use Rattle.std.proofs.Common.{◌≡◌, refl, subst}
 use Rattle.bosh_book.specs.declared.claim.Claim.{Claim}
 use Rattle.bosh_crew.proofs.CarryLemmas.{over_then, stopped_at_once}
 use Rattle.bosh_crew.specs.Carried.{HasClaimed}
 use Rattle.bosh_crew.specs.Carried.Stops.{in_claim}
+use Rattle.bosh_crew.specs.declared.place.Place.TheVariants.{Empty}
 use Rattle.bosh_world.specs.Told.{IsGiven}
 use Rattle.bosh_crew.proofs.step.claim.Goals as goal
 
@@ -31,6 +32,6 @@ returns-in-Ok-Wait-clause-advances g c =
 pub returns-in-Err-clause-advances : goal.returns-in-Err-clause-advances
 returns-in-Err-clause-advances g c = λ tasks there.
     stopped_at_once g.K.Keeper.bodies g.K.Keeper.faults g.L.Keeper.bodies g.L.Keeper.faults tasks c.args.worker
-    c.args.site.now c.in-Err.fault c.claim.new.self
-    (in_claim c.args.task there c.in-Err.ensures.refused c.in-Err.ensures.fault c.in-Err.ensures.calls
+    c.args.site.now Empty c.in-Err.fault c.claim.new.self
+    (in_claim c.args.task refl there c.in-Err.ensures.refused c.in-Err.ensures.fault c.in-Err.ensures.calls
     c.in-Err.ensures.pending)

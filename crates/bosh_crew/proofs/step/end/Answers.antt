@@ -1,3 +1,4 @@
+use Rattle.std.proofs.Common.{refl}
 use Rattle.bosh_crew.specs.Carried.Stops.{in_end}
 use Rattle.bosh_crew.proofs.step.end.Goals as goal
 
@@ -6,5 +7,5 @@ returns-in-Ok-clause-ends g c = (c.in-Ok.field-0, c.in-Ok.ensures.ends, c.in-Ok.
 
 pub returns-clause-ends : goal.returns-clause-ends
 returns-clause-ends g c = λ tasks worker there.
-    in_end c.args.task there c.in-Err.ensures.refused c.in-Err.ensures.fault c.in-Err.ensures.calls
+    in_end c.args.task refl there c.in-Err.ensures.refused c.in-Err.ensures.fault c.in-Err.ensures.calls
     c.in-Err.ensures.pending

@@ -2,7 +2,8 @@ use Rattle.bosh_book.specs.Faults.{IsClaimFault}
 use Rattle.bosh_ports.specs.Rigged.{faults_of}
 use Rattle.bosh_world.proofs.CallLemmas.{books_told, claim_refused, claims_told, follows_at, given_told, not_stopped, site_stays}
 use Rattle.bosh_world.proofs.PendLemmas.{claims_as, pends_told}
-use Rattle.bosh_world.specs.Pending.{IsClaimed}
+use Rattle.bosh_book.specs.Claims.{IsNext}
+use Rattle.bosh_world.specs.Steps.{bodies_of}
 use Rattle.bosh_world.specs.Faults.{halt_of}
 use Rattle.bosh_world.proofs.site.Site.claim_reserved.Goals as goal
 
@@ -28,7 +29,7 @@ returns-clause-claims g c =
     })
     c.claim-claimed.ensures.notes
     (c.claim-claimed.ensures.claims (c.args.self.now.is_site.book_runs c.requires.running))
-    (c.claim-claimed.ensures.full (c.args.self.now.is_site.book_runs c.requires.running))
+    c.claim-claimed.ensures.room
     (follows_at c.args.self.now.history c.told.new.history c.claim-claimed.new.self.journal.entries c.entries.result.now
     c.args.self.now.cloud.effects c.effects.result.now (halt_of c.sprung.result c.claim-claimed.result) c.entries.ensures
     c.effects.ensures c.told.ensures.follows)
@@ -41,7 +42,7 @@ returns-clause-performable g c =
 
 pub returns-clause-refused : goal.returns-clause-refused
 returns-clause-refused g c =
-    claim_refused g.K.Keeper.bodies g.K.Keeper.faults c.args.self.now _ c.told.result c.claim-claimed.result c.sprung.result
+    claim_refused g.K.Keeper.bodies g.K.Keeper.faults c.args.self.now _ c.args.task c.args.worker c.told.result c.claim-claimed.result c.sprung.result
     c.told.ensures.answer
     (record {
       running = c.requires.running;
@@ -53,6 +54,7 @@ returns-clause-refused g c =
     c.sprung.ensures c.claim-claimed.ensures.notes c.claim-claimed.ensures.failed
     (not_stopped c.args.self.now.book (IsClaimFault c.args.self.now.book c.claim-claimed.new.self) c.claim-claimed.result
     (c.args.self.now.is_site.book_runs c.requires.running) (λ is. is) c.claim-claimed.ensures.fault)
+    c.claim-claimed.ensures.refused
     (follows_at c.args.self.now.history c.told.new.history c.claim-claimed.new.self.journal.entries c.entries.result.now
     c.args.self.now.cloud.effects c.effects.result.now (halt_of c.sprung.result c.claim-claimed.result) c.entries.ensures
     c.effects.ensures c.told.ensures.follows)
@@ -65,5 +67,6 @@ returns-clause-fault g c =
 pub returns-clause-pending : goal.returns-clause-pending
 returns-clause-pending g c =
     pends_told c.told.new.history.is_halted c.claim-claimed.new.self.journal
-    (IsClaimed g.K.Keeper.bodies g.K.Keeper.faults c.args.task c.args.worker c.args.self.now) c.sprung.result c.claim-claimed.result c.told.ensures.follows.halted
+    (IsNext (bodies_of g.K.Keeper.bodies) (faults_of g.K.Keeper.faults) c.args.task c.args.worker c.args.self.now.book
+    c.claim-claimed.new.self) c.sprung.result c.claim-claimed.result c.told.ensures.follows.halted
     (claims_as g.K.Keeper.bodies g.K.Keeper.faults c.args.task c.args.worker c.args.self.now c.claim-claimed.new.self c.claim-claimed.result c.claim-claimed.ensures.pending)

@@ -9,6 +9,7 @@ returns-in-Ok-clause-refused g c =
     (record {
       reads = c.in-Ok.ensures.reads;
       whole = c.in-Ok.ensures.stale;
+      pending = c.in-Ok.ensures.pending;
       same_fates = c.in-Ok.ensures.fates;
       kept = c.in-Ok.ensures.kept;
     })
@@ -17,7 +18,17 @@ returns-in-Ok-clause-refused g c =
 pub returns-in-Err-clause-refused : goal.returns-in-Err-clause-refused
 returns-in-Err-clause-refused g c =
     inr (
-      inr (inl (c.in-Err.fault, (c.in-Err.ensures.reads, c.of_cloud.ensures))),
+      inr (inl (
+        record {
+          refusal = c.in-Err.fault;
+          reads = c.in-Err.ensures.reads;
+          told = c.of_cloud.ensures;
+          effects = c.in-Err.ensures.refused;
+          stale = c.in-Err.ensures.stale;
+          pending = c.in-Err.ensures.pending;
+        },
+        refl,
+      )),
       record {
         same_history = refl;
         same_entries = refl;
