@@ -1,12 +1,12 @@
 ghost use Rattle.std.specs.Option.{option_map_or};
-ghost use Rattle.std.specs.Prelude.{◌≡◌, ◌++◌, ◌∷◌, [], Bool, IfOk, List, OnErr, OnOk};
+ghost use Rattle.std.specs.Prelude.{◌≡◌, ◌∷◌, [], Bool, IfOk, List, OnErr, OnOk};
 ghost use Rattle.bosh_answers.specs.Ends.{end_of, told_end};
 ghost use Rattle.bosh_base.specs.declared.entry.Entry.{Entry};
-ghost use Rattle.bosh_base.specs.declared.moves.Move.{Move};
 ghost use Rattle.bosh_director.specs.Left.{told_left};
-ghost use Rattle.bosh_director.specs.Silent.{AreSilent};
 ghost use Rattle.bosh_moves.specs.Replies.{replies_in};
 ghost use Rattle.bosh_records.specs.declared.records.Records.{Records};
+ghost use Rattle.bosh_transcript.specs.Past.{Continues, Past, Proceeds};
+ghost use Rattle.bosh_transcript.specs.Segments.{said_reply};
 
 use crate::{Left, Opened};
 use bosh_answers::{AnswerFault, Files};
@@ -16,10 +16,11 @@ use bosh_ports::Shelf;
 use bosh_release_files::File;
 use std::alloc::Global;
 
-/// One that carries out commands, and has a history of its moves. Only `say` notes a reply there.
+/// One that carries out commands, and has a history of its moves. Each call adds moves at its end, and `say` alone adds
+/// a reply.
 pub trait Director {
-    /// What was done so far.
-    ghost moves: { Self → List Move };
+    /// What has happened so far, and what was told of it.
+    ghost past: { Self → Past };
 
     /// The entries of its store.
     ghost entries: { Self → List Entry };
@@ -30,9 +31,10 @@ pub trait Director {
     /// Nothing more is done before a restart.
     ghost is_halted: { Self → Bool };
 
-    /// What was done so far.
+    /// What was told of what has happened so far: no reply is left out.
     fn moves(&self) -> &[Move]
-        ensures { result.now ≡ moves self.now };
+        ensures moves { result.now ≡ (past self.now).moves }
+        ensures replies { replies_in result.now ≡ replies_in (past self.now).story };
 
     /// The entries of its store, in order.
     fn entries(&self) -> &[Entry]
@@ -42,11 +44,10 @@ pub trait Director {
     fn is_halted(&self) -> bool
         ensures { result ≡ is_halted self.now };
 
-    /// Notes the reply of the command of a number.
+    /// Notes the reply of the command of a number. Where that is refused nothing has happened.
     fn say(&mut self, number: u32, reply: Reply) -> Result<(), AnswerFault>
-        ensures said { OnOk result (replies_in (moves self.new)
-            ≡ replies_in (moves self.old) ++ record { command = number; reply = reply } ∷ []) }
-        ensures silent { OnErr result (AreSilent (moves self.old) (moves self.new)) };
+        ensures said { OnOk result (Continues (past self.old) (said_reply number reply ∷ []) (past self.new)) }
+        ensures refused { OnErr result (Continues (past self.old) [] (past self.new)) };
 
     /// Carries out a command, and gives its reply.
     fn answer<F: Shelf>(
@@ -56,7 +57,7 @@ pub trait Director {
         files: &mut Files,
         shelf: &mut F,
     ) -> Result<Reply, AnswerFault>
-        ensures silent { AreSilent (moves self.old) (moves self.new) };
+        ensures proceeds { Proceeds (past self.old) (past self.new) };
 
     /// Opens the task of a request. One that opens none is refused.
     fn open<F: Shelf>(
@@ -66,11 +67,11 @@ pub trait Director {
         files: &Files,
         shelf: &mut F,
     ) -> Result<Opened, AnswerFault>
-        ensures silent { AreSilent (moves self.old) (moves self.new) };
+        ensures proceeds { Proceeds (past self.old) (past self.new) };
 
     /// Carries tasks to their ends.
     fn carry_out(&mut self, tasks: &[u64]) -> Result<Left, AnswerFault>
-        ensures silent { AreSilent (moves self.old) (moves self.new) };
+        ensures proceeds { Proceeds (past self.old) (past self.new) };
 
     /// How a task ended, or why it has no end.
     fn told(&self, alloc: Global, task: u64, left: Left) -> Result<Reply, AnswerFault>
@@ -79,7 +80,7 @@ pub trait Director {
 
     /// Uploads a stemcell.
     fn upload_stemcell(&mut self, alloc: Global, stemcell: &Stemcell) -> Result<Reply, AnswerFault>
-        ensures silent { AreSilent (moves self.old) (moves self.new) };
+        ensures proceeds { Proceeds (past self.old) (past self.new) };
 
     /// Uploads the release that files are.
     fn upload_files(
@@ -88,13 +89,13 @@ pub trait Director {
         files: &[File],
         version: &[u8],
     ) -> Result<Reply, AnswerFault>
-        ensures silent { AreSilent (moves self.old) (moves self.new) };
+        ensures proceeds { Proceeds (past self.old) (past self.new) };
 
     /// Sets the cloud config that a text is.
     fn set_config(&mut self, alloc: Global, text: &[u8]) -> Result<Reply, AnswerFault>
-        ensures silent { AreSilent (moves self.old) (moves self.new) };
+        ensures proceeds { Proceeds (past self.old) (past self.new) };
 
     /// Deploys the manifest that a text is.
     fn deploy_text(&mut self, alloc: Global, dep: &Name, text: &[u8]) -> Result<Reply, AnswerFault>
-        ensures silent { AreSilent (moves self.old) (moves self.new) };
+        ensures proceeds { Proceeds (past self.old) (past self.new) };
 }

@@ -1,30 +1,42 @@
 -- Commands whose tasks are opened one after the other.
-use Rattle.std.proofs.Common.{◌≡◌, ℕ, false, ◌||◌, Bool, List, [], ◌∷◌, ◌++◌, Option, Result, Ok, Err, IfErr, IfOk, OnOk, map, sym, ◌∙◌, ap, subst, append_assoc}
+use Rattle.std.proofs.Common.{◌≡◌, ℕ, false, ◌||◌, Bool, List, [], ◌∷◌, ◌++◌, Option, Result, Ok, Err, IfErr, IfOk, OnOk, inl, map, sym, ◌∙◌, ap, subst, append_assoc, append-nil}
 use Rattle.std.proofs.lemmas.List.{map-append, map-id}
 use Rattle.bosh_base.specs.declared.moves.Move.{Move}
-use Rattle.bosh_moves.specs.Replies.{replies_in}
-use Rattle.bosh_session.specs.Running.{number_of}
+use Rattle.bosh_session.specs.Running.{number_in, number_of}
 use Rattle.bosh_session.specs.declared.together.Running as running
-use Rattle.bosh_transcript.proofs.CarryLemmas.{answers_nothing, for_after}
-use Rattle.bosh_transcript.proofs.ShareLemmas.{one_answered, one_runs, shares_cut, shares_none, shares_then}
-use Rattle.bosh_transcript.specs.Carried.{AnswersFor, AnswersPart, AnswersSome}
-use Rattle.bosh_transcript.specs.Shared.{Shares, number_in}
+use Rattle.bosh_transcript.proofs.CarryLemmas.{answers_as, answers_cut, answers_none, answers_nothing, answers_still, answers_then}
+use Rattle.bosh_transcript.proofs.InTurnLemmas.{one_later}
+use Rattle.bosh_transcript.proofs.SegmentLemmas.{opened_cut, opened_none, opened_runs, opened_then, opened_told}
+use Rattle.bosh_transcript.specs.Carried.{Answers, AnswersUpTo}
+use Rattle.bosh_transcript.specs.Past.{Past, Proceeds}
+use Rattle.bosh_transcript.specs.Segments.{AreAnsweredUpTo, AreOpenedUpTo, AreTold, IsAnswered, OpensMore}
 use Rattle.bosh_transcript.specs.declared.numbered.Numbered as numbered
 use Rattle.bosh_transcript.specs.declared.status.Status.{Status}
 use Rattle.bosh_transcript.specs.declared.status.Status.TheVariants.{Memory}
 
 -- of all commands these were opened, and those are left
-pub record AreOpened {O : Type 0}
+pub record HaveOpened {O : Type 0}
     (written : O → Option (List ℕ)) (faults : O → ℕ) (all opened left : List numbered.Numbered)
-    (running_was running_now : List ℕ) (moves_was moves_now : List Move) (out_was out_now : O) (fails : Bool) : Type 0
+    (running_was running_now : List ℕ) (was now : Past) (out_was out_now : O) (fails : Bool) : Type 0
   where
-    pub shares : Shares written faults (map number_in opened) running_was running_now moves_was moves_now out_was out_now fails
+    pub opens : Answers written faults (OpensMore (map number_in opened) running_was running_now) was now out_was out_now fails
     pub split : opened ++ left ≡ all
 
-pub opened_none : {O : Type 0} (written : O → Option (List ℕ)) (faults : O → ℕ) (all left : List numbered.Numbered)
-    (running : List ℕ) (a : List Move) (o : O) → left ≡ all → AreOpened written faults all [] left running running a a o o false
-opened_none written faults all left running a o is = record {
-  shares = shares_none written faults running a o;
+none_more : (running : List ℕ) → OpensMore [] running running []
+none_more running = record { running = []; all_running = sym (append-nil running); opens = opened_none }
+
+more_then : (xs ys r0 r1 r2 : List ℕ) (a b : List Move) → OpensMore xs r0 r1 a → OpensMore ys r1 r2 b →
+    OpensMore (xs ++ ys) r0 r2 (a ++ b)
+more_then xs ys r0 r1 r2 a b x y = record {
+  running = x.running ++ y.running;
+  all_running = y.all_running ∙ ap (λ (l : List ℕ). l ++ y.running) x.all_running ∙ append_assoc r0 x.running y.running;
+  opens = opened_then xs ys x.running y.running a b x.opens y.opens;
+}
+
+pub opens_none : {O : Type 0} (written : O → Option (List ℕ)) (faults : O → ℕ) (all left : List numbered.Numbered)
+    (running : List ℕ) (a : Past) (o : O) → left ≡ all → HaveOpened written faults all [] left running running a a o o false
+opens_none written faults all left running a o is = record {
+  opens = answers_still written faults (OpensMore [] running running) a o (none_more running);
   split = is;
 }
 
@@ -34,78 +46,87 @@ split_more all opened left more it is split =
     append_assoc opened (it ∷ []) more ∙ sym (ap (λ (l : List numbered.Numbered). opened ++ l) is) ∙ split
 
 -- one more was
-pub opened_more : {O : Type 0} (written : O → Option (List ℕ)) (faults : O → ℕ) (all opened left more : List numbered.Numbered)
-    (it : numbered.Numbered) (r0 r1 r2 : List ℕ) (a b c : List Move) (o p q : O) (fails failed : Bool) → left ≡ it ∷ more →
-    AreOpened written faults all opened left r0 r1 a b o p fails →
-    Shares written faults (number_in it ∷ []) r1 r2 b c p q failed →
-    AreOpened written faults all (opened ++ it ∷ []) more r0 r2 a c o q (fails || failed)
-opened_more written faults all opened left more it r0 r1 r2 a b c o p q fails failed is x y = record {
-  shares = subst (λ (l : List ℕ). Shares written faults l r0 r2 a c o q (fails || failed))
+pub opens_more : {O : Type 0} (written : O → Option (List ℕ)) (faults : O → ℕ) (all opened left more : List numbered.Numbered)
+    (it : numbered.Numbered) (r0 r1 r2 : List ℕ) (a b c : Past) (o p q : O) (fails failed : Bool) → left ≡ it ∷ more →
+    HaveOpened written faults all opened left r0 r1 a b o p fails →
+    Answers written faults (OpensMore (number_in it ∷ []) r1 r2) b c p q failed →
+    HaveOpened written faults all (opened ++ it ∷ []) more r0 r2 a c o q (fails || failed)
+opens_more written faults all opened left more it r0 r1 r2 a b c o p q fails failed is x y = record {
+  opens = subst (λ (l : List ℕ). Answers written faults (OpensMore l r0 r2) a c o q (fails || failed))
       (sym (map-append number_in opened (it ∷ [])))
-      (shares_then written faults (map number_in opened) (number_in it ∷ []) r0 r1 r2 a b c o p q fails failed x.shares y);
+      (answers_then written faults (OpensMore (map number_in opened) r0 r1) (OpensMore (number_in it ∷ []) r1 r2)
+      (OpensMore (map number_in opened ++ number_in it ∷ []) r0 r2) a b c o p q fails failed x.opens y
+      (more_then (map number_in opened) (number_in it ∷ []) r0 r1 r2));
   split = split_more all opened left more it is x.split;
 }
 
 -- all were
-pub opened_all : {O : Type 0} (written : O → Option (List ℕ)) (faults : O → ℕ) (all opened left : List numbered.Numbered)
-    (r0 r1 : List ℕ) (a b : List Move) (o p : O) (fails : Bool) → map (λ (it : numbered.Numbered). it) opened ≡ all →
-    AreOpened written faults all opened left r0 r1 a b o p fails →
-    Shares written faults (map number_in all) r0 r1 a b o p fails
-opened_all written faults all opened left r0 r1 a b o p fails is x =
-    subst (λ (l : List numbered.Numbered). Shares written faults (map number_in l) r0 r1 a b o p fails)
-    (sym (map-id opened) ∙ is) x.shares
-
--- the tasks that ran before are counted with the commands
-shares_all : {O : Type 0} (written : O → Option (List ℕ)) (faults : O → ℕ) (xs r0 r1 : List ℕ) (a b : List Move) (o p : O)
-    (fails : Bool) → Shares written faults xs r0 r1 a b o p fails → Shares written faults (r0 ++ xs) [] r1 a b o p fails
-shares_all written faults xs r0 r1 a b o p fails x = record {
-  replies = x.replies;
-  due = x.due;
-  answers = x.answers;
-  tells = x.tells;
-}
+pub opens_all : {O : Type 0} (written : O → Option (List ℕ)) (faults : O → ℕ) (all opened left : List numbered.Numbered)
+    (r0 r1 : List ℕ) (a b : Past) (o p : O) (fails : Bool) → map (λ (it : numbered.Numbered). it) opened ≡ all →
+    HaveOpened written faults all opened left r0 r1 a b o p fails →
+    Answers written faults (OpensMore (map number_in all) r0 r1) a b o p fails
+opens_all written faults all opened left r0 r1 a b o p fails is x =
+    subst (λ (l : List numbered.Numbered). Answers written faults (OpensMore (map number_in l) r0 r1) a b o p fails)
+    (sym (map-id opened) ∙ is) x.opens
 
 -- an event came in one
-pub opened_cut : {O : Type 0} (written : O → Option (List ℕ)) (faults : O → ℕ) (all opened left more : List numbered.Numbered)
-    (it : numbered.Numbered) (r0 r1 : List ℕ) (a b c : List Move) (o p q : O) (fails : Bool) (status : Status) → left ≡ it ∷ more →
-    AreOpened written faults all opened left r0 r1 a b o p fails →
-    AnswersPart written faults (number_in it ∷ []) b c p q status →
-    AnswersSome written faults (r0 ++ map number_in all) a c o q status
-opened_cut written faults all opened left more it r0 r1 a b c o p q fails status is x y =
-    subst (λ (l : List ℕ). AnswersSome written faults l a c o q status)
-    (append_assoc r0 (map number_in opened) (number_in it ∷ map number_in more)
-    ∙ ap (λ (l : List ℕ). r0 ++ l) (sym (map-append number_in opened (it ∷ more))
-    ∙ ap (map number_in) (sym (ap (λ (l : List numbered.Numbered). opened ++ l) is) ∙ x.split)))
-    (shares_cut written faults (r0 ++ map number_in opened) (number_in it ∷ []) (map number_in more) r1 a b c o p q fails status
-    (shares_all written faults (map number_in opened) r0 r1 a b o p fails x.shares) y)
+pub opens_cut : {O : Type 0} (written : O → Option (List ℕ)) (faults : O → ℕ) (all opened left more : List numbered.Numbered)
+    (it : numbered.Numbered) (r0 r1 : List ℕ) (a b c : Past) (o p q : O) (fails : Bool) (status : Status) → left ≡ it ∷ more →
+    HaveOpened written faults all opened left r0 r1 a b o p fails →
+    AnswersUpTo written faults (AreAnsweredUpTo (number_in it ∷ [])) b c p q status →
+    AnswersUpTo written faults (AreOpenedUpTo (map number_in all)) a c o q status
+opens_cut written faults all opened left more it r0 r1 a b c o p q fails status is x y =
+    subst (λ (l : List ℕ). AnswersUpTo written faults (AreOpenedUpTo l) a c o q status)
+    (sym (map-append number_in opened (it ∷ more))
+    ∙ ap (map number_in) (sym (ap (λ (l : List numbered.Numbered). opened ++ l) is) ∙ x.split))
+    (answers_cut written faults (OpensMore (map number_in opened) r0 r1) (AreAnsweredUpTo (number_in it ∷ []))
+    (AreOpenedUpTo (map number_in opened ++ number_in it ∷ map number_in more)) a b c o p q fails status x.opens y
+    (λ xs ys first. opened_cut (map number_in opened) (map number_in more) first.running (number_in it) xs ys first.opens))
 
 -- one was answered at once
-pub one_told : {O : Type 0} (written : O → Option (List ℕ)) (faults : O → ℕ) (number : ℕ) (running : List ℕ) (a b c : List Move)
-    (o p : O) (result : Result Bool Status) → replies_in b ≡ replies_in a →
-    IfOk result (AnswersFor written faults (number ∷ []) b c o p) →
-    IfOk result (Shares written faults (number ∷ []) running running a c o p)
-one_told written faults number running a b c o p (Ok fails) silent x =
-    one_answered written faults number running a c o p fails
-    (for_after written faults (number ∷ []) a b c o p fails silent x)
-one_told written faults number running a b c o p (Err status) silent x = tt
+pub one_told : {O : Type 0} (written : O → Option (List ℕ)) (faults : O → ℕ) (number : ℕ) (running : List ℕ) (a b c : Past)
+    (o p : O) (result : Result Bool Status) → Proceeds a b →
+    IfOk result (Answers written faults (AreTold (number ∷ [])) b c o p) →
+    IfOk result (Answers written faults (OpensMore (number ∷ []) running running) a c o p)
+one_told written faults number running a b c o p result work x =
+    answers_as written faults (IsAnswered number) (OpensMore (number ∷ []) running running) a c o p result
+    (told_so number running) (one_later written faults number a b c o p result work x)
+  where
+    told_so : (n : ℕ) (r : List ℕ) (segment : List Move) → IsAnswered n segment → OpensMore (n ∷ []) r r segment
+    told_so n r segment one = record {
+      running = [];
+      all_running = sym (append-nil r);
+      opens = opened_told n segment one;
+    }
 
 -- the task of one was opened
 pub one_opened : {O : Type 0} (written : O → Option (List ℕ)) (faults : O → ℕ) (was now : List running.Running)
-    (it : running.Running) (a b : List Move) (o : O) (result : Result Bool Status) → replies_in b ≡ replies_in a →
+    (it : running.Running) (a b : Past) (o : O) (result : Result Bool Status) → Proceeds a b →
     OnOk result (now ≡ was ++ it ∷ []) → IfOk result (λ fails. fails ≡ false) →
-    IfOk result (Shares written faults (it.number ∷ []) (map number_of was) (map number_of now) a b o o)
-one_opened written faults was now it a b o (Ok fails) silent is good =
-    subst (λ (flag : Bool). Shares written faults (it.number ∷ []) (map number_of was) (map number_of now) a b o o flag)
+    IfOk result (Answers written faults (OpensMore (it.number ∷ []) (map number_of was) (map number_of now)) a b o o)
+one_opened written faults was now it a b o (Ok fails) work is good =
+    subst
+    (λ (flag : Bool). Answers written faults (OpensMore (it.number ∷ []) (map number_of was) (map number_of now)) a b o o flag)
     (sym good)
-    (one_runs written faults it.number (map number_of was) (map number_of now) a b o silent
-    (ap (map number_of) is ∙ map-append number_of was (it ∷ [])))
-one_opened written faults was now it a b o (Err status) silent is good = tt
+    (answers_none written faults (OpensMore (it.number ∷ []) (map number_of was) (map number_of now)) a b o work
+    (record {
+      running = it.number ∷ [];
+      all_running = ap (map number_of) is ∙ map-append number_of was (it ∷ []);
+      opens = opened_runs it.number work.segment work.silent;
+    }))
+one_opened written faults was now it a b o (Err status) work is good = tt
 
--- there was no memory for the task
-pub none_opened : {O : Type 0} (written : O → Option (List ℕ)) (faults : O → ℕ) (number : ℕ) (a b : List Move) (o : O)
-    (result : Result Bool Status) → replies_in b ≡ replies_in a → IfErr result (λ status. status ≡ Memory) →
-    IfErr result (AnswersPart written faults (number ∷ []) a b o o)
-none_opened written faults number a b o (Ok fails) silent memory = tt
-none_opened written faults number a b o (Err status) silent memory =
-    subst (λ (s : Status). AnswersPart written faults (number ∷ []) a b o o s) (sym memory)
-    (answers_nothing written faults (number ∷ []) a b o silent)
+-- there was no memory for the opening of a task
+pub lost_opening : {O : Type 0} (written : O → Option (List ℕ)) (faults : O → ℕ) (number : ℕ) (a b : Past) (o : O) →
+    Proceeds a b → AnswersUpTo written faults (AreAnsweredUpTo (number ∷ [])) a b o o Memory
+lost_opening written faults number a b o work =
+    answers_nothing written faults (AreAnsweredUpTo (number ∷ [])) a b o work (inl work.silent)
+
+-- .. or for the task
+pub none_opened : {O : Type 0} (written : O → Option (List ℕ)) (faults : O → ℕ) (number : ℕ) (a b : Past) (o : O)
+    (result : Result Bool Status) → Proceeds a b → IfErr result (λ status. status ≡ Memory) →
+    IfErr result (AnswersUpTo written faults (AreAnsweredUpTo (number ∷ [])) a b o o)
+none_opened written faults number a b o (Ok fails) work memory = tt
+none_opened written faults number a b o (Err status) work memory =
+    subst (λ (s : Status). AnswersUpTo written faults (AreAnsweredUpTo (number ∷ [])) a b o o s) (sym memory)
+    (lost_opening written faults number a b o work)

@@ -7,6 +7,7 @@ use Rattle.bosh_base.specs.declared.moves.Move.{Move}
 use Rattle.bosh_base.specs.declared.moves.Move.TheVariants as moves
 use Rattle.bosh_session.specs.declared.together.Placed as placed
 use Rattle.bosh_session.specs.declared.together.Running as running
+use Rattle.bosh_transcript.specs.declared.numbered.Numbered as numbered
 
 -- the move is a halt
 abbrev pub halt_of : Move → Option Cause
@@ -18,6 +19,10 @@ abbrev pub ended_by : Entry → Option ℕ
 ended_by (entries.TaskDone task) = Some task
 ended_by (entries.TaskError error) = Some error.task
 ended_by entry = None
+
+-- the number of a command that was read
+abbrev pub number_in : numbered.Numbered → ℕ
+number_in it = it.number
 
 -- the number of the command that opened a task
 abbrev pub number_of : running.Running → ℕ

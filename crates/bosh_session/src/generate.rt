@@ -1,7 +1,8 @@
 //! A large deployment is made from a number and deployed, as if by four commands.
 ghost use Rattle.std.specs.Prelude.{◌∷◌, ◌≤◌, [], IfErr, IfOk};
-ghost use Rattle.bosh_director.specs.Silent.{AreSilent};
-ghost use Rattle.bosh_transcript.specs.Carried.{AnswersFor, AnswersPart};
+ghost use Rattle.bosh_transcript.specs.Carried.{Answers, AnswersUpTo};
+ghost use Rattle.bosh_transcript.specs.Past.{Proceeds};
+ghost use Rattle.bosh_transcript.specs.Segments.{AreAnswered, AreAnsweredUpTo};
 
 use crate::session::{tell, tell_answer};
 use bosh_answers::AnswerFault;
@@ -39,10 +40,12 @@ pub(crate) fn generate<O: Sink, D: Director>(
     out: &mut O,
     director: &mut D,
 ) -> Result<bool, Status>
-    ensures answers { IfOk result (AnswersFor O.written O.faults (number ∷ number ∷ number ∷ number ∷ number ∷ [])
-        (D.moves director.old) (D.moves director.new) out.old out.new) }
-    ensures cut { IfErr result (AnswersPart O.written O.faults (number ∷ number ∷ number ∷ number ∷ number ∷ [])
-        (D.moves director.old) (D.moves director.new) out.old out.new) }
+    ensures answers { IfOk result (Answers O.written O.faults
+        (AreAnswered (number ∷ number ∷ number ∷ number ∷ number ∷ []))
+        (D.past director.old) (D.past director.new) out.old out.new) }
+    ensures cut { IfErr result (AnswersUpTo O.written O.faults
+        (AreAnsweredUpTo (number ∷ number ∷ number ∷ number ∷ number ∷ []))
+        (D.past director.old) (D.past director.new) out.old out.new) }
 {
     let fleet = Fleet {
         instances: instances.min(MOST_INSTANCES),
@@ -79,10 +82,10 @@ fn prepare<O: Sink, D: Director>(
     out: &mut O,
     director: &mut D,
 ) -> Result<bool, Status>
-    ensures answers { IfOk result (AnswersFor O.written O.faults (number ∷ number ∷ number ∷ [])
-        (D.moves director.old) (D.moves director.new) out.old out.new) }
-    ensures cut { IfErr result (AnswersPart O.written O.faults (number ∷ number ∷ number ∷ [])
-        (D.moves director.old) (D.moves director.new) out.old out.new) }
+    ensures answers { IfOk result (Answers O.written O.faults (AreAnswered (number ∷ number ∷ number ∷ []))
+        (D.past director.old) (D.past director.new) out.old out.new) }
+    ensures cut { IfErr result (AnswersUpTo O.written O.faults (AreAnsweredUpTo (number ∷ number ∷ number ∷ []))
+        (D.past director.old) (D.past director.new) out.old out.new) }
 {
     let stemcell = step_told(alloc, Step::Stemcell, number, out, director)?;
     let release = step_told(alloc, Step::Release, number, out, director)?;
@@ -98,17 +101,17 @@ fn step_told<O: Sink, D: Director>(
     out: &mut O,
     director: &mut D,
 ) -> Result<bool, Status>
-    ensures answers { IfOk result (AnswersFor O.written O.faults (number ∷ [])
-        (D.moves director.old) (D.moves director.new) out.old out.new) }
-    ensures cut { IfErr result (AnswersPart O.written O.faults (number ∷ [])
-        (D.moves director.old) (D.moves director.new) out.old out.new) }
+    ensures answers { IfOk result (Answers O.written O.faults (AreAnswered (number ∷ []))
+        (D.past director.old) (D.past director.new) out.old out.new) }
+    ensures cut { IfErr result (AnswersUpTo O.written O.faults (AreAnsweredUpTo (number ∷ []))
+        (D.past director.old) (D.past director.new) out.old out.new) }
 {
     let reply = take_step(alloc, step, director);
     tell_answer(alloc, number, reply, out, director)
 }
 
 fn take_step<D: Director>(alloc: Global, step: Step, director: &mut D) -> Result<Reply, AnswerFault>
-    ensures silent { AreSilent (D.moves director.old) (D.moves director.new) }
+    ensures proceeds { Proceeds (D.past director.old) (D.past director.new) }
 {
     match step {
         Step::Stemcell => add_stemcell(alloc, director),
@@ -134,7 +137,7 @@ fn stemcell(alloc: Global) -> Result<Stemcell, AnswerFault> {
 }
 
 fn add_stemcell<D: Director>(alloc: Global, director: &mut D) -> Result<Reply, AnswerFault>
-    ensures silent { AreSilent (D.moves director.old) (D.moves director.new) }
+    ensures proceeds { Proceeds (D.past director.old) (D.past director.new) }
 {
     match stemcell(alloc) {
         Ok(stemcell) => director.upload_stemcell(alloc, &stemcell),
@@ -143,14 +146,14 @@ fn add_stemcell<D: Director>(alloc: Global, director: &mut D) -> Result<Reply, A
 }
 
 fn add_release<D: Director>(alloc: Global, director: &mut D) -> Result<Reply, AnswerFault>
-    ensures silent { AreSilent (D.moves director.old) (D.moves director.new) }
+    ensures proceeds { Proceeds (D.past director.old) (D.past director.new) }
 {
     let files = release(alloc)?;
     director.upload_files(alloc, files.as_slice(), b"1")
 }
 
 fn deploy<D: Director>(alloc: Global, fleet: Fleet, director: &mut D) -> Result<Reply, AnswerFault>
-    ensures silent { AreSilent (D.moves director.old) (D.moves director.new) }
+    ensures proceeds { Proceeds (D.past director.old) (D.past director.new) }
 {
     let dep = name(alloc)?;
     let text = manifest(alloc, fleet.instances)?;

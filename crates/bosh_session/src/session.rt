@@ -1,12 +1,13 @@
-ghost use Rattle.std.specs.Prelude.{◌≡◌, ◌++◌, ◌∷◌, [], IfErr, IfOk, OnErr, OnOk};
-ghost use Rattle.bosh_director.specs.Silent.{AreSilent};
-ghost use Rattle.bosh_moves.specs.Replies.{replies_in};
+ghost use Rattle.std.specs.Prelude.{◌≡◌, ◌∷◌, [], IfErr, IfOk, OnErr, OnOk};
 ghost use Rattle.bosh_report.specs.Reply.{text_of};
-ghost use Rattle.bosh_transcript.specs.Carried.{AnswersFor, AnswersPart, Carries, CarriesUpTo};
+ghost use Rattle.bosh_transcript.specs.Carried.{Answers, AnswersUpTo, Carries, CarriesUpTo};
+ghost use Rattle.bosh_transcript.specs.Extents.{extent_of};
+ghost use Rattle.bosh_transcript.specs.Past.{Continues};
 ghost use Rattle.bosh_transcript.specs.Replies.{is_error};
+ghost use Rattle.bosh_transcript.specs.Segments.{AreAnswered, AreAnsweredUpTo, AreTold, AreToldUpTo, IsReply};
+ghost use Rattle.bosh_transcript.specs.Segments.{IsReplyUpTo, said_reply};
 ghost use Rattle.bosh_transcript.specs.Sessions.{IsSession};
 ghost use Rattle.bosh_transcript.specs.Status.{at_end};
-ghost use Rattle.bosh_transcript.specs.Turns.{extent_of};
 ghost use Rattle.bosh_transcript.specs.declared.status.Status.TheVariants as statuses;
 ghost use Rattle.bosh_transcript.specs.Writing.{WritesAll, WritesPart};
 
@@ -30,9 +31,8 @@ pub fn carry_out_all<I: Source, O: Sink, F: Shelf, D: Director>(
     shelf: &mut F,
     director: &mut D,
 ) -> Status
-    requires { replies_in (D.moves director.old) ≡ [] }
     ensures { IsSession I.left I.faults O.written O.faults source.old source.new out.old out.new result
-        (D.moves director.new) }
+        (D.past director.old) (D.past director.new) }
 {
     match carry_out_each(alloc, source, out, shelf, director) {
         Ok(false) => Status::Good,
@@ -49,11 +49,10 @@ fn carry_out_each<I: Source, O: Sink, F: Shelf, D: Director>(
     shelf: &mut F,
     director: &mut D,
 ) -> Result<bool, Status>
-    requires { replies_in (D.moves director.old) ≡ [] }
     ensures complete { IfOk result (λ fails. IsSession I.left I.faults O.written O.faults
-        source.old source.new out.old out.new (at_end fails) (D.moves director.new)) }
+        source.old source.new out.old out.new (at_end fails) (D.past director.old) (D.past director.new)) }
     ensures event { IfErr result (λ status. IsSession I.left I.faults O.written O.faults
-        source.old source.new out.old out.new status (D.moves director.new)) }
+        source.old source.new out.old out.new status (D.past director.old) (D.past director.new)) }
 {
     let mut input = Input::new(alloc)?;
     let mut files = Files::new(alloc);
@@ -80,10 +79,10 @@ fn carry_out<I: Source, O: Sink, F: Shelf, D: Director>(
 ) -> Result<bool, Status>
     requires { command.number ≡ input.old.reader.given }
     ensures carries { IfOk result (Carries I.left I.faults O.written O.faults (extent_of command.request.asked)
-        command.number input.old input.new source.old source.new (D.moves director.old) (D.moves director.new)
+        command.number input.old input.new source.old source.new (D.past director.old) (D.past director.new)
         out.old out.new) }
     ensures cut { IfErr result (CarriesUpTo I.left I.faults O.written O.faults (extent_of command.request.asked)
-        command.number input.old input.new source.old source.new (D.moves director.old) (D.moves director.new)
+        command.number input.old input.new source.old source.new (D.past director.old) (D.past director.new)
         out.old out.new) }
 {
     let Numbered { number, request } = command;
@@ -111,10 +110,10 @@ fn carry_out_one<O: Sink, F: Shelf, D: Director>(
     out: &mut O,
     director: &mut D,
 ) -> Result<bool, Status>
-    ensures answers { IfOk result (AnswersFor O.written O.faults (number ∷ [])
-        (D.moves director.old) (D.moves director.new) out.old out.new) }
-    ensures cut { IfErr result (AnswersPart O.written O.faults (number ∷ [])
-        (D.moves director.old) (D.moves director.new) out.old out.new) }
+    ensures answers { IfOk result (Answers O.written O.faults (AreAnswered (number ∷ []))
+        (D.past director.old) (D.past director.new) out.old out.new) }
+    ensures cut { IfErr result (AnswersUpTo O.written O.faults (AreAnsweredUpTo (number ∷ []))
+        (D.past director.old) (D.past director.new) out.old out.new) }
 {
     let reply = director.answer(alloc, request, files, shelf);
     tell_answer(alloc, number, reply, out, director)
@@ -128,10 +127,10 @@ pub(crate) fn tell_answer<O: Sink, D: Director>(
     out: &mut O,
     director: &mut D,
 ) -> Result<bool, Status>
-    ensures answers { IfOk result (AnswersFor O.written O.faults (number ∷ [])
-        (D.moves director.old) (D.moves director.new) out.old out.new) }
-    ensures cut { IfErr result (AnswersPart O.written O.faults (number ∷ [])
-        (D.moves director.old) (D.moves director.new) out.old out.new) }
+    ensures answers { IfOk result (Answers O.written O.faults (AreTold (number ∷ []))
+        (D.past director.old) (D.past director.new) out.old out.new) }
+    ensures cut { IfErr result (AnswersUpTo O.written O.faults (AreToldUpTo (number ∷ []))
+        (D.past director.old) (D.past director.new) out.old out.new) }
 {
     match reply {
         Ok(reply) => tell(alloc, number, reply, out, director),
@@ -157,13 +156,11 @@ pub(crate) fn tell<O: Sink, D: Director>(
     out: &mut O,
     director: &mut D,
 ) -> Result<bool, Status>
-    ensures answers { IfOk result (AnswersFor O.written O.faults (number ∷ [])
-        (D.moves director.old) (D.moves director.new) out.old out.new) }
-    ensures said { OnOk result (replies_in (D.moves director.new)
-        ≡ replies_in (D.moves director.old) ++ record { command = number; reply = reply } ∷ []) }
+    ensures answers { IfOk result (Answers O.written O.faults (IsReply number reply)
+        (D.past director.old) (D.past director.new) out.old out.new) }
     ensures fails { IfOk result (λ fails. fails ≡ is_error reply) }
-    ensures cut { IfErr result (AnswersPart O.written O.faults (number ∷ [])
-        (D.moves director.old) (D.moves director.new) out.old out.new) }
+    ensures cut { IfErr result (AnswersUpTo O.written O.faults (IsReplyUpTo number reply)
+        (D.past director.old) (D.past director.new) out.old out.new) }
 {
     let fails = is_error(&reply);
     match said(alloc, number, reply, director) {
@@ -192,9 +189,8 @@ fn said<D: Director>(
     director: &mut D,
 ) -> Result<Vec<u8>, AnswerFault>
     ensures text { IfOk result (λ text. text.items ≡ text_of reply) }
-    ensures said { OnOk result (replies_in (D.moves director.new)
-        ≡ replies_in (D.moves director.old) ++ record { command = number; reply = reply } ∷ []) }
-    ensures silent { OnErr result (AreSilent (D.moves director.old) (D.moves director.new)) }
+    ensures said { OnOk result (Continues (D.past director.old) (said_reply number reply ∷ []) (D.past director.new)) }
+    ensures refused { OnErr result (Continues (D.past director.old) [] (D.past director.new)) }
 {
     match say(alloc, &reply) {
         Ok(text) => noted(number, reply, text, director),
@@ -212,9 +208,8 @@ fn noted<D: Director>(
     director: &mut D,
 ) -> Result<Vec<u8>, AnswerFault>
     ensures text { IfOk result (λ noted. noted.items ≡ text.items) }
-    ensures said { OnOk result (replies_in (D.moves director.new)
-        ≡ replies_in (D.moves director.old) ++ record { command = number; reply = reply } ∷ []) }
-    ensures silent { OnErr result (AreSilent (D.moves director.old) (D.moves director.new)) }
+    ensures said { OnOk result (Continues (D.past director.old) (said_reply number reply ∷ []) (D.past director.new)) }
+    ensures refused { OnErr result (Continues (D.past director.old) [] (D.past director.new)) }
 {
     match director.say(number, reply) {
         Ok(()) => Ok(text),

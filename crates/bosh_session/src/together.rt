@@ -1,10 +1,11 @@
 //! Commands that are carried out at once: they are read first, their tasks are opened in order, and then run together.
 ghost use Rattle.std.specs.Prelude.{◌≡◌, ◌∷◌, ◌++◌, [], false, IfErr, IfOk, OnOk, map};
 ghost use Rattle.std.specs.List.Sorted.{IsPermutation};
-ghost use Rattle.bosh_transcript.specs.Shared.{Shares, number_in};
-ghost use Rattle.bosh_director.specs.Silent.{AreSilent};
-ghost use Rattle.bosh_session.specs.Running.{ended_by, halt_of, number_of, running_in};
-ghost use Rattle.bosh_transcript.specs.Carried.{AnswersAny, AnswersFor, AnswersPart, AnswersSome, Carries, CarriesUpTo};
+ghost use Rattle.bosh_session.specs.Running.{ended_by, halt_of, number_in, number_of, running_in};
+ghost use Rattle.bosh_transcript.specs.Carried.{Answers, AnswersUpTo, Carries, CarriesUpTo};
+ghost use Rattle.bosh_transcript.specs.Past.{Proceeds};
+ghost use Rattle.bosh_transcript.specs.Segments.{AreAnsweredUpTo, AreOpenedUpTo, AreRun, AreRunUpTo, AreTogether};
+ghost use Rattle.bosh_transcript.specs.Segments.{AreTogetherUpTo, AreTold, AreToldUpTo, OpensMore};
 ghost use Rattle.bosh_transcript.specs.declared.extent.Extent.TheVariants as extent;
 ghost use Rattle.bosh_transcript.specs.declared.status.Status.TheVariants.{Memory};
 
@@ -46,9 +47,9 @@ pub(crate) fn together<I: Source, O: Sink, F: Shelf, D: Director>(
 ) -> Result<bool, Status>
     requires { number ≡ input.old.reader.given }
     ensures carries { IfOk result (Carries I.left I.faults O.written O.faults (extent.Together count) number
-        input.old input.new source.old source.new (D.moves director.old) (D.moves director.new) out.old out.new) }
+        input.old input.new source.old source.new (D.past director.old) (D.past director.new) out.old out.new) }
     ensures cut { IfErr result (CarriesUpTo I.left I.faults O.written O.faults (extent.Together count) number
-        input.old input.new source.old source.new (D.moves director.old) (D.moves director.new) out.old out.new) }
+        input.old input.new source.old source.new (D.past director.old) (D.past director.new) out.old out.new) }
 {
     tell(alloc, number, Reply::Nothing, out, director)?;
     let commands = next_commands(alloc, count, input, source)?;
@@ -63,10 +64,10 @@ fn carry_out_commands<O: Sink, F: Shelf, D: Director>(
     out: &mut O,
     director: &mut D,
 ) -> Result<bool, Status>
-    ensures answers { IfOk result (AnswersAny O.written O.faults (map number_in commands.items)
-        (D.moves director.old) (D.moves director.new) out.old out.new) }
-    ensures cut { IfErr result (AnswersSome O.written O.faults (map number_in commands.items)
-        (D.moves director.old) (D.moves director.new) out.old out.new) }
+    ensures answers { IfOk result (Answers O.written O.faults (AreTogether (map number_in commands.items))
+        (D.past director.old) (D.past director.new) out.old out.new) }
+    ensures cut { IfErr result (AnswersUpTo O.written O.faults (AreTogetherUpTo (map number_in commands.items))
+        (D.past director.old) (D.past director.new) out.old out.new) }
 {
     let mut running = Vec::new(alloc);
     let failed = open_each(alloc, commands, &mut running, files, shelf, out, director)?;
@@ -84,12 +85,11 @@ fn open_each<O: Sink, F: Shelf, D: Director>(
     out: &mut O,
     director: &mut D,
 ) -> Result<bool, Status>
-    ensures shares { IfOk result (Shares O.written O.faults (map number_in commands.items)
-        (map number_of running.old.items) (map number_of running.new.items)
-        (D.moves director.old) (D.moves director.new) out.old out.new) }
-    ensures cut { IfErr result (AnswersSome O.written O.faults
-        (map number_of running.old.items ++ map number_in commands.items)
-        (D.moves director.old) (D.moves director.new) out.old out.new) }
+    ensures opens { IfOk result (Answers O.written O.faults (OpensMore (map number_in commands.items)
+        (map number_of running.old.items) (map number_of running.new.items))
+        (D.past director.old) (D.past director.new) out.old out.new) }
+    ensures cut { IfErr result (AnswersUpTo O.written O.faults (AreOpenedUpTo (map number_in commands.items))
+        (D.past director.old) (D.past director.new) out.old out.new) }
 {
     let mut fails = false;
     for command in commands {
@@ -108,11 +108,11 @@ fn open_one<O: Sink, F: Shelf, D: Director>(
     out: &mut O,
     director: &mut D,
 ) -> Result<bool, Status>
-    ensures shares { IfOk result (Shares O.written O.faults (command.number ∷ [])
-        (map number_of running.old.items) (map number_of running.new.items)
-        (D.moves director.old) (D.moves director.new) out.old out.new) }
-    ensures cut { IfErr result (AnswersPart O.written O.faults (command.number ∷ [])
-        (D.moves director.old) (D.moves director.new) out.old out.new) }
+    ensures opens { IfOk result (Answers O.written O.faults (OpensMore (command.number ∷ [])
+        (map number_of running.old.items) (map number_of running.new.items))
+        (D.past director.old) (D.past director.new) out.old out.new) }
+    ensures cut { IfErr result (AnswersUpTo O.written O.faults (AreAnsweredUpTo (command.number ∷ []))
+        (D.past director.old) (D.past director.new) out.old out.new) }
 {
     let Numbered { number, request } = command;
     match director.open(alloc, request, files, shelf) {
@@ -139,10 +139,10 @@ fn run<O: Sink, D: Director>(
     out: &mut O,
     director: &mut D,
 ) -> Result<bool, Status>
-    ensures answers { IfOk result (AnswersAny O.written O.faults (map number_of running.now)
-        (D.moves director.old) (D.moves director.new) out.old out.new) }
-    ensures cut { IfErr result (AnswersSome O.written O.faults (map number_of running.now)
-        (D.moves director.old) (D.moves director.new) out.old out.new) }
+    ensures answers { IfOk result (Answers O.written O.faults (AreRun (map number_of running.now))
+        (D.past director.old) (D.past director.new) out.old out.new) }
+    ensures cut { IfErr result (AnswersUpTo O.written O.faults (AreRunUpTo (map number_of running.now))
+        (D.past director.old) (D.past director.new) out.old out.new) }
 {
     let before = director.entries().len();
     let left = answered(run_all(alloc, running, director))?;
@@ -156,7 +156,7 @@ fn run_all<D: Director>(
     running: &[Running],
     director: &mut D,
 ) -> Result<Left, AnswerFault>
-    ensures silent { AreSilent (D.moves director.old) (D.moves director.new) }
+    ensures proceeds { Proceeds (D.past director.old) (D.past director.new) }
 {
     if director.is_halted() {
         return Ok(Left::Halted(last_halt(director.moves())));
@@ -267,10 +267,10 @@ fn tell_each<O: Sink, D: Director>(
     out: &mut O,
     director: &mut D,
 ) -> Result<bool, Status>
-    ensures answers { IfOk result (AnswersFor O.written O.faults (map number_of order.now)
-        (D.moves director.old) (D.moves director.new) out.old out.new) }
-    ensures cut { IfErr result (AnswersPart O.written O.faults (map number_of order.now)
-        (D.moves director.old) (D.moves director.new) out.old out.new) }
+    ensures answers { IfOk result (Answers O.written O.faults (AreTold (map number_of order.now))
+        (D.past director.old) (D.past director.new) out.old out.new) }
+    ensures cut { IfErr result (AnswersUpTo O.written O.faults (AreToldUpTo (map number_of order.now))
+        (D.past director.old) (D.past director.new) out.old out.new) }
 {
     let mut fails = false;
     for it in order {
@@ -287,10 +287,10 @@ fn tell_one<O: Sink, D: Director>(
     out: &mut O,
     director: &mut D,
 ) -> Result<bool, Status>
-    ensures answers { IfOk result (AnswersFor O.written O.faults (it.number ∷ [])
-        (D.moves director.old) (D.moves director.new) out.old out.new) }
-    ensures cut { IfErr result (AnswersPart O.written O.faults (it.number ∷ [])
-        (D.moves director.old) (D.moves director.new) out.old out.new) }
+    ensures answers { IfOk result (Answers O.written O.faults (AreTold (it.number ∷ []))
+        (D.past director.old) (D.past director.new) out.old out.new) }
+    ensures cut { IfErr result (AnswersUpTo O.written O.faults (AreToldUpTo (it.number ∷ []))
+        (D.past director.old) (D.past director.new) out.old out.new) }
 {
     let reply = director.told(alloc, it.task, left);
     tell_answer(alloc, it.number, reply, out, director)

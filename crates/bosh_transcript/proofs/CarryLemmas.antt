@@ -1,6 +1,5 @@
 -- Commands that are answered one after the other.
-use Rattle.std.proofs.Common.{◌≡◌, ℕ, ◌≤◌, Bool, true, false, ◌||◌, List, [], ◌∷◌, ◌++◌, Option, Some, inl, refl, sym, ap, ◌∙◌, subst, arith, append_assoc, append-nil}
-use Rattle.std.proofs.lemmas.List.Sorted.{IsPermutation-refl}
+use Rattle.std.proofs.Common.{◌≡◌, ℕ, ◌≤◌, Bool, true, false, ◌||◌, List, [], ◌∷◌, ◌++◌, Option, Some, Result, Ok, Err, IfOk, inl, refl, sym, ap, ◌∙◌, subst, arith, append-nil}
 use Rattle.bosh_base.specs.declared.moves.Move.{Move}
 use Rattle.bosh_base.specs.declared.moves.Said as said
 use Rattle.bosh_base.specs.declared.reply.Reply.{Reply}
@@ -8,13 +7,16 @@ use Rattle.bosh_input.specs.Ended.{View}
 use Rattle.bosh_ports.specs.Faults.{Rose}
 use Rattle.bosh_report.specs.Reply.{text_of}
 use Rattle.bosh_moves.specs.Replies.{replies_in}
+use Rattle.bosh_transcript.proofs.PastLemmas.{continues_none, continues_then}
 use Rattle.bosh_transcript.proofs.ReadLemmas.{on_none}
-use Rattle.bosh_transcript.proofs.ReplyLemmas.{answered_append, answers_none, answers_then, answers_up_to, error_append, writes_none}
-use Rattle.bosh_transcript.specs.Carried.{AnswersFor, AnswersPart, Carries, CarriesUpTo}
-use Rattle.bosh_transcript.specs.Replies.{answered_commands, has_error, is_error}
+use Rattle.bosh_transcript.proofs.ReplyLemmas.{broken_then, error_append, replies_append, writes_none, writes_then}
+use Rattle.bosh_transcript.specs.Carried.{Answers, AnswersUpTo, Carries, CarriesUpTo}
+use Rattle.bosh_transcript.specs.Extents.{most_others}
+use Rattle.bosh_transcript.specs.Past.{Continues, Past, Proceeds}
+use Rattle.bosh_transcript.specs.Replies.{has_error, is_error}
+use Rattle.bosh_transcript.specs.Segments.{IsCutSegment, IsSegment, said_reply}
 use Rattle.bosh_transcript.specs.Sessions.{IsBroken, IsEvent}
-use Rattle.bosh_transcript.specs.Turns.{due_later, most_others}
-use Rattle.bosh_transcript.specs.Writing.{WritesFront}
+use Rattle.bosh_transcript.specs.Writing.{Writes, WritesFront}
 use Rattle.bosh_transcript.specs.declared.extent.Extent.{Extent}
 use Rattle.bosh_transcript.specs.declared.status.Status.{Status}
 use Rattle.bosh_transcript.specs.declared.status.Status.TheVariants.{Good, Failed, Usage, Source, Sink, Memory, Limit, Unloaded}
@@ -24,137 +26,140 @@ or_false true = refl
 or_false false = refl
 
 -- a reply was noted, and its text written
-pub answers_one : {O : Type 0} (written : O → Option (List ℕ)) (faults : O → ℕ) (number : ℕ) (reply : Reply)
-    (a b : List Move) (o p : O) (fails : Bool) →
-    replies_in b ≡ replies_in a ++ record { command = number; reply = reply } ∷ [] →
+pub answers_one : {O : Type 0} (written : O → Option (List ℕ)) (faults : O → ℕ) (Is : List Move → Type 0) (number : ℕ)
+    (reply : Reply) (a b : Past) (o p : O) (fails : Bool) → Continues a (said_reply number reply ∷ []) b →
     ((was : List ℕ) → written o ≡ Some was → written p ≡ Some (was ++ text_of reply)) → faults o ≤ faults p →
-    fails ≡ is_error reply → AnswersFor written faults (number ∷ []) a b o p fails
-answers_one written faults number reply a b o p fails said texts count is = record {
-  replies = record { command = number; reply = reply } ∷ [];
-  due = refl;
-  answers = record {
-    said = said;
-    writes = record {
-      texts = λ was told. texts was told ∙ ap (λ (text : List ℕ). Some (was ++ text)) (sym (append-nil (text_of reply)));
-      count = count;
-    };
+    fails ≡ is_error reply → Is (said_reply number reply ∷ []) → Answers written faults Is a b o p fails
+answers_one written faults Is number reply a b o p fails said texts count same is = record {
+  segment = said_reply number reply ∷ [];
+  is = is;
+  continues = said;
+  writes = record {
+    texts = λ was told. texts was told ∙ ap (λ (text : List ℕ). Some (was ++ text)) (sym (append-nil (text_of reply)));
+    count = count;
   };
-  tells = or_false (is_error reply) ∙ sym is;
+  tells = or_false (is_error reply) ∙ sym same;
 }
 
 -- .. up to a failure of the output
-pub answers_front : {O : Type 0} (written : O → Option (List ℕ)) (faults : O → ℕ) (number : ℕ) (reply : Reply)
-    (a b : List Move) (o p : O) →
-    replies_in b ≡ replies_in a ++ record { command = number; reply = reply } ∷ [] →
+pub answers_front : {O : Type 0} (written : O → Option (List ℕ)) (faults : O → ℕ) (Is : List Move → Type 0) (number : ℕ)
+    (reply : Reply) (a b : Past) (o p : O) → Continues a (said_reply number reply ∷ []) b →
     ((was : List ℕ) → written o ≡ Some was → WritesFront was (text_of reply) (written p)) → Rose (faults o) (faults p) →
-    AnswersPart written faults (number ∷ []) a b o p Sink
-answers_front written faults number reply a b o p said texts count = record {
-  replies = record { command = number; reply = reply } ∷ [];
-  left = [];
-  due = refl;
-  answers = record {
-    said = said;
-    broken = record {
-      texts = λ was told.
-          subst (λ (text : List ℕ). WritesFront was text (written p)) (sym (append-nil (text_of reply))) (texts was told);
-      count = count;
-    };
+    Is (said_reply number reply ∷ []) → AnswersUpTo written faults Is a b o p Sink
+answers_front written faults Is number reply a b o p said texts count is = record {
+  segment = said_reply number reply ∷ [];
+  is = is;
+  continues = said;
+  broken = record {
+    texts = λ was told.
+        subst (λ (text : List ℕ). WritesFront was text (written p)) (sym (append-nil (text_of reply))) (texts was told);
+    count = count;
   };
 }
 
 -- memory ran out before an answer
-pub answers_nothing : {O : Type 0} (written : O → Option (List ℕ)) (faults : O → ℕ) (commands : List ℕ)
-    (a b : List Move) (o : O) → replies_in b ≡ replies_in a → AnswersPart written faults commands a b o o Memory
-answers_nothing written faults commands a b o silent = record {
-  replies = [];
-  left = commands;
-  due = refl;
-  answers = record { said = silent ∙ sym (append-nil (replies_in a)); broken = writes_none written faults o };
+pub answers_nothing : {O : Type 0} (written : O → Option (List ℕ)) (faults : O → ℕ) (Is : List Move → Type 0)
+    (a b : Past) (o : O) → (x : Proceeds a b) → Is x.segment → AnswersUpTo written faults Is a b o o Memory
+answers_nothing written faults Is a b o x is = record {
+  segment = x.segment;
+  is = is;
+  continues = x.continues;
+  broken = subst (λ (l : List said.Said). Writes written faults l o o) (sym x.silent) (writes_none written faults o);
 }
 
--- nothing is to be answered
-pub for_none : {O : Type 0} (written : O → Option (List ℕ)) (faults : O → ℕ) (a : List Move) (o : O) →
-    AnswersFor written faults [] a a o o false
-for_none written faults a o = record {
-  replies = [];
-  due = refl;
-  answers = answers_none written faults a a o refl;
-  tells = refl;
+-- nothing was done
+pub answers_none : {O : Type 0} (written : O → Option (List ℕ)) (faults : O → ℕ) (Is : List Move → Type 0) (a b : Past)
+    (o : O) → (x : Proceeds a b) → Is x.segment → Answers written faults Is a b o o false
+answers_none written faults Is a b o x is = record {
+  segment = x.segment;
+  is = is;
+  continues = x.continues;
+  writes = subst (λ (l : List said.Said). Writes written faults l o o) (sym x.silent) (writes_none written faults o);
+  tells = ap has_error x.silent;
 }
 
--- nothing was said before
-pub for_after : {O : Type 0} (written : O → Option (List ℕ)) (faults : O → ℕ) (commands : List ℕ) (a b c : List Move)
-    (o p : O) (fails : Bool) → replies_in b ≡ replies_in a → AnswersFor written faults commands b c o p fails →
-    AnswersFor written faults commands a c o p fails
-for_after written faults commands a b c o p fails silent x = record {
-  replies = x.replies;
-  due = x.due;
-  answers = answers_then written faults [] x.replies a b c o o p (answers_none written faults a b o silent) x.answers;
+-- .. and there is none
+pub answers_still : {O : Type 0} (written : O → Option (List ℕ)) (faults : O → ℕ) (Is : List Move → Type 0) (a : Past)
+    (o : O) → Is [] → Answers written faults Is a a o o false
+answers_still written faults Is a o is =
+    answers_none written faults Is a a o (record { segment = []; continues = continues_none a; silent = refl }) is
+
+-- memory ran out before anything was done
+pub answers_lost : {O : Type 0} (written : O → Option (List ℕ)) (faults : O → ℕ) (Is : List Move → Type 0) (a : Past)
+    (o : O) → Is [] → AnswersUpTo written faults Is a a o o Memory
+answers_lost written faults Is a o is =
+    answers_nothing written faults Is a a o (record { segment = []; continues = continues_none a; silent = refl }) is
+
+-- further moves have come
+pub answers_then : {O : Type 0} (written : O → Option (List ℕ)) (faults : O → ℕ) (Is Are All : List Move → Type 0)
+    (a b c : Past) (o p q : O) (fails failed : Bool) → Answers written faults Is a b o p fails →
+    Answers written faults Are b c p q failed →
+    ((xs ys : List Move) → Is xs → Are ys → All (xs ++ ys)) → Answers written faults All a c o q (fails || failed)
+answers_then written faults Is Are All a b c o p q fails failed x y joins = record {
+  segment = x.segment ++ y.segment;
+  is = joins x.segment y.segment x.is y.is;
+  continues = continues_then a b c x.segment y.segment x.continues y.continues;
+  writes = subst (λ (l : List said.Said). Writes written faults l o q) (sym (replies_append x.segment y.segment))
+      (writes_then written faults (replies_in x.segment) (replies_in y.segment) o p q x.writes y.writes);
+  tells = ap has_error (replies_append x.segment y.segment) ∙ error_append (replies_in x.segment) (replies_in y.segment)
+      ∙ ap (λ (flag : Bool). flag || has_error (replies_in y.segment)) x.tells
+      ∙ ap (λ (flag : Bool). fails || flag) y.tells;
+}
+
+-- .. up to an event
+pub answers_cut : {O : Type 0} (written : O → Option (List ℕ)) (faults : O → ℕ) (Is Are All : List Move → Type 0)
+    (a b c : Past) (o p q : O) (fails : Bool) (status : Status) → Answers written faults Is a b o p fails →
+    AnswersUpTo written faults Are b c p q status →
+    ((xs ys : List Move) → Is xs → Are ys → All (xs ++ ys)) → AnswersUpTo written faults All a c o q status
+answers_cut written faults Is Are All a b c o p q fails status x y joins = record {
+  segment = x.segment ++ y.segment;
+  is = joins x.segment y.segment x.is y.is;
+  continues = continues_then a b c x.segment y.segment x.continues y.continues;
+  broken = subst (λ (l : List said.Said). IsBroken written faults status l o q) (sym (replies_append x.segment y.segment))
+      (broken_then written faults status (replies_in x.segment) (replies_in y.segment) o p q x.writes y.broken);
+}
+
+-- moves of one kind are of another
+pub answers_as : {O : Type 0} (written : O → Option (List ℕ)) (faults : O → ℕ) (Is Are : List Move → Type 0) (a b : Past)
+    (o p : O) (result : Result Bool Status) → ((xs : List Move) → Is xs → Are xs) →
+    IfOk result (Answers written faults Is a b o p) → IfOk result (Answers written faults Are a b o p)
+answers_as written faults Is Are a b o p (Ok fails) turns x = record {
+  segment = x.segment;
+  is = turns x.segment x.is;
+  continues = x.continues;
+  writes = x.writes;
   tells = x.tells;
 }
+answers_as written faults Is Are a b o p (Err status) turns x = tt
 
-pub part_after : {O : Type 0} (written : O → Option (List ℕ)) (faults : O → ℕ) (commands : List ℕ) (a b c : List Move)
-    (o p : O) (status : Status) → replies_in b ≡ replies_in a → AnswersPart written faults commands b c o p status →
-    AnswersPart written faults commands a c o p status
-part_after written faults commands a b c o p status silent x = record {
-  replies = x.replies;
-  left = x.left;
-  due = x.due;
-  answers = answers_up_to written faults status [] x.replies a b c o o p (answers_none written faults a b o silent) x.answers;
-}
-
--- further commands were answered
-pub for_then : {O : Type 0} (written : O → Option (List ℕ)) (faults : O → ℕ) (xs ys : List ℕ) (a b c : List Move)
-    (o p q : O) (fails failed : Bool) → AnswersFor written faults xs a b o p fails →
-    AnswersFor written faults ys b c p q failed → AnswersFor written faults (xs ++ ys) a c o q (fails || failed)
-for_then written faults xs ys a b c o p q fails failed x y = record {
-  replies = x.replies ++ y.replies;
-  due = answered_append x.replies y.replies ∙ ap (λ (l : List ℕ). l ++ answered_commands y.replies) x.due ∙ ap (λ (l : List ℕ). xs ++ l) y.due;
-  answers = answers_then written faults x.replies y.replies a b c o p q x.answers y.answers;
-  tells = error_append x.replies y.replies ∙ ap (λ (flag : Bool). flag || has_error y.replies) x.tells ∙ ap (λ (flag : Bool). fails || flag) y.tells;
-}
-
-pub part_then : {O : Type 0} (written : O → Option (List ℕ)) (faults : O → ℕ) (xs ys : List ℕ) (a b c : List Move)
-    (o p q : O) (fails : Bool) (status : Status) → AnswersFor written faults xs a b o p fails →
-    AnswersPart written faults ys b c p q status → AnswersPart written faults (xs ++ ys) a c o q status
-part_then written faults xs ys a b c o p q fails status x y = record {
-  replies = x.replies ++ y.replies;
-  left = y.left;
-  due = ap (λ (l : List ℕ). l ++ y.left) (answered_append x.replies y.replies)
-      ∙ append_assoc (answered_commands x.replies) (answered_commands y.replies) y.left
-      ∙ ap (λ (l : List ℕ). answered_commands x.replies ++ l) y.due
-      ∙ ap (λ (l : List ℕ). l ++ ys) x.due;
-  answers = answers_up_to written faults status x.replies y.replies a b c o p q x.answers y.answers;
-}
-
--- an event came before further commands
-pub part_first : {O : Type 0} (written : O → Option (List ℕ)) (faults : O → ℕ) (xs ys : List ℕ) (a b : List Move)
-    (o p : O) (status : Status) → AnswersPart written faults xs a b o p status →
-    AnswersPart written faults (xs ++ ys) a b o p status
-part_first written faults xs ys a b o p status x = record {
-  replies = x.replies;
-  left = x.left ++ ys;
-  due = sym (append_assoc (answered_commands x.replies) x.left ys) ∙ ap (λ (l : List ℕ). l ++ ys) x.due;
-  answers = x.answers;
+-- .. up to an event
+pub cut_as : {O : Type 0} (written : O → Option (List ℕ)) (faults : O → ℕ) (Is Are : List Move → Type 0) (a b : Past)
+    (o p : O) (status : Status) → ((xs : List Move) → Is xs → Are xs) →
+    AnswersUpTo written faults Is a b o p status → AnswersUpTo written faults Are a b o p status
+cut_as written faults Is Are a b o p status turns x = record {
+  segment = x.segment;
+  is = turns x.segment x.is;
+  continues = x.continues;
+  broken = x.broken;
 }
 
 -- ---- a command that carries out no others
 
 pub carries_alone : {I O : Type 0} (left : I → Option (List ℕ)) (read_faults : I → ℕ) (written : O → Option (List ℕ))
-    (write_faults : O → ℕ) (kind : Extent) (number : ℕ) (input : View) (s : I) (a b : List Move) (o p : O) (fails : Bool) →
-    most_others kind ≡ 0 → AnswersFor written write_faults (number ∷ due_later kind number 0) a b o p fails →
+    (write_faults : O → ℕ) (kind : Extent) (number : ℕ) (input : View) (s : I) (a b : Past) (o p : O) (fails : Bool) →
+    most_others kind ≡ 0 → Answers written write_faults (IsSegment kind number 0) a b o p fails →
     Carries left read_faults written write_faults kind number input input s s a b o p fails
 carries_alone left read_faults written write_faults kind number input s a b o p fails alone x = record {
   others = [];
-  replies = x.replies;
-  done = record {
-    few = omega arith;
-    due = record { later = due_later kind number 0; first = x.due; each = IsPermutation-refl (due_later kind number 0) };
-  };
   full = inl (sym alone);
   reads = on_none left read_faults input s;
-  answers = x.answers;
-  tells = x.tells;
+  answers = record {
+    segment = x.segment;
+    is = record { few = omega arith; moves = x.is };
+    continues = x.continues;
+    writes = x.writes;
+    tells = x.tells;
+  };
 }
 
 pub broken_event : {O : Type 0} (written : O → Option (List ℕ)) (faults : O → ℕ) (status : Status) (input : View)
@@ -170,18 +175,14 @@ broken_event written faults Limit input replies o p broken = absurd broken
 broken_event written faults Unloaded input replies o p broken = absurd broken
 
 pub alone_up_to : {I O : Type 0} (left : I → Option (List ℕ)) (read_faults : I → ℕ) (written : O → Option (List ℕ))
-    (write_faults : O → ℕ) (kind : Extent) (number : ℕ) (input : View) (s : I) (a b : List Move) (o p : O)
-    (status : Status) → AnswersPart written write_faults (number ∷ due_later kind number 0) a b o p status →
+    (write_faults : O → ℕ) (kind : Extent) (number : ℕ) (input : View) (s : I) (a b : Past) (o p : O)
+    (status : Status) → AnswersUpTo written write_faults (IsCutSegment kind number 0) a b o p status →
     CarriesUpTo left read_faults written write_faults kind number input input s s a b o p status
 alone_up_to left read_faults written write_faults kind number input s a b o p status x = record {
   others = [];
-  replies = x.replies;
-  cut = record {
-    few = omega arith;
-    left = x.left;
-    due = record { later = due_later kind number 0; first = x.due; each = IsPermutation-refl (due_later kind number 0) };
-  };
   reads = on_none left read_faults input s;
-  said = x.answers.said;
-  event = broken_event written write_faults status input x.replies o p x.answers.broken;
+  segment = x.segment;
+  cut = record { few = omega arith; moves = x.is };
+  continues = x.continues;
+  event = broken_event written write_faults status input (replies_in x.segment) o p x.broken;
 }

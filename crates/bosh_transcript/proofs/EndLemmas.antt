@@ -9,13 +9,15 @@ use Rattle.bosh_input.specs.declared.fault.InputFault.TheVariants as fault
 use Rattle.bosh_input.specs.declared.input.Ended.TheVariants.{Whole, Stopped}
 use Rattle.bosh_input.specs.declared.request.Request as request
 use Rattle.bosh_moves.specs.Replies.{replies_in}
+use Rattle.bosh_transcript.proofs.PastLemmas.{continues_none, continues_then}
 use Rattle.bosh_transcript.proofs.ReadLemmas.{read_none}
-use Rattle.bosh_transcript.proofs.ReplyLemmas.{broken_then, writes_none, writes_then}
+use Rattle.bosh_transcript.proofs.ReplyLemmas.{broken_then, replies_append, writes_none, writes_then}
 use Rattle.bosh_transcript.proofs.WayLemmas.{IsUnderWay, turn_of}
 use Rattle.bosh_transcript.specs.Carried.{CarriesUpTo}
+use Rattle.bosh_transcript.specs.Past.{Continues, Past}
 use Rattle.bosh_transcript.specs.Reading.{AreRead, no_bytes}
 use Rattle.bosh_transcript.specs.Replies.{has_error}
-use Rattle.bosh_transcript.specs.Sessions.{IsEnd, IsEvent, IsSession, replies_of, requests_of}
+use Rattle.bosh_transcript.specs.Sessions.{IsEnd, IsEvent, IsSession, moves_of, requests_of}
 use Rattle.bosh_transcript.specs.Status.{at_end, of_input}
 use Rattle.bosh_transcript.specs.Turns.{IsCutTurn, IsFull, Turn, extent_in}
 use Rattle.bosh_transcript.specs.Writing.{Writes}
@@ -24,9 +26,9 @@ use Rattle.bosh_transcript.specs.declared.status.Status.TheVariants.{Good, Faile
 
 -- memory ran out before the first command
 pub over_before : {I O : Type 0} (left : I → Option (List ℕ)) (read_faults : I → ℕ) (written : O → Option (List ℕ))
-    (write_faults : O → ℕ) (source : I) (out : O) (moves : List Move) → replies_in moves ≡ [] →
-    IsSession left read_faults written write_faults source source out out Memory moves
-over_before left read_faults written write_faults source out moves silent =
+    (write_faults : O → ℕ) (source : I) (out : O) (past : Past) →
+    IsSession left read_faults written write_faults source source out out Memory past past
+over_before left read_faults written write_faults source out past =
     let input : View = record { reader = record { front = no_bytes; at = 0; given = 0 }; ended = None } in
     record {
       input = input;
@@ -36,7 +38,7 @@ over_before left read_faults written write_faults source out moves silent =
       are_turns = tt;
       full = inl (All-nil IsFull);
       cut_off = tt;
-      replies = silent;
+      continues = continues_none past;
       ended = writes_none written write_faults out;
     }
 
@@ -48,11 +50,11 @@ end_of written faults false input replies a b over fails writes = (over, refl, f
 
 -- the input has no further command
 pub over_at_end : {I O : Type 0} (left : I → Option (List ℕ)) (read_faults : I → ℕ) (written : O → Option (List ℕ))
-    (write_faults : O → ℕ) (source_before s t : I) (out_before o : O) (a b : View) (moves : List Move) (fails : Bool) →
-    (way : IsUnderWay left read_faults written write_faults source_before s out_before o a moves fails) →
+    (write_faults : O → ℕ) (source_before s t : I) (out_before o : O) (a b : View) (before past : Past) (fails : Bool) →
+    (way : IsUnderWay left read_faults written write_faults source_before s out_before o a before past fails) →
     AreRead left read_faults source_before t b (requests_of way.turns) → b.ended ≡ Some Whole →
-    IsSession left read_faults written write_faults source_before t out_before o (at_end fails) moves
-over_at_end left read_faults written write_faults source_before s t out_before o a b moves fails way read over = record {
+    IsSession left read_faults written write_faults source_before t out_before o (at_end fails) before past
+over_at_end left read_faults written write_faults source_before s t out_before o a b before past fails way read over = record {
   input = b;
   turns = way.turns;
   cut = [];
@@ -61,12 +63,12 @@ over_at_end left read_faults written write_faults source_before s t out_before o
   are_turns = way.are_turns;
   full = inr over;
   cut_off = tt;
-  replies = way.replies ∙ sym (append-nil (replies_of way.turns));
+  continues = subst (λ (l : List Move). Continues before l past) (sym (append-nil (moves_of way.turns))) way.continues;
   ended =
-      let all : replies_of way.turns ≡ replies_of way.turns ++ [] = sym (append-nil (replies_of way.turns)) in
-      end_of written write_faults fails b (replies_of way.turns ++ []) out_before o over
-      (ap has_error (sym all) ∙ way.fails_so)
-      (subst (λ (replies : List said.Said). Writes written write_faults replies out_before o) all way.writes);
+      let all : moves_of way.turns ≡ moves_of way.turns ++ [] = sym (append-nil (moves_of way.turns)) in
+      end_of written write_faults fails b (replies_in (moves_of way.turns ++ [])) out_before o over
+      (ap (λ (l : List Move). has_error (replies_in l)) (sym all) ∙ way.fails_so)
+      (subst (λ (l : List Move). Writes written write_faults (replies_in l) out_before o) all way.writes);
 }
 
 event_end : {O : Type 0} (written : O → Option (List ℕ)) (faults : O → ℕ) (status : Status) (input : View)
@@ -90,12 +92,12 @@ input_event written faults fault.Memory input replies a b over writes = writes
 
 -- an event of the input ends the session between two commands
 pub over_by_event : {I O : Type 0} (left : I → Option (List ℕ)) (read_faults : I → ℕ) (written : O → Option (List ℕ))
-    (write_faults : O → ℕ) (source_before s t : I) (out_before o : O) (a b : View) (moves : List Move) (fails : Bool)
+    (write_faults : O → ℕ) (source_before s t : I) (out_before o : O) (a b : View) (before past : Past) (fails : Bool)
     (fault : InputFault) →
-    (way : IsUnderWay left read_faults written write_faults source_before s out_before o a moves fails) →
+    (way : IsUnderWay left read_faults written write_faults source_before s out_before o a before past fails) →
     AreRead left read_faults source_before t b (requests_of way.turns) → b.ended ≡ Some (Stopped fault) →
-    (a.ended ≡ Some Whole → ⊥) → IsSession left read_faults written write_faults source_before t out_before o (of_input fault) moves
-over_by_event left read_faults written write_faults source_before s t out_before o a b moves fails fault way read over live = record {
+    (a.ended ≡ Some Whole → ⊥) → IsSession left read_faults written write_faults source_before t out_before o (of_input fault) before past
+over_by_event left read_faults written write_faults source_before s t out_before o a b before past fails fault way read over live = record {
   input = b;
   turns = way.turns;
   cut = [];
@@ -104,12 +106,12 @@ over_by_event left read_faults written write_faults source_before s t out_before
   are_turns = way.are_turns;
   full = elim way.full [ inl all ↦ inl all | inr whole ↦ absurd (live whole) ];
   cut_off = tt;
-  replies = way.replies ∙ sym (append-nil (replies_of way.turns));
+  continues = subst (λ (l : List Move). Continues before l past) (sym (append-nil (moves_of way.turns))) way.continues;
   ended =
-      event_end written write_faults (of_input fault) b [] (replies_of way.turns ++ []) out_before o
-      (input_event written write_faults fault b (replies_of way.turns ++ []) out_before o over
-      (subst (λ (replies : List said.Said). Writes written write_faults replies out_before o)
-      (sym (append-nil (replies_of way.turns))) way.writes));
+      event_end written write_faults (of_input fault) b [] (replies_in (moves_of way.turns ++ [])) out_before o
+      (input_event written write_faults fault b (replies_in (moves_of way.turns ++ [])) out_before o over
+      (subst (λ (l : List Move). Writes written write_faults (replies_in l) out_before o)
+      (sym (append-nil (moves_of way.turns))) way.writes));
 }
 
 event_then : {O : Type 0} (written : O → Option (List ℕ)) (faults : O → ℕ) (status : Status) (input : View)
@@ -127,17 +129,18 @@ event_then written faults Unloaded input xs ys a b c x y = broken_then written f
 -- an event cuts a command off
 pub over_in_turn : {I O : Type 0} (left : I → Option (List ℕ)) (read_faults : I → ℕ) (written : O → Option (List ℕ))
     (write_faults : O → ℕ) (source_before s t u : I) (out_before o p : O) (a b c : View) (command : request.Request)
-    (moves after : List Move) (fails : Bool) (status : Status) →
-    (way : IsUnderWay left read_faults written write_faults source_before s out_before o a moves fails) →
+    (before past after : Past) (fails : Bool) (status : Status) →
+    (way : IsUnderWay left read_faults written write_faults source_before s out_before o a before past fails) →
     a.ended ≡ None → b.reader.given ≡ a.reader.given + 1 →
     AreRead left read_faults source_before t b (requests_of way.turns ++ command ∷ []) →
-    CarriesUpTo left read_faults written write_faults (extent_in (turn_of command [] [])) b.reader.given b c t u moves after o p status →
-    IsSession left read_faults written write_faults source_before u out_before p status after
-over_in_turn {I} {O} left read_faults written write_faults source_before s t u out_before o p a b c command moves after fails status way live next read x =
-    let turn : Turn = turn_of command x.others x.replies in
+    CarriesUpTo left read_faults written write_faults (extent_in (turn_of command [] [])) b.reader.given b c t u past after
+    o p status →
+    IsSession left read_faults written write_faults source_before u out_before p status before after
+over_in_turn {I} {O} left read_faults written write_faults source_before s t u out_before o p a b c command before past after fails status way live next read x =
+    let turn : Turn = turn_of command x.others x.segment in
     let given : a.reader.given ≡ length (requests_of way.turns) = (way.reads.goes_on live).1 in
     let number : b.reader.given ≡ length (requests_of way.turns) + 1 = omega (arith, next, given) in
-    let said_so : replies_of (turn ∷ []) ≡ x.replies = append-nil x.replies in
+    let last : moves_of (turn ∷ []) ≡ x.segment = append-nil x.segment in
     record {
       input = c;
       turns = way.turns;
@@ -149,11 +152,13 @@ over_in_turn {I} {O} left read_faults written write_faults source_before s t u o
       are_turns = way.are_turns;
       full = elim way.full [ inl all ↦ inl all | inr whole ↦ absurd (let no : ⊥ = cc in no) ];
       cut_off = subst (λ (k : ℕ). IsCutTurn k turn) number x.cut;
-      replies = x.said
-          ∙ ap (λ (before : List said.Said). before ++ x.replies) way.replies
-          ∙ ap (λ (more : List said.Said). replies_of way.turns ++ more) (sym said_so);
-      ended = event_end written write_faults status c (turn ∷ []) (replies_of way.turns ++ replies_of (turn ∷ [])) out_before p
-          (subst (λ (more : List said.Said). IsEvent written write_faults status c (replies_of way.turns ++ more) out_before p)
-          (sym said_so)
-          (event_then written write_faults status c (replies_of way.turns) x.replies out_before o p way.writes x.event));
+      continues = subst (λ (l : List Move). Continues before (moves_of way.turns ++ l) after) (sym last)
+          (continues_then before past after (moves_of way.turns) x.segment way.continues x.continues);
+      ended = event_end written write_faults status c (turn ∷ []) (replies_in (moves_of way.turns ++ moves_of (turn ∷ [])))
+          out_before p
+          (subst (λ (l : List said.Said). IsEvent written write_faults status c l out_before p)
+          (sym (replies_append (moves_of way.turns) x.segment)
+          ∙ ap (λ (l : List Move). replies_in (moves_of way.turns ++ l)) (sym last))
+          (event_then written write_faults status c (replies_in (moves_of way.turns)) (replies_in x.segment) out_before o p
+          way.writes x.event));
     }

@@ -1,8 +1,11 @@
 pub mod CarryLemmas
+pub mod DueLemmas
 pub mod EndLemmas
+pub mod InTurnLemmas
+pub mod PastLemmas
 pub mod ReadLemmas
 pub mod ReplyLemmas
-pub mod ShareLemmas
+pub mod SegmentLemmas
 pub mod TogetherLemmas
 pub mod TurnLemmas
 pub mod WayLemmas

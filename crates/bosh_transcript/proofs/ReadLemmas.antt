@@ -15,7 +15,7 @@ use Rattle.bosh_transcript.proofs.ReplyLemmas.{rose_since}
 use Rattle.bosh_transcript.proofs.TurnLemmas.{numbers_more}
 use Rattle.bosh_transcript.specs.Carried.{EndsReading, IsReadingEvent, ReadsOn, ReadsWhole, StopsReading, TakesNext, TakesOthers}
 use Rattle.bosh_transcript.specs.Status.{of_input}
-use Rattle.bosh_transcript.specs.Turns.{numbers}
+use Rattle.bosh_transcript.specs.Extents.{numbers}
 use Rattle.bosh_transcript.specs.declared.numbered.Numbered as numbered
 use Rattle.bosh_transcript.specs.declared.status.Status.{Status}
 use Rattle.bosh_transcript.specs.declared.status.Status.TheVariants.{Memory}

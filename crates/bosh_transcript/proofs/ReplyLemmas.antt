@@ -10,7 +10,6 @@ use Rattle.bosh_base.specs.declared.moves.Said as said
 use Rattle.bosh_ports.specs.Faults.{Rose}
 use Rattle.bosh_report.specs.Reply.{text_of}
 use Rattle.bosh_moves.specs.Replies.{replies_in, reply_of}
-use Rattle.bosh_transcript.specs.Carried.{Answers, AnswersUpTo}
 use Rattle.bosh_transcript.specs.Replies.{answered_commands, has_error, is_bad, transcript}
 use Rattle.bosh_transcript.specs.Sessions.{IsBroken}
 use Rattle.bosh_transcript.specs.Writing.{Writes, WritesFront, WritesUpTo}
@@ -81,35 +80,6 @@ broken_then written faults Usage xs ys a b c x y = absurd y
 broken_then written faults Source xs ys a b c x y = absurd y
 broken_then written faults Limit xs ys a b c x y = absurd y
 broken_then written faults Unloaded xs ys a b c x y = absurd y
-
-said_then : (xs ys : List said.Said) (a b c : List Move) → replies_in b ≡ replies_in a ++ xs →
-    replies_in c ≡ replies_in b ++ ys → replies_in c ≡ replies_in a ++ (xs ++ ys)
-said_then xs ys a b c x y =
-    y ∙ ap (λ (before : List said.Said). before ++ ys) x ∙ append_assoc (replies_in a) xs ys
-
--- nothing was said
-pub answers_none : {O : Type 0} (written : O → Option (List ℕ)) (faults : O → ℕ) (a b : List Move) (out : O) →
-    replies_in b ≡ replies_in a → Answers written faults [] a b out out
-answers_none written faults a b out same = record {
-  said = same ∙ sym (append-nil (replies_in a));
-  writes = writes_none written faults out;
-}
-
-pub answers_then : {O : Type 0} (written : O → Option (List ℕ)) (faults : O → ℕ) (xs ys : List said.Said)
-    (a b c : List Move) (o p q : O) → Answers written faults xs a b o p → Answers written faults ys b c p q →
-    Answers written faults (xs ++ ys) a c o q
-answers_then written faults xs ys a b c o p q x y = record {
-  said = said_then xs ys a b c x.said y.said;
-  writes = writes_then written faults xs ys o p q x.writes y.writes;
-}
-
-pub answers_up_to : {O : Type 0} (written : O → Option (List ℕ)) (faults : O → ℕ) (status : Status)
-    (xs ys : List said.Said) (a b c : List Move) (o p q : O) → Answers written faults xs a b o p →
-    AnswersUpTo written faults status ys b c p q → AnswersUpTo written faults status (xs ++ ys) a c o q
-answers_up_to written faults status xs ys a b c o p q x y = record {
-  said = said_then xs ys a b c x.said y.said;
-  broken = broken_then written faults status xs ys o p q x.writes y.broken;
-}
 
 -- what holds of an event holds of the answer that passes it on
 pub event_passed : {T : Type 0} (P : Status → Type 0) (answer : Result T Status) (event : Status) →

@@ -1,8 +1,9 @@
 -- Turns that are carried out one after the other.
 use Rattle.std.proofs.Common.{◌≡◌, ℕ, zero, suc, ◌+◌, List, [], ◌∷◌, ◌++◌, length, ap, ◌∙◌, subst, arith, length-append}
 use Rattle.std.proofs.lemmas.Grind.{flat_map-append}
+use Rattle.bosh_transcript.specs.Extents.{numbers}
 use Rattle.bosh_transcript.specs.Sessions.{requests_of}
-use Rattle.bosh_transcript.specs.Turns.{AreTurns, IsTurn, Turn, commands_of, numbers}
+use Rattle.bosh_transcript.specs.Turns.{AreTurns, IsTurn, Turn, commands_of}
 
 -- one more number
 pub numbers_more : (from count : ℕ) → numbers from (count + 1) ≡ numbers from count ++ (from + count) ∷ []

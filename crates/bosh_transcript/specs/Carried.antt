@@ -1,21 +1,21 @@
 -- What carrying out one command does.
 use Rattle.std.specs.Prelude.{◌≡◌, ◌⊎◌, ℕ, ◌+◌, ◌≤◌, Bool, List, [], ◌∷◌, ◌++◌, length, map, Option, Some, None}
-use Rattle.std.specs.List.Sorted.{IsPermutation}
 use Rattle.bosh_base.specs.declared.moves.Move.{Move}
-use Rattle.bosh_base.specs.declared.moves.Said as said
 use Rattle.bosh_input.specs.Ended.{View, bounded_request}
 use Rattle.bosh_input.specs.declared.fault.InputFault.{InputFault}
 use Rattle.bosh_input.specs.declared.fault.InputFault.TheVariants as fault
 use Rattle.bosh_input.specs.declared.input.Ended.TheVariants.{Whole, Stopped}
 use Rattle.bosh_input.specs.declared.request.Request as request
 use Rattle.bosh_moves.specs.Replies.{replies_in}
+use Rattle.bosh_transcript.specs.Extents.{most_others, numbers}
+use Rattle.bosh_transcript.specs.Past.{Continues, Past}
 use Rattle.bosh_transcript.specs.Reading.{AreRead}
-use Rattle.bosh_transcript.specs.Replies.{answered_commands, has_error}
+use Rattle.bosh_transcript.specs.Replies.{has_error}
 use Rattle.bosh_transcript.specs.Sessions.{IsBroken, IsEvent}
 use Rattle.bosh_transcript.specs.declared.extent.Extent.{Extent}
 use Rattle.bosh_transcript.specs.declared.numbered.Numbered as numbered
 use Rattle.bosh_transcript.specs.Status.{of_input}
-use Rattle.bosh_transcript.specs.Turns.{IsCut, IsDone, most_others, numbers}
+use Rattle.bosh_transcript.specs.Turns.{IsCut, IsDone}
 use Rattle.bosh_transcript.specs.Writing.{Writes}
 use Rattle.bosh_transcript.specs.declared.status.Status.{Status}
 use Rattle.bosh_transcript.specs.declared.status.Status.TheVariants.{Source, Memory, Limit}
@@ -81,77 +81,43 @@ pub record EndsReading {I : Type 0}
   pub reads : ReadsOn left faults input_was input_now was now others
   pub event : IsReadingEvent status input_now
 
--- commands were answered, and the texts written
+-- Moves of a kind have come, and the texts of their replies were written; `fails` tells whether a reply is an error.
 pub record Answers {O : Type 0}
-    (written : O → Option (List ℕ)) (faults : O → ℕ) (replies : List said.Said) (moves_was moves_now : List Move)
-    (out_was out_now : O) : Type 0 where
-  pub said : replies_in moves_now ≡ replies_in moves_was ++ replies
-  pub writes : Writes written faults replies out_was out_now
+    (written : O → Option (List ℕ)) (faults : O → ℕ) (Is : List Move → Type 0) (was now : Past) (out_was out_now : O)
+    (fails : Bool) : Type 0 where
+  pub segment : List Move
+  pub is : Is segment
+  pub continues : Continues was segment now
+  pub writes : Writes written faults (replies_in segment) out_was out_now
+  pub tells : has_error (replies_in segment) ≡ fails
 
 -- .. up to an event
 pub record AnswersUpTo {O : Type 0}
-    (written : O → Option (List ℕ)) (faults : O → ℕ) (status : Status) (replies : List said.Said)
-    (moves_was moves_now : List Move) (out_was out_now : O) : Type 0 where
-  pub said : replies_in moves_now ≡ replies_in moves_was ++ replies
-  pub broken : IsBroken written faults status replies out_was out_now
-
--- these commands were answered, in order; `fails` tells whether a reply is an error
-pub record AnswersFor {O : Type 0}
-    (written : O → Option (List ℕ)) (faults : O → ℕ) (commands : List ℕ) (moves_was moves_now : List Move)
-    (out_was out_now : O) (fails : Bool) : Type 0 where
-  pub replies : List said.Said
-  pub due : answered_commands replies ≡ commands
-  pub answers : Answers written faults replies moves_was moves_now out_was out_now
-  pub tells : has_error replies ≡ fails
-
--- .. up to an event
-pub record AnswersPart {O : Type 0}
-    (written : O → Option (List ℕ)) (faults : O → ℕ) (commands : List ℕ) (moves_was moves_now : List Move)
-    (out_was out_now : O) (status : Status) : Type 0 where
-  pub replies : List said.Said
-  pub left : List ℕ
-  pub due : answered_commands replies ++ left ≡ commands
-  pub answers : AnswersUpTo written faults status replies moves_was moves_now out_was out_now
+    (written : O → Option (List ℕ)) (faults : O → ℕ) (Is : List Move → Type 0) (was now : Past) (out_was out_now : O)
+    (status : Status) : Type 0 where
+  pub segment : List Move
+  pub is : Is segment
+  pub continues : Continues was segment now
+  pub broken : IsBroken written faults status (replies_in segment) out_was out_now
 
 -- A command of a number was carried out, with those that were read for it; `fails` tells whether a reply is an error.
 pub record Carries {I O : Type 0}
     (left : I → Option (List ℕ)) (read_faults : I → ℕ) (written : O → Option (List ℕ)) (write_faults : O → ℕ)
     (extent : Extent) (number : ℕ) (input_was input_now : View) (was now : I)
-    (moves_was moves_now : List Move) (out_was out_now : O) (fails : Bool) : Type 0 where
+    (past_was past_now : Past) (out_was out_now : O) (fails : Bool) : Type 0 where
   pub others : List request.Request
-  pub replies : List said.Said
-  pub done : IsDone extent number others replies
   pub full : (length others ≡ most_others extent) ⊎ (input_now.ended ≡ Some Whole)
   pub reads : ReadsOn left read_faults input_was input_now was now others
-  pub answers : Answers written write_faults replies moves_was moves_now out_was out_now
-  pub tells : has_error replies ≡ fails
+  pub answers : Answers written write_faults (IsDone extent number others) past_was past_now out_was out_now fails
 
 -- .. up to an event
 pub record CarriesUpTo {I O : Type 0}
     (left : I → Option (List ℕ)) (read_faults : I → ℕ) (written : O → Option (List ℕ)) (write_faults : O → ℕ)
     (extent : Extent) (number : ℕ) (input_was input_now : View) (was now : I)
-    (moves_was moves_now : List Move) (out_was out_now : O) (status : Status) : Type 0 where
+    (past_was past_now : Past) (out_was out_now : O) (status : Status) : Type 0 where
   pub others : List request.Request
-  pub replies : List said.Said
-  pub cut : IsCut extent number others replies
   pub reads : ReadsOn left read_faults input_was input_now was now others
-  pub said : replies_in moves_now ≡ replies_in moves_was ++ replies
-  pub event : IsEvent written write_faults status input_now replies out_was out_now
-
--- commands were answered in some order
-pub record AnswersAny {O : Type 0}
-    (written : O → Option (List ℕ)) (faults : O → ℕ) (commands : List ℕ) (moves_was moves_now : List Move)
-    (out_was out_now : O) (fails : Bool) : Type 0 where
-  pub replies : List said.Said
-  pub due : IsPermutation (answered_commands replies) commands
-  pub answers : Answers written faults replies moves_was moves_now out_was out_now
-  pub tells : has_error replies ≡ fails
-
--- .. up to an event
-pub record AnswersSome {O : Type 0}
-    (written : O → Option (List ℕ)) (faults : O → ℕ) (commands : List ℕ) (moves_was moves_now : List Move)
-    (out_was out_now : O) (status : Status) : Type 0 where
-  pub replies : List said.Said
-  pub left : List ℕ
-  pub due : IsPermutation (answered_commands replies ++ left) commands
-  pub answers : AnswersUpTo written faults status replies moves_was moves_now out_was out_now
+  pub segment : List Move
+  pub cut : IsCut extent number others segment
+  pub continues : Continues past_was segment past_now
+  pub event : IsEvent written write_faults status input_now (replies_in segment) out_was out_now

@@ -1,8 +1,10 @@
 pub mod Carried
+pub mod Extents
+pub mod Past
 pub mod Reading
 pub mod Replies
+pub mod Segments
 pub mod Sessions
-pub mod Shared
 pub mod Status
 pub mod Turns
 pub mod Writing

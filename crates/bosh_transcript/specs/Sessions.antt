@@ -8,6 +8,7 @@ use Rattle.bosh_input.specs.declared.fault.InputFault.TheVariants as fault
 use Rattle.bosh_input.specs.declared.input.Ended.TheVariants.{Whole, Stopped}
 use Rattle.bosh_input.specs.declared.request.Request as request
 use Rattle.bosh_moves.specs.Replies.{replies_in}
+use Rattle.bosh_transcript.specs.Past.{Continues, Past}
 use Rattle.bosh_transcript.specs.Reading.{AreRead}
 use Rattle.bosh_transcript.specs.Replies.{has_error}
 use Rattle.bosh_transcript.specs.Turns.{AreTurns, IsCutTurn, IsFull, Turn, commands_of}
@@ -18,8 +19,9 @@ use Rattle.bosh_transcript.specs.declared.status.Status.TheVariants.{Good, Faile
 abbrev pub requests_of : List Turn → List request.Request
 requests_of turns = flat_map commands_of turns
 
-abbrev pub replies_of : List Turn → List said.Said
-replies_of turns = flat_map (λ turn. turn.replies) turns
+-- their moves, one turn after the other
+abbrev pub moves_of : List Turn → List Move
+moves_of turns = flat_map (λ turn. turn.segment) turns
 
 -- a turn was cut off, or none was
 abbrev pub IsCutOff : ℕ → List Turn → Type 0
@@ -50,11 +52,12 @@ IsEnd written faults Failed input cut replies before after =
     (input.ended ≡ Some Whole) × (cut ≡ []) × (has_error replies ≡ true) × Writes written faults replies before after
 IsEnd written faults status input cut replies before after = IsEvent written faults status input replies before after
 
--- A session over a source and an output, and the moves of its site. The commands were read in order, and each turn was
--- carried out in its turn, but for what an event cut off.
+-- A session over a source and an output, and what happened to its director in it. The commands were read in order, and
+-- each turn was carried out in its turn, but for what an event cut off; nothing was done but their moves.
 pub record IsSession {I O : Type 0}
     (left : I → Option (List ℕ)) (read_faults : I → ℕ) (written : O → Option (List ℕ)) (write_faults : O → ℕ)
-    (source_before source_after : I) (out_before out_after : O) (status : Status) (moves : List Move) : Type 0 where
+    (source_before source_after : I) (out_before out_after : O) (status : Status) (past_before past_after : Past) :
+    Type 0 where
   pub input : View
   pub turns : List Turn
   pub cut : List Turn
@@ -62,5 +65,5 @@ pub record IsSession {I O : Type 0}
   pub are_turns : AreTurns 0 turns
   pub full : All IsFull turns ⊎ (input.ended ≡ Some Whole)
   pub cut_off : IsCutOff (length (requests_of turns) + 1) cut
-  pub replies : replies_in moves ≡ replies_of turns ++ replies_of cut
-  pub ended : IsEnd written write_faults status input cut (replies_of turns ++ replies_of cut) out_before out_after
+  pub continues : Continues past_before (moves_of turns ++ moves_of cut) past_after
+  pub ended : IsEnd written write_faults status input cut (replies_in (moves_of turns ++ moves_of cut)) out_before out_after

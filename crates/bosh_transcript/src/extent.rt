@@ -1,5 +1,5 @@
 ghost use Rattle.std.specs.Prelude.{◌≡◌};
-ghost use Rattle.bosh_transcript.specs.Turns.{extent_of};
+ghost use Rattle.bosh_transcript.specs.Extents.{extent_of};
 
 use bosh_lines::{Command, LineFault};
 

@@ -6,7 +6,7 @@ use Rattle.bosh_session.proofs.session.carry_out_each.Given as goal
 abbrev pub invariant-loop-files : goal.invariant-loop-files
 invariant-loop-files g l =
     IsUnderWay g.I.Source.left g.I.Source.faults g.O.Sink.written g.O.Sink.faults l.fn.source l.source l.fn.out l.out l.input
-    (g.D.Director.moves l.director) l.fails
+    (g.D.Director.past l.fn.director) (g.D.Director.past l.director) l.fails
 
 -- each turn takes a command, and a session takes no more than 200
 abbrev pub decreases-loop-files : goal.decreases-loop-files
