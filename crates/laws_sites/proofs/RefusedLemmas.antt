@@ -24,7 +24,7 @@ use Rattle.bosh_history.specs.Permitted.{may_take}
 use Rattle.bosh_ports.specs.Rigged.{RigState}
 use Rattle.bosh_ports.specs.declared.keeper.Keeper as keeper
 use Rattle.bosh_records.specs.Readers.{call_at}
-use Rattle.bosh_world.specs.Abandons.{Abandons}
+use Rattle.bosh_world.specs.Abandons.{Abandons, GivesUp}
 use Rattle.bosh_world.specs.Performing as world
 use Rattle.bosh_world.specs.Told.{IsPerformable, story_of}
 use Rattle.bosh_world.specs.declared.fault.SiteFault.{SiteFault}
@@ -168,8 +168,11 @@ module _ {K L : Type 0} {k : keeper.Ghosts K} {l : keeper.Ghosts L} (outside : O
       → world.RefusesToPerform cloud_bodies faults was permit why now
       → Abandons now permit last → IsGood outside bodies cloud_bodies o last
   abandoned_good why last refuses abandons =
-      gives_up_good outside bodies cloud_bodies o now last fit (refused_good why refuses) still.0
-      (abandons.current still)
+      gives_up_good outside bodies cloud_bodies o now last fit (refused_good why refuses) still.0 (given_up abandons)
     where
       still : current.IsCurrent now.book permit
       still = subst (λ (b : Book (RigState K)). current.IsCurrent b permit) (sym (book_same why refuses)) free.0
+
+      given_up : Abandons now permit last → GivesUp now last
+      given_up (inl (is, gives)) = gives
+      given_up (inr (is_not, same)) = absurd (is_not still)
