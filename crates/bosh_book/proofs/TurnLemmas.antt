@@ -11,7 +11,7 @@ use Rattle.bosh_book.specs.Adds.{Adds}
 use Rattle.bosh_book.specs.Claims.{Begins, Claims, Follows, RefusesClaim, TakesOn, Turn, Turns}
 use Rattle.std.specs.Prelude.{IfErr}
 use Rattle.bosh_book.specs.Current.{dep_of}
-use Rattle.bosh_book.specs.Running.{is_long, room_left}
+use Rattle.bosh_book.specs.Running.{is_full, is_long, room_left}
 use Rattle.bosh_book.specs.Turns.{Notes}
 use Rattle.bosh_book.specs.declared.book.Book.{Book}
 use Rattle.bosh_book.specs.declared.claim.Claim.{Claim}
@@ -129,7 +129,8 @@ went_on bodies faults task worker first mid last found is short taken notes whol
 
 -- what a claim does that is refused
 pub refused_by_turns : {K : Type 0} (bodies : K → Option (List (List ℕ))) (faults : K → ℕ) (task worker : ℕ)
-    (was now : Book K) (result : Result Claim BookFault) → Claims bodies faults task worker was result now →
+    (was now : Book K) (result : Result Claim BookFault) → is_full was ≡ false →
+    Claims bodies faults task worker was result now →
     IfErr result (λ fault. RefusesClaim bodies faults task worker was fault now)
-refused_by_turns bodies faults task worker was now (Ok claim) turns = tt
-refused_by_turns bodies faults task worker was now (Err fault) turns = inr turns
+refused_by_turns bodies faults task worker was now (Ok claim) room turns = tt
+refused_by_turns bodies faults task worker was now (Err fault) room turns = inr (room, turns)

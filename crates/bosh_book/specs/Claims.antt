@@ -1,5 +1,5 @@
 -- What a claim does, turn by turn: what comes next in the task is noted (this project's profile).
-use Rattle.std.specs.Prelude.{◌≡◌, ◌⊎◌, ℕ, zero, suc, All, List, Option, Some, None, Result, Ok, Err}
+use Rattle.std.specs.Prelude.{◌≡◌, ◌⊎◌, ℕ, false, zero, suc, All, List, Option, Some, None, Result, Ok, Err}
 use Rattle.bosh_asks.specs.declared.fault.BookFault.{BookFault}
 use Rattle.bosh_asks.specs.declared.fault.BookFault.TheVariants.{Full, Memory, StoreFault}
 use Rattle.bosh_base.specs.declared.entry.Begin as begin
@@ -8,7 +8,7 @@ use Rattle.bosh_base.specs.declared.entry.Entry.TheVariants.{Begin, UpdBegin, Up
 use Rattle.bosh_book.specs.Adds.{Adds}
 use Rattle.bosh_book.specs.Current.{dep_of, permit_of}
 use Rattle.bosh_book.specs.Made.{Noted}
-use Rattle.bosh_book.specs.Running.{room_left}
+use Rattle.bosh_book.specs.Running.{is_full, room_left}
 use Rattle.bosh_book.specs.Turns.{IsUpdate}
 use Rattle.bosh_book.specs.declared.book.Book.{Book}
 use Rattle.bosh_book.specs.declared.claim.Claim.{Claim}
@@ -80,11 +80,11 @@ abbrev pub Claims : {K : Type 0} → (K → Option (List (List ℕ))) → (K →
     Book K → Result Claim BookFault → Book K → Type 0
 Claims bodies faults task worker was result now = Turns bodies faults task worker (room_left was) was result now
 
--- what a claim that is refused does: nothing, or as much of that
+-- what a claim that is refused does: nothing, or as much of that, of a book that has room
 abbrev pub RefusesClaim : {K : Type 0} → (K → Option (List (List ℕ))) → (K → ℕ) → ℕ → ℕ →
     Book K → BookFault → Book K → Type 0
 RefusesClaim bodies faults task worker was fault now =
-    (now ≡ was) ⊎ Claims bodies faults task worker was (Err fault) now
+    (now ≡ was) ⊎ ((is_full was ≡ false) × Claims bodies faults task worker was (Err fault) now)
 
 -- Where the store failed in it, updates were noted, and what was to come next then is pending.
 abbrev pub ClaimsPending : {K : Type 0} → (K → Option (List (List ℕ))) → (K → ℕ) → ℕ → ℕ →

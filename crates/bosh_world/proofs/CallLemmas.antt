@@ -40,6 +40,7 @@ use Rattle.bosh_world.specs.declared.held.HeldCall as held
 use Rattle.bosh_ports.specs.Rigged.{RigState, faults_of}
 use Rattle.bosh_ports.specs.declared.keeper.Keeper as keeper
 use Rattle.bosh_world.proofs.BookLemmas.{books_if, runs_on}
+use Rattle.bosh_world.proofs.PendLemmas.{halted_by}
 use Rattle.bosh_world.proofs.SiteLemmas.{SameRest, noted, notes_if, refuses_if}
 use Rattle.bosh_world.specs.Faults.{answered_as, fault_as, halt_by, halt_of}
 use Rattle.bosh_world.specs.IsSite.{IsSite}
@@ -47,7 +48,7 @@ use Rattle.bosh_world.specs.Refuses.{IsBooks, IsUnheld, Refuses, RefusesClaim}
 use Rattle.bosh_world.specs.Steps.{Claims, Comes, EndsTask, Notes, OpensTask, bodies_of, calls_claimed, entries_for}
 use Rattle.bosh_world.specs.Told.{IsGivenBy, story_of}
 use Rattle.bosh_world.specs.declared.fault.SiteFault.{SiteFault}
-use Rattle.bosh_world.specs.declared.fault.SiteFault.TheVariants.{Memory}
+use Rattle.bosh_world.specs.declared.fault.SiteFault.TheVariants.{Book as Refusal, Memory}
 use Rattle.bosh_world.specs.declared.site.Site.{Site}
 
 -- what was told of the entries that there are
@@ -313,7 +314,7 @@ claim_refused {k = k} {l = l} bodies faults was now task worker result answer sp
           (subst (λ (es : List Entry). Adds (bodies_of bodies) (faults_of faults) was.book es now.book)
           (ap (λ (more : List Entry). notes.updates ++ more) notes.gives ∙ append-nil notes.updates) notes.adds)
           fails not follows,
-      (fault, turned),
+      (fault, turned, λ running. halted_by sprung fault now.history.is_halted follows.halted),
     )
 
 -- nothing was noted, and nothing has happened
@@ -334,11 +335,28 @@ notes_nothing bodies faults was now running same_book same_cloud same_history sa
 -- a claim that the book was not asked for is refused
 pub claim_unasked : {K L : Type 0} {k : keeper.Ghosts K} {l : keeper.Ghosts L} (bodies : K → Option (List (List ℕ)))
     (faults : K → ℕ) (was now : Site K L k l) (task worker : ℕ) (result : Result Claim SiteFault) → now.book ≡ was.book →
-    IfErr result (λ fault. Refuses bodies faults was [] fault now) →
+    now.history ≡ was.history → IfErr result (λ fault. Refuses bodies faults was [] fault now) →
     IfErr result (λ fault. RefusesClaim bodies faults task worker was fault now)
-claim_unasked bodies faults was now task worker (Ok claim) same refuses = tt
-claim_unasked bodies faults was now task worker (Err fault) same refuses =
-    ([], All-nil IsUpdate, refuses, (book.Memory, inl same))
+claim_unasked bodies faults was now task worker (Ok claim) same same_history refuses = tt
+claim_unasked bodies faults was now task worker (Err fault) same same_history refuses = (
+  [],
+  All-nil IsUpdate,
+  refuses,
+  (
+    book.Memory,
+    inl same,
+    λ running halted. absurd (false≢true (sym running ∙ (λ i. (sym same_history i).is_halted) ∙ halted)),
+  ),
+)
+
+-- .. on a site that has halted
+pub claim_halted : {K L : Type 0} {k : keeper.Ghosts K} {l : keeper.Ghosts L} (bodies : K → Option (List (List ℕ)))
+    (faults : K → ℕ) (was : Site K L k l) (result : Result Claim SiteFault) (cause : SiteFault) →
+    IsErrAnd result (λ fault. fault ≡ cause) → (cause ≡ Refusal book.Stopped) × (was.history.is_halted ≡ true) →
+    IfErr result (λ fault. Refuses bodies faults was [] fault was)
+claim_halted bodies faults was (Ok claim) cause is halted = tt
+claim_halted {k = k} {l = l} bodies faults was (Err fault) cause is halted =
+    subst (λ (f : SiteFault). Refuses {k = k} {l = l} bodies faults was [] f was) (sym (is ∙ halted.0)) (inl (halted.1, refl))
 
 -- .. for want of memory
 pub claim_lost : {K L : Type 0} {k : keeper.Ghosts K} {l : keeper.Ghosts L} (bodies : K → Option (List (List ℕ)))

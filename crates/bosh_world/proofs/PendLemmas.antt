@@ -32,7 +32,7 @@ pends_still was now Is same runs halted =
     absurd (false≢true (sym runs ∙ (λ i. (sym same i).is_halted) ∙ halted))
 
 -- it halts where the store failed
-halted_by : (sprung : Option Rig) (fault : BookFault) (halted : Bool) → halted ≡ is_some (halt_by sprung fault) → halted ≡ true →
+pub halted_by : (sprung : Option Rig) (fault : BookFault) (halted : Bool) → halted ≡ is_some (halt_by sprung fault) → halted ≡ true →
     fault ≡ book.StoreFault
 halted_by sprung book.StoreFault halted is so = refl
 halted_by sprung fault halted is so = absurd (false≢true (sym is ∙ so))

@@ -49,12 +49,13 @@ IsBooks may (Book fault) = may fault
 IsBooks may Memory = Unit {0}
 IsBooks may fault = ⊥
 
--- turn by turn
+-- turn by turn; where the site halted in it, the store failed
 abbrev pub IsByTurns : {K L : Type 0} {k : keeper.Ghosts K} {l : keeper.Ghosts L} → (K → Option (List (List ℕ))) →
     (K → ℕ) → ℕ → ℕ → Site K L k l → Site K L k l → Type 0
 IsByTurns bodies faults task worker was now =
     (refusal : BookFault)
     × claims.RefusesClaim (bodies_of bodies) (faults_of faults) task worker was.book refusal now.book
+    × (was.history.is_halted ≡ false → now.history.is_halted ≡ true → refusal ≡ book.StoreFault)
 
 -- a claim that is refused may have noted updates before, turn by turn
 abbrev pub RefusesClaim : {K L : Type 0} {k : keeper.Ghosts K} {l : keeper.Ghosts L} → (K → Option (List (List ℕ))) →
