@@ -351,12 +351,13 @@ claim_unasked bodies faults was now task worker (Err fault) same same_history re
 
 -- .. on a site that has halted
 pub claim_halted : {K L : Type 0} {k : keeper.Ghosts K} {l : keeper.Ghosts L} (bodies : K → Option (List (List ℕ)))
-    (faults : K → ℕ) (was : Site K L k l) (result : Result Claim SiteFault) (cause : SiteFault) →
+    (faults : K → ℕ) (was now : Site K L k l) (result : Result Claim SiteFault) (cause : SiteFault) →
     IsErrAnd result (λ fault. fault ≡ cause) → (cause ≡ Refusal book.Stopped) × (was.history.is_halted ≡ true) →
-    IfErr result (λ fault. Refuses bodies faults was [] fault was)
-claim_halted bodies faults was (Ok claim) cause is halted = tt
-claim_halted {k = k} {l = l} bodies faults was (Err fault) cause is halted =
-    subst (λ (f : SiteFault). Refuses {k = k} {l = l} bodies faults was [] f was) (sym (is ∙ halted.0)) (inl (halted.1, refl))
+    now ≡ was → IfErr result (λ fault. Refuses bodies faults was [] fault now)
+claim_halted bodies faults was now (Ok claim) cause is halted same = tt
+claim_halted {k = k} {l = l} bodies faults was now (Err fault) cause is halted same =
+    subst (λ (f : SiteFault). Refuses {k = k} {l = l} bodies faults was [] f now) (sym (is ∙ halted.0))
+    (inl (halted.1, same))
 
 -- .. for want of memory
 pub claim_lost : {K L : Type 0} {k : keeper.Ghosts K} {l : keeper.Ghosts L} (bodies : K → Option (List (List ℕ)))

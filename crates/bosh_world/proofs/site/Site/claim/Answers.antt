@@ -5,11 +5,10 @@ use Rattle.bosh_world.proofs.site.Site.claim.Goals as goal
 
 pub returns-in_err-check_running-clause-refused : goal.returns-in_err-check_running-clause-refused
 returns-in_err-check_running-clause-refused g c =
-    claim_unasked g.K.Keeper.bodies g.K.Keeper.faults c.args.self.now c.args.self.now c.args.task c.args.worker
-    c.from_residual-in_err-check_running.result refl refl
-    (claim_halted g.K.Keeper.bodies g.K.Keeper.faults c.args.self.now c.from_residual-in_err-check_running.result
-    c.in_err-check_running.field-0.0 c.from_residual-in_err-check_running.ensures.1
-    c.in_err-check_running.ensures.halted)
+    claim_unasked g.K.Keeper.bodies g.K.Keeper.faults c.args.self.now _ c.args.task c.args.worker c.from_residual.result
+    refl refl
+    (claim_halted g.K.Keeper.bodies g.K.Keeper.faults c.args.self.now _ c.from_residual.result
+    c.in_err-check_running.field-0.0 c.from_residual.ensures.1 c.in_err-check_running.ensures.halted refl)
 
 pub returns-in_err-reserve-clause-refused : goal.returns-in_err-reserve-clause-refused
 returns-in_err-reserve-clause-refused g c =
