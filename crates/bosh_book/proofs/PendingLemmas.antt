@@ -158,13 +158,17 @@ turns_pending {K} bodies faults task worker (suc room) was now (turned, mid, tur
         last book.StoreFault (inr turn) is same =
             let it = turn_pending bodies faults was mid (choice_of was.records task worker) turn in (
               it.0,
-              ([], All-nil IsUpdate, (
-                was,
-                nothing_added bodies faults was,
-                it.1,
-                subst (λ (b : Book K). b.journal.entries ≡ was.journal.entries) (sym same)
-                    (it.3.entries ∙ append-nil was.journal.entries),
-              )),
+              (
+                [],
+                All-nil IsUpdate,
+                (
+                  was,
+                  nothing_added bodies faults was,
+                  it.1,
+                  subst (λ (b : Book K). b.journal.entries ≡ was.journal.entries) (sym same)
+                      (it.3.entries ∙ append-nil was.journal.entries),
+                ),
+              ),
               subst (λ (b : Book K). b.journal.pending ≡ Some (added it.0)) (sym same) it.2,
             )
         last fault turn is same = absurd (let no = is in cc)

@@ -94,12 +94,11 @@ pub advanced_waits : {K L : Type 0} {k : keeper.Ghosts K} {l : keeper.Ghosts L} 
     Advances bodies faults cloud_bodies cloud_faults task worker was place (Ok step.Waits) now →
     Reaches bodies faults cloud_bodies cloud_faults tasks worker was place now places.Empty
     × IsWaiting bodies faults tasks worker task now
-advanced_waits bodies faults cloud_bodies cloud_faults tasks task worker was now places.Empty there goes =
-    (
-      steps was places.Empty now places.Empty now places.Empty (claims task Wait refl refl there goes.0 goes.1)
-          (stays now places.Empty),
-      (there, (was, goes.0)),
-    )
+advanced_waits bodies faults cloud_bodies cloud_faults tasks task worker was now places.Empty there goes = (
+  steps was places.Empty now places.Empty now places.Empty (claims task Wait refl refl there goes.0 goes.1)
+      (stays now places.Empty),
+  (there, (was, goes.0)),
+)
 advanced_waits bodies faults cloud_bodies cloud_faults tasks task worker was now (places.Granted permit) there goes = absurd goes
 advanced_waits bodies faults cloud_bodies cloud_faults tasks task worker was now (places.Held call) there goes = absurd goes
 

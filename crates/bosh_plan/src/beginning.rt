@@ -63,9 +63,7 @@ fn subject_begun(records: &mut Records, begin: &Begin) -> Result<Subject, Record
             machine_begun(records, name, make, begin)
         }
         (Owner::Compile(..), Call::CompilePackage { work, .. }) => {
-            records
-                .keys
-                .ensure(records.alloc, &work.name, &work.key)?;
+            records.keys.ensure(records.alloc, &work.name, &work.key)?;
             Ok(Subject::Same)
         }
         (Owner::Compile(..), Call::DeleteVm { .. }) | (Owner::Disk(_), Call::DeleteDisk { .. }) => {
