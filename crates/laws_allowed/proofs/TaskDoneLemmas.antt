@@ -53,6 +53,7 @@ use Rattle.laws_stands.proofs.FirstLemmas.{same_first}
 use Rattle.laws_stands.proofs.LineLemmas.{over_is}
 use Rattle.laws_stands.proofs.MemberLemmas.{among_from, inst_is}
 use Rattle.laws_stands.proofs.NextKeyLemmas.{compiles_some}
+use Rattle.laws_stands.proofs.OrderLemmas.{once_of}
 use Rattle.laws_stands.proofs.StageLemmas.{HasLeft, least_is_left}
 use Rattle.laws_stands.specs.Agrees.{Agrees}
 use Rattle.laws_stands.specs.Choosing.{CanChoose, idle_at}
@@ -291,7 +292,7 @@ module _ (m : Moment) (records : Records) (n : ℕ) (at : IsAtWork m records n) 
       by false none = refl
       by true some =
           let it : StandsAt machine_cmp records.machines.places.entries (is_of dep) =
-          stands_at machine_cmp machine_keys machine_itself records.machines.places.entries at.stands.once.machines
+          stands_at machine_cmp machine_keys machine_itself records.machines.places.entries (once_of at.stands.ordered).machines
           (is_of dep) some in
           absurd (of it.key it.value (k.slot (it.key).task (it.key).slot) refl
           (sym (ap (option_map (λ (machine : Machine). machine.row)) it.there) ∙ at.stands.machines it.key) it.passes)

@@ -10,6 +10,7 @@ pub mod MarkLemmas
 pub mod MemberLemmas
 pub mod NextKeyLemmas
 pub mod NoneLemmas
+pub mod OrderLemmas
 pub mod PhaseLemmas
 pub mod PremiseLemmas
 pub mod SameGroupLemmas

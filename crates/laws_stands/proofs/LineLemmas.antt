@@ -7,12 +7,11 @@ use Rattle.std.specs.Option.{option_and_then}
 use Rattle.bosh_claim.specs.Phase.{is_finished}
 use Rattle.bosh_progress.specs.Tree.{first_marked, marked_in}
 use Rattle.bosh_history.specs.Words.{at}
-use Rattle.bosh_rows.specs.SoundSnapshot.{are_distinct}
 use Rattle.bosh_work.specs.Line.{finished_line, given_line, taken_line}
 use Rattle.bosh_work.specs.declared.line.Line.{Line}
 use Rattle.bosh_claim.specs.Noted.{first_of}
 use Rattle.laws_stands.specs.LineStands.{LineStands, place_of}
-use Rattle.laws_stands.proofs.MarkLemmas.{at_place, found, one_more, placed, same_marks, set_at, set_same, zero_as}
+use Rattle.laws_stands.proofs.MarkLemmas.{at_place, found, placed, same_marks, set_at, set_same, zero_as}
 
 pub first_is : {T : Type 0} (items : List T) (left idle : T → Bool) (line : Line T)
     → LineStands items left idle line
@@ -38,8 +37,9 @@ stands_on items left idle left' idle' line same_left same_idle stands = record {
       && same_idle x i));
 }
 
-module _ {T : Type 0} (same : T → T → Bool) (decides : (a b : T) → same a b ≡ true → a ≡ b) (items : List T)
-    (apart : are_distinct same items ≡ true) (x : T) where
+-- an item that has the one mark at its place
+module _ {T : Type 0} (same : T → T → Bool) (decides : (a b : T) → same a b ≡ true → a ≡ b) (items : List T) (x : T)
+    (one : (b : Bool) (f : T → Bool) → map (at same x b f) items ≡ set_at (place_of same x items) b (map f items)) where
   -- somebody works on an item
   pub stands_taken : (left idle left' idle' : T → Bool) (line : Line T)
       → ((y : T) → left' y ≡ left y) → ((y : T) → idle' y ≡ at same x false idle y)
@@ -57,7 +57,7 @@ module _ {T : Type 0} (same : T → T → Bool) (decides : (a b : T) → same a 
       marks : map (λ y. left' y && idle' y) items ≡ set_at (place_of same x items) false
           (map (λ y. left y && idle y) items)
       marks = same_marks (λ y. left' y && idle' y) (at same x false (λ z. left z && idle z)) items free
-          ∙ one_more same x false (λ y. left y && idle y) items decides apart
+          ∙ one false (λ y. left y && idle y)
 
       by : (place : Option ℕ) → place_of same x items ≡ place → LineStands items left' idle' (taken_line line place)
       by (Some k) is = record {
@@ -93,7 +93,7 @@ module _ {T : Type 0} (same : T → T → Bool) (decides : (a b : T) → same a 
       marks : map (λ y. left' y && idle' y) items ≡ set_at (place_of same x items) (left x)
           (map (λ y. left y && idle y) items)
       marks = same_marks (λ y. left' y && idle' y) (at same x (left x) (λ z. left z && idle z)) items free
-          ∙ one_more same x (left x) (λ y. left y && idle y) items decides apart
+          ∙ one (left x) (λ y. left y && idle y)
 
       -- the mark that is set is the one of the item
       kept : (k : ℕ) → place_of same x items ≡ Some k → slice_index_or (map left items) k false ≡ left x
@@ -154,10 +154,10 @@ module _ {T : Type 0} (same : T → T → Bool) (decides : (a b : T) → same a 
       marks : map (λ y. left' y && idle' y) items ≡ set_at (place_of same x items) false
           (map (λ y. left y && idle y) items)
       marks = same_marks (λ y. left' y && idle' y) (at same x false (λ z. left z && idle z)) items free
-          ∙ one_more same x false (λ y. left y && idle y) items decides apart
+          ∙ one false (λ y. left y && idle y)
 
       lefts : map left' items ≡ set_at (place_of same x items) false (map left items)
-      lefts = same_marks left' (at same x false left) items now ∙ one_more same x false left items decides apart
+      lefts = same_marks left' (at same x false left) items now ∙ one false left
 
       by : (place : Option ℕ) → place_of same x items ≡ place
           → LineStands items left' idle' (finished_line line place)

@@ -57,14 +57,14 @@ abbrev pub set_at : Option ℕ → Bool → List Bool → List Bool
 set_at (Some place) b marks = slice_set marks place b
 set_at None b marks = marks
 
-pub one_more : {T : Type 0} (same : T → T → Bool) (x : T) (b : Bool) (f : T → Bool) (xs : List T)
-    → ((a b : T) → same a b ≡ true → a ≡ b) → are_distinct same xs ≡ true
+pub one_more : {T : Type 0} (same : T → T → Bool) → ((a b : T) → same a b ≡ true → a ≡ b) → (xs : List T)
+    → are_distinct same xs ≡ true → (x : T) (b : Bool) (f : T → Bool)
     → map (at same x b f) xs ≡ set_at (place_of same x xs) b (map f xs)
-one_more same x b f [] decides apart = refl
-one_more same x b f (y ∷ xs) decides apart =
+one_more same decides [] apart x b f = refl
+one_more same decides (y ∷ xs) apart x b f =
     let parts : (not (is_among same y xs) ≡ true) × (are_distinct same xs ≡ true) =
     and_parts (not (is_among same y xs)) (are_distinct same xs) apart in
-    by (same x y) refl (not-true (is_among same y xs) parts.0) (one_more same x b f xs decides parts.1)
+    by (same x y) refl (not-true (is_among same y xs) parts.0) (one_more same decides xs parts.1 x b f)
   where
     later : (k : Option ℕ) → f y ∷ set_at k b (map f xs) ≡ set_at (option_map suc k) b (f y ∷ map f xs)
     later (Some k) = refl
@@ -77,6 +77,29 @@ one_more same x b f (y ∷ xs) decides apart =
     by true is none more =
         ap (λ rest. b ∷ rest) (unchanged same x b f xs (others_differ same x y xs decides is none))
     by false is none more = ap (λ rest. f y ∷ rest) more ∙ later (place_of same x xs)
+
+-- .. of an item that may be listed beside others twice
+
+-- no later item is the same as the first that is this one
+abbrev pub is_once : {T : Type 0} → (T → T → Bool) → T → List T → Bool
+is_once same x [] = true
+is_once same x (y ∷ ys) = if same x y then not (is_among same x ys) else is_once same x ys
+
+pub marks_of_one : {T : Type 0} (same : T → T → Bool) (x : T) (xs : List T) → is_once same x xs ≡ true
+    → (b : Bool) (f : T → Bool) → map (at same x b f) xs ≡ set_at (place_of same x xs) b (map f xs)
+marks_of_one same x [] once b f = refl
+marks_of_one same x (y ∷ xs) once b f = by (same x y) once (λ once. marks_of_one same x xs once b f)
+  where
+    later : (k : Option ℕ) → f y ∷ set_at k b (map f xs) ≡ set_at (option_map suc k) b (f y ∷ map f xs)
+    later (Some k) = refl
+    later None = refl
+
+    by : (t : Bool) → (if t then not (is_among same x xs) else is_once same x xs) ≡ true
+        → (is_once same x xs ≡ true → map (at same x b f) xs ≡ set_at (place_of same x xs) b (map f xs))
+        → (if t then b else f y) ∷ map (at same x b f) xs ≡ set_at (first_marked (t ∷ map (same x) xs)) b
+        (f y ∷ map f xs)
+    by true once more = ap (λ rest. b ∷ rest) (unchanged same x b f xs (not-true (is_among same x xs) once))
+    by false once more = ap (λ rest. f y ∷ rest) (more once) ∙ later (place_of same x xs)
 
 -- items with the same marks
 pub same_marks : {T : Type 0} (f g : T → Bool) (xs : List T) → ((x : T) → f x ≡ g x) → map f xs ≡ map g xs

@@ -20,6 +20,7 @@ use Rattle.bosh_history.specs.Steps.{compiles}
 use Rattle.bosh_history.specs.Words.{holds, is_among}
 use Rattle.bosh_progress.specs.Tree.{first_marked}
 use Rattle.bosh_records.specs.Arrivals.{Arrivals}
+use Rattle.bosh_records.specs.Ordered.{AreOrdered}
 use Rattle.bosh_records.specs.Recorded.{Recorded, recorded}
 use Rattle.bosh_records.specs.Table.{things}
 use Rattle.bosh_records.specs.declared.records.Records.{Records}
@@ -27,7 +28,6 @@ use Rattle.bosh_rows.specs.Same.{same_inst, same_owner}
 use Rattle.bosh_work.specs.declared.part.MachineName.{MachineName}
 use Rattle.bosh_work.specs.declared.work.Work.{Work}
 use Rattle.laws_stands.specs.Linked.{IsLinked}
-use Rattle.laws_stands.specs.Once.{AreOnce}
 use Rattle.laws_stands.specs.Reading as reading
 use Rattle.laws_stands.specs.Told.{TellsWell, Told, is_going}
 use Rattle.laws_stands.specs.WorkStands.{StandsFor}
@@ -105,9 +105,13 @@ pub record StandsIn (told : Told) (it : Recorded) : Type 0 where
   pub calls : (n : ℕ) → reading.call_of it n ≡ told.calls n
   pub works : (t : ℕ) → IsWork told t (reading.work_of it t)
   pub linked : IsLinked it
-  pub once : AreOnce it
+  pub ordered : AreOrdered it
   pub tells_well : TellsWell told
 
 -- the records stand for what was told
 abbrev pub Stands : Told → Records → Type 0
 Stands told records = StandsIn told (recorded records)
+
+-- it stands, given that its keys stand in order
+abbrev pub StandsInOrder : Told → Recorded → Type 0
+StandsInOrder told it = AreOrdered it → StandsIn told it

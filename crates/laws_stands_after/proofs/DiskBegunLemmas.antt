@@ -19,7 +19,7 @@ use Rattle.bosh_history.specs.Slots.{keys_of}
 use Rattle.bosh_history.specs.Words.{at}
 use Rattle.bosh_plan.specs.Begun.{subject_of}
 use Rattle.bosh_progress.specs.Tree.{first_marked}
-use Rattle.bosh_records.specs.Changes.{with_disk_call, with_disk_doubt, with_one_call}
+use Rattle.bosh_records.specs.Changes.{with_disk_call, with_disk_doubt}
 use Rattle.bosh_records.specs.Places.{places_in}
 use Rattle.bosh_records.specs.Recorded.{Recorded}
 use Rattle.bosh_records.specs.Table.{changed, found, thing_in}
@@ -31,12 +31,13 @@ use Rattle.bosh_work.specs.declared.part.MachineName.{MachineName}
 use Rattle.bosh_work.specs.declared.part.Places.{Places}
 use Rattle.bosh_work.specs.declared.work.Work.{Work}
 use Rattle.laws_stands.proofs.LineLemmas.{stands_on, stands_taken}
+use Rattle.laws_stands.proofs.MarkLemmas.{one_more}
 use Rattle.laws_stands.proofs.PremiseLemmas.{none_at}
 use Rattle.laws_stands.specs.GroupsStand.{GroupsStand, names_of}
 use Rattle.laws_stands.specs.LineStands.{LineStands, place_of}
 use Rattle.laws_stands.specs.Linked.{IsLinked}
 use Rattle.laws_stands.specs.Reading.{dep_of, orphan_of, work_of}
-use Rattle.laws_stands.specs.Stands.{AreSwept, IsWork, StandsIn, call_of, key_of_slot}
+use Rattle.laws_stands.specs.Stands.{AreSwept, IsWork, StandsIn, StandsInOrder, call_of, key_of_slot}
 use Rattle.laws_stands.specs.Told.{Told, TellsWell, idle_in, is_going, is_idle, telling}
 use Rattle.laws_stands.specs.WorkStands.{StandsFor}
 use Rattle.laws_stands_on.proofs.BegunLemmas.{none_compiled, takes_same}
@@ -44,13 +45,11 @@ use Rattle.laws_stands_on.proofs.CallLemmas.{idle_begun, one_more_call}
 use Rattle.laws_stands_on.proofs.FindLemmas.{compiling_begun}
 use Rattle.laws_stands_on.proofs.LinkLemmas.{WasWork, changed_work, links_go_on}
 use Rattle.laws_stands_on.proofs.ListedLemmas.{SameListed, listed_goes_on}
-use Rattle.laws_stands_on.proofs.OnceLemmas.{once_altered}
 use Rattle.laws_stands_on.proofs.TableLemmas.{nat_at, nat_keys, thing_changed}
 use Rattle.laws_stands_on.proofs.ChangedLemmas.{eqb_flip, some_mapped, thing_at_key, things_changed}
 use Rattle.laws_stands_on.proofs.NextCallLemmas.{calls_next, dep_same, going_same, other_calls, other_idle, own_call}
 use Rattle.laws_stands_on.proofs.NextCallLemmas.{same_count, same_failed, task_same, tasks_next, tells_next}
 use Rattle.laws_stands.proofs.SameGroupLemmas.{groups_as}
-use Rattle.laws_stands.specs.Once.{IsOnce}
 use Rattle.laws_stands_on.specs.Allows.{AllowsNext}
 use Rattle.laws_stands_after.specs.Disks.{AllowsDisk}
 use Rattle.laws_stands_on.proofs.TaskLemmas.{dep_recorded}
@@ -79,12 +78,6 @@ orphans_noted : (number : ℕ) (call : Call) (d : ℕ) (orphans : List (ℕ × O
 orphans_noted number (DeleteDisk disk) d orphans x = things_changed d
     (with_disk_doubt (Some (record { n = number; call = DeleteDisk disk }))) (with_disk_call (Some number)) orphans x
 orphans_noted number call d orphans x = thing_at_key d (with_disk_call (Some number)) orphans x
-
-once_noted : (number : ℕ) (call : Call) (d : ℕ) (orphans : List (ℕ × Option LooseDisk)) → IsOnce nat_cmp orphans
-    → IsOnce nat_cmp (noted_orphans number call d orphans)
-once_noted number (DeleteDisk disk) d orphans once = once_altered nat_cmp d
-    (option_map (with_disk_doubt (Some (record { n = number; call = DeleteDisk disk })))) orphans once
-once_noted number call d orphans once = once
 
 -- ---- the call
 
@@ -236,7 +229,8 @@ module _ (told : Told) (was : Records) (it : Recorded) (n number worker : ℕ) (
     obsolete = subst (λ idle. LineStands (k.task n).obsolete (λ i. not ((k.task n).gone i)) idle work.obsolete)
         idle_path work_stands.obsolete;
     disks =
-        stands_taken eqb eqb-true (k.task n).disks (stands.tells_well.disks_apart n) d (λ x. is_some (k.orphan x))
+        stands_taken eqb eqb-true (k.task n).disks d
+        (one_more eqb eqb-true (k.task n).disks (stands.tells_well.disks_apart n) d) (λ x. is_some (k.orphan x))
         (λ x. is_idle told (Disk x)) (λ x. is_some (new.known.orphan x)) (λ x. is_idle new (Disk x))
         work.disks left_same idle_disks work_stands.disks;
     sweep =
@@ -366,8 +360,8 @@ module _ (told : Told) (was : Records) (it : Recorded) (n number worker : ℕ) (
 
   -- ---- all
 
-  begun_stands : StandsIn new begun
-  begun_stands = record {
+  begun_stands : StandsInOrder new begun
+  begun_stands = λ ordered. record {
     uploads = λ j. record (stands.uploads j) { last_call = number };
     deployments = stands.deployments;
     rows = stands.rows;
@@ -389,17 +383,7 @@ module _ (told : Told) (was : Records) (it : Recorded) (n number worker : ℕ) (
     calls = calls_next told it b next stands room;
     works = works;
     linked = linked;
-    once = record {
-      instances = (stands.once).instances;
-      machines = (stands.once).machines;
-      orphans = once_altered nat_cmp d (option_map (with_disk_call (Some number))) (noted_orphans number call d it.orphans)
-          (once_noted number call d it.orphans (stands.once).orphans);
-      keys = (stands.once).keys;
-      tasks = once_altered nat_cmp n (option_map with_one_call) it.tasks (stands.once).tasks;
-      works = once_altered nat_cmp n (option_map (λ work. taken work (places_in noted (Disk d)))) it.works
-          (stands.once).works;
-      calls = once_altered nat_cmp number (λ _. Some b) it.calls (stands.once).calls;
-    };
+    ordered = ordered;
     tells_well = let tells : TellsWell _ = tells_next told it b next stands k.instances (λ i is. is) (λ i own. absurd cc)
         in record {
           number = tells.number;
@@ -419,12 +403,12 @@ module _ (told : Told) (was : Records) (it : Recorded) (n number worker : ℕ) (
   }
 
   -- .. as it is learned
-  pub after_disk_begin : StandsIn new
+  pub after_disk_begin : StandsInOrder new
       (noted_call b (counted n (opened_call b (with_subject (Disk d) (subject_of was b) it))))
   after_disk_begin =
-      subst (λ (x : Recorded). StandsIn new (noted_call b (counted n (opened_call b x))))
+      subst (λ (x : Recorded). StandsInOrder new (noted_call b (counted n (opened_call b x))))
       (sym (subject_as was b d call it))
-      (subst (λ (x : Recorded). StandsIn new (noted_call b (counted n (taken_by n (Disk d) x))))
+      (subst (λ (x : Recorded). StandsInOrder new (noted_call b (counted n (taken_by n (Disk d) x))))
       (sym (none_compiled call (Some number)
       (with_call (Disk d) (Some number) (record it { orphans = noted_orphans number call d it.orphans }))
       allows.compiles_none)) begun_stands)

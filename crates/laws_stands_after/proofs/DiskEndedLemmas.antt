@@ -19,13 +19,13 @@ use Rattle.bosh_fold.specs.Calls.{closed_call, disk_told, ended_by, ended_in, fa
 use Rattle.bosh_fold.specs.Calls.{pinged_by}
 use Rattle.bosh_history.specs.Calls as known_calls
 use Rattle.bosh_history.specs.Calls.{call_ended, least_failure, orphan_after, orphan_told, shows_gone, shows_there}
-use Rattle.bosh_history.specs.Calls.{task_after_ping, task_told}
+use Rattle.bosh_history.specs.Calls.{task_told}
 use Rattle.bosh_history.specs.Items.{is_in_deployment}
 use Rattle.bosh_history.specs.Known.{Known, SlotName, Task}
 use Rattle.bosh_history.specs.Slots.{keys_of}
 use Rattle.bosh_history.specs.Steps.{compiles}
 use Rattle.bosh_history.specs.Words as words
-use Rattle.bosh_history.specs.Words.{at, holds, is_among}
+use Rattle.bosh_history.specs.Words.{at, holds}
 use Rattle.bosh_plan.specs.Ended as planned
 use Rattle.bosh_plan.specs.Ended.{ended_of, is_told}
 use Rattle.bosh_plan.specs.declared.ending.After.TheVariants as afters
@@ -42,13 +42,13 @@ use Rattle.bosh_work.specs.declared.part.MachineName.{MachineName}
 use Rattle.bosh_work.specs.declared.part.Places.{Places}
 use Rattle.bosh_work.specs.declared.work.Work.{Work}
 use Rattle.laws_stands.proofs.LineLemmas.{stands_finished, stands_given, stands_on}
-use Rattle.laws_stands.proofs.MarkLemmas.{placed}
+use Rattle.laws_stands.proofs.MarkLemmas.{one_more, placed}
 use Rattle.laws_stands.proofs.PremiseLemmas.{none_at}
 use Rattle.laws_stands.specs.GroupsStand.{GroupsStand, names_of}
 use Rattle.laws_stands.specs.LineStands.{LineStands, place_of}
 use Rattle.laws_stands.specs.Linked.{IsLinked}
 use Rattle.laws_stands.specs.Reading.{dep_of, orphan_of, work_of}
-use Rattle.laws_stands.specs.Stands.{AreSwept, IsWork, Stands, StandsIn, call_of, key_of_slot}
+use Rattle.laws_stands.specs.Stands.{AreSwept, IsWork, Stands, StandsIn, StandsInOrder, call_of, key_of_slot}
 use Rattle.laws_stands.specs.Told.{TellsWell, Told, idle_in, is_going, is_idle, telling}
 use Rattle.laws_stands.specs.WorkStands.{StandsFor, is_task_call}
 use Rattle.laws_stands_on.proofs.AnsweredLemmas.{ended_work, ends_same, none_built, none_known, pinged_as, takes_ping}
@@ -56,15 +56,15 @@ use Rattle.laws_stands_on.proofs.BegunLemmas.{none_compiled}
 use Rattle.laws_stands_on.proofs.FindLemmas.{any_within}
 use Rattle.laws_stands_on.proofs.LinkLemmas.{ListsSame, WasWork, links_go_on}
 use Rattle.laws_stands_on.proofs.ListedLemmas.{SameListed, listed_goes_on}
-use Rattle.laws_stands_on.proofs.OnceLemmas.{once_altered, once_without}
+use Rattle.laws_stands.proofs.OrderLemmas.{once_of}
 use Rattle.laws_stands_on.proofs.ChangedLemmas.{eqb_flip, some_mapped, thing_at_key}
 use Rattle.laws_stands_after.proofs.DiskToldLemmas.{gone_by, gone_same, last_line, last_work, listed, loose_by, no_ping}
 use Rattle.laws_stands_after.proofs.DiskToldLemmas.{orphan_by, orphans_by, orphans_ended, told_as, told_by, unlisted}
-use Rattle.laws_stands_after.proofs.DiskToldLemmas.{once_orphans, once_works, works_by, works_ended}
+use Rattle.laws_stands_after.proofs.DiskToldLemmas.{works_by, works_ended}
 use Rattle.laws_stands_on.proofs.NextCallLemmas.{row_by}
 use Rattle.laws_stands_on.proofs.OnlyCallLemmas.{calls_last, ended_works, ended_works_are, failed_is, failure_is}
 use Rattle.laws_stands_on.proofs.OnlyCallLemmas.{going_same, has_begun, idle_as, one_less_call, other_calls, own_call}
-use Rattle.laws_stands_on.proofs.OnlyCallLemmas.{once_ended, same_count, still, task_same, tells_last}
+use Rattle.laws_stands_on.proofs.OnlyCallLemmas.{same_count, still, task_same, tells_last}
 use Rattle.laws_stands.proofs.SameGroupLemmas.{groups_as}
 use Rattle.laws_stands_after.specs.Disks.{AllowsDisk}
 use Rattle.laws_stands_on.proofs.TaskLemmas.{dep_recorded}
@@ -209,7 +209,7 @@ module _ (told : Told) (was : Records) (it : Recorded) (n number worker : ℕ) (
 
   orphan_is : (x : ℕ) → orphan_of ended x
       ≡ (if eqb d x then loose_by goes settles (orphan_of it x) else orphan_of it x)
-  orphan_is x = orphans_ended goes settles d it.orphans (stands.once).orphans x
+  orphan_is x = orphans_ended goes settles d it.orphans (once_of stands.ordered).orphans x
 
   loose_there : is_some (orphan_of it d) ≡ true
   loose_there = sym (some_mapped (λ (loose : LooseDisk). loose.orphan) (orphan_of it d)) ∙ ap is_some (stands.orphans d)
@@ -327,7 +327,8 @@ module _ (told : Told) (was : Records) (it : Recorded) (n number worker : ℕ) (
     where
       given : LineStands (k.task n).disks (λ x. is_some (k.orphan x)) (λ x. is_idle new (Disk x))
           (given_line work.disks listed_at)
-      given = stands_given eqb eqb-true (k.task n).disks (stands.tells_well.disks_apart n) d (λ x. is_some (k.orphan x))
+      given = stands_given eqb eqb-true (k.task n).disks d
+          (one_more eqb eqb-true (k.task n).disks (stands.tells_well.disks_apart n) d) (λ x. is_some (k.orphan x))
           (λ x. is_idle told (Disk x)) (λ x. is_some (k.orphan x)) (λ x. is_idle new (Disk x)) work.disks
           (λ x. refl) idle_disks work_stands.disks
 
@@ -351,7 +352,8 @@ module _ (told : Told) (was : Records) (it : Recorded) (n number worker : ℕ) (
           (λ x. is_some (at eqb d (orphan_by g s (k.orphan d)) k.orphan x)) (λ x. is_idle new (Disk x))
           (last_line g (given_line work.disks listed_at) listed_at)
       by true =
-          stands_finished eqb eqb-true (k.task n).disks (stands.tells_well.disks_apart n) d (λ x. is_some (k.orphan x))
+          stands_finished eqb eqb-true (k.task n).disks d
+          (one_more eqb eqb-true (k.task n).disks (stands.tells_well.disks_apart n) d) (λ x. is_some (k.orphan x))
           (λ x. is_idle new (Disk x)) (λ x. is_some (at eqb d None k.orphan x)) (λ x. is_idle new (Disk x))
           (given_line work.disks listed_at) goes_away (λ x. refl) given
       by false =
@@ -541,8 +543,8 @@ module _ (told : Told) (was : Records) (it : Recorded) (n number worker : ℕ) (
 
   -- ---- all
 
-  ended_stands : StandsIn new ended
-  ended_stands = record {
+  ended_stands : StandsInOrder new ended
+  ended_stands = λ ordered. record {
     uploads = stands.uploads;
     deployments = stands.deployments;
     rows = stands.rows;
@@ -568,20 +570,10 @@ module _ (told : Told) (was : Records) (it : Recorded) (n number worker : ℕ) (
     tasks = λ t. stands.tasks t
         ∙ sym (task_same told it b answer (k.task n).pinged only stands
         (λ (it : Task). if nat_le 1 t && nat_le t k.tasks then Some (row_by t it) else None) refl t);
-    calls = calls_last told it b answer (k.task n).pinged only stands (stands.once).calls;
+    calls = calls_last told it b answer (k.task n).pinged only stands (once_of stands.ordered).calls;
     works = works;
     linked = linked;
-    once = record {
-      instances = (stands.once).instances;
-      machines = (stands.once).machines;
-      orphans = once_orphans goes settles d closed.orphans
-          (once_altered nat_cmp d (option_map (with_disk_call None)) it.orphans (stands.once).orphans);
-      keys = (stands.once).keys;
-      tasks = (stands.once).tasks;
-      works = once_works goes d place (ended_works n asked places fail it.works)
-          (once_ended n asked places fail it.works (stands.once).works);
-      calls = once_without nat_cmp number it.calls (stands.once).calls;
-    };
+    ordered = ordered;
     tells_well = let tells : TellsWell _ = tells_last told it b answer (k.task n).pinged only stands in record {
       number = tells.number;
       low = tells.low;
@@ -600,8 +592,8 @@ module _ (told : Told) (was : Records) (it : Recorded) (n number worker : ℕ) (
   }
 
   -- .. as it is learned
-  pub after_disk_end : StandsIn (telling told (entries.End e)) (ended_in (ended_of was e) it)
+  pub after_disk_end : StandsInOrder (telling told (entries.End e)) (ended_in (ended_of was e) it)
   after_disk_end =
-      subst (λ (plan : Ended). StandsIn (telling told (entries.End e)) (ended_in plan it)) (sym plan_is)
-      (subst (StandsIn (telling told (entries.End e))) (sym ended_is) (subst (λ (told : Told). StandsIn told ended)
+      subst (λ (plan : Ended). StandsInOrder (telling told (entries.End e)) (ended_in plan it)) (sym plan_is)
+      (subst (StandsInOrder (telling told (entries.End e))) (sym ended_is) (subst (λ (told : Told). StandsInOrder told ended)
       (sym told_is) ended_stands))

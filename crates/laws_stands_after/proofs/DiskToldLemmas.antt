@@ -17,7 +17,6 @@ use Rattle.bosh_history.specs.Calls.{task_after_ping}
 use Rattle.bosh_history.specs.Known.{Task}
 use Rattle.bosh_history.specs.Words.{is_among}
 use Rattle.bosh_plan.specs.Ended as planned
-use Rattle.bosh_plan.specs.Ended.{ended_of, is_told}
 use Rattle.bosh_plan.specs.declared.ending.Told.TheVariants.{Absent, Nothing, There}
 use Rattle.bosh_records.specs.Changes.{with_disk_call, with_disk_doubt}
 use Rattle.bosh_records.specs.Recorded.{Recorded}
@@ -33,7 +32,6 @@ use Rattle.laws_stands.proofs.PremiseLemmas.{none_at}
 use Rattle.laws_stands_on.proofs.AnsweredLemmas.{ended_work}
 use Rattle.laws_stands_on.proofs.LinkLemmas.{ListsSame}
 use Rattle.laws_stands.specs.Once.{IsOnce}
-use Rattle.laws_stands_on.proofs.OnceLemmas.{once_altered, once_each, once_without}
 use Rattle.laws_stands_on.proofs.ChangedLemmas.{each_found, eqb_flip, thing_at_key, thing_gone}
 use Rattle.laws_stands_on.proofs.ChangedLemmas.{things_changed}
 
@@ -97,18 +95,6 @@ pub orphans_ended : (goes settles : Bool) (d : ℕ) (orphans : List (ℕ × Opti
 orphans_ended true settles d orphans once x = thing_gone d (with_disk_call None) orphans once x
 orphans_ended false true d orphans once x = things_changed d (with_disk_call None) (with_disk_doubt None) orphans x
 orphans_ended false false d orphans once x = thing_at_key d (with_disk_call None) orphans x
-
-pub once_orphans : (goes settles : Bool) (d : ℕ) (orphans : List (ℕ × Option LooseDisk)) → IsOnce nat_cmp orphans
-    → IsOnce nat_cmp (orphans_by goes settles d orphans)
-once_orphans true settles d orphans once = once_without nat_cmp d orphans once
-once_orphans false true d orphans once = once_altered nat_cmp d (option_map (with_disk_doubt None)) orphans once
-once_orphans false false d orphans once = once
-
-pub once_works : (goes : Bool) (d : ℕ) (place : Option ℕ) (works : List (ℕ × Option Work)) → IsOnce nat_cmp works
-    → IsOnce nat_cmp (works_by goes d place works)
-once_works true d (Some place) works once = once_each nat_cmp (without_disk d place) works once
-once_works true d None works once = once
-once_works false d place works once = once
 
 pub works_ended : (goes : Bool) (d : ℕ) (place : Option ℕ) (works : List (ℕ × Option Work)) (t : ℕ)
     → thing_in nat_cmp (works_by goes d place works) t ≡ option_map (gone_by goes d place) (thing_in nat_cmp works t)

@@ -12,7 +12,7 @@ ghost use Rattle.bosh_plan.specs.Ended.{ended_of};
 ghost use Rattle.bosh_records.specs.Recorded.{Recorded};
 ghost use Rattle.bosh_records.specs.Table.{found};
 ghost use Rattle.bosh_records.specs.declared.records.Records.{Records};
-ghost use Rattle.laws_stands.specs.Stands.{Stands, StandsIn};
+ghost use Rattle.laws_stands.specs.Stands.{Stands, StandsIn, StandsInOrder};
 ghost use Rattle.laws_stands.specs.Told.{Told, telling};
 ghost use Rattle.laws_stands_after.specs.Disks.{AllowsDisk};
 ghost use Rattle.laws_stands_on.specs.Allows.{AllowsNext};
@@ -24,7 +24,7 @@ pub fn what_is_recorded_stands_after_a_call_of_a_disk_begins()
         → AllowsDisk told n call d
         → is_some (found nat_cmp it.calls number) ≡ true
         → StandsIn told it
-        → StandsIn
+        → StandsInOrder
         (telling told
         (entries.Begin (record { n = number; task = n; worker = worker; owner = Disk d; call = call })))
         (learned (entries.Begin (record { n = number; task = n; worker = worker; owner = Disk d; call = call }))
@@ -34,14 +34,14 @@ pub fn what_is_recorded_stands_after_a_call_of_a_disk_begins()
         })) it) }
 {}
 
-/// .. and after it ended, as it was planned, where no call and no such disk stands twice.
+/// .. and after it ended, as it was planned.
 pub fn what_is_recorded_stands_after_a_call_of_a_disk_ends()
     ensures { (told : Told) (was : Records) (it : Recorded) (n number worker : ℕ) (call : Call) (answer : Answer)
         (d : ℕ)
         → told.calls number ≡ Some (record { n = number; task = n; worker = worker; owner = Disk d; call = call })
         → AllowsDisk told n call d
         → Stands told was → StandsIn told it
-        → StandsIn (telling told (entries.End (record { n = number; answer = answer })))
+        → StandsInOrder (telling told (entries.End (record { n = number; answer = answer })))
         (learned (entries.End (record { n = number; answer = answer }))
         (changes.Ended (ended_of was (record { n = number; answer = answer }))) it) }
 {}

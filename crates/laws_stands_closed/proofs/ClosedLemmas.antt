@@ -42,9 +42,8 @@ use Rattle.bosh_work.specs.declared.part.Part.{Part}
 use Rattle.bosh_work.specs.declared.work.Work.{Work}
 use Rattle.laws_stands.specs.Linked.{IsLinked, same_machine, want_place}
 use Rattle.laws_stands.specs.LineStands.{place_of}
-use Rattle.laws_stands.specs.Once.{AreOnce}
 use Rattle.laws_stands.specs.Reading.{dep_of, instance_of, machine_of, orphan_of, task_of, work_of}
-use Rattle.laws_stands.specs.Stands.{AreSwept, IsWork, StandsIn, key_of_slot, row_of_slot}
+use Rattle.laws_stands.specs.Stands.{AreSwept, IsWork, StandsIn, StandsInOrder, key_of_slot, row_of_slot}
 use Rattle.laws_stands.specs.Told.{Told, is_going}
 use Rattle.laws_stands.specs.WorkStands.{StandsFor}
 use Rattle.laws_stands_closed.proofs.ClearedLemmas.{deployment_of, each_kept, each_other, left_over, machine_at}
@@ -54,7 +53,7 @@ use Rattle.laws_stands_on.proofs.ChangedLemmas.{eqb_flip}
 use Rattle.laws_stands_on.proofs.KeyLemmas.{inst_at, inst_keys, machine_keys}
 use Rattle.laws_stands_on.proofs.ListedLemmas.{listed_goes_on, untouched}
 use Rattle.laws_stands_on.proofs.NextCallLemmas.{row_by}
-use Rattle.laws_stands_on.proofs.OnceLemmas.{once_along, once_altered, once_without}
+use Rattle.laws_stands.proofs.OrderLemmas.{once_of}
 use Rattle.laws_stands_on.proofs.TaskLemmas.{dep_recorded}
 use Rattle.laws_stands_on.proofs.TableLemmas.{found_without, nat_at, nat_keys, thing_changed}
 
@@ -160,7 +159,7 @@ module _ (t : ℕ) (end : TaskEnd) (told : Told) (it : Recorded) (allows : Allow
 
     work_is : (x : ℕ) → work_of closed x ≡ (if eqb t x then None else work_of it x)
     work_is x =
-        ap (option_and_then (λ place. place)) (found_without nat_cmp nat_keys t it.works (stands.once).works x)
+        ap (option_and_then (λ place. place)) (found_without nat_cmp nat_keys t it.works (once_of stands.ordered).works x)
         ∙ (λ j. option_and_then (λ place. place) (if nat_at t x j then None else found nat_cmp it.works x))
         ∙ by (eqb t x)
       where
@@ -392,31 +391,10 @@ module _ (t : ℕ) (end : TaskEnd) (told : Told) (it : Recorded) (allows : Allow
             (sym (orphan_other x was.other was.going d (dep_known x was.going dep) (work_of it t) (stands.works t)) ∙ there)
             (sym (dep_same x) ∙ dep)
 
-    -- ---- no key stands twice
-
-    once_cleared : (o : Option Work) → AreOnce (cleared o it)
-    once_cleared None = stands.once
-    once_cleared (Some work) = record {
-      instances =
-          once_along inst_cmp _ (λ es i its. once_altered inst_cmp i (with_change None) es its) work.changed _
-          (once_along inst_cmp _ (λ es i its. once_altered inst_cmp i (with_leaving None) es its) work.obsolete.items _
-          (once_along inst_cmp _ (λ es i its. once_altered inst_cmp i (with_ping None) es its) work.pings.items
-          it.instances (stands.once).instances));
-      machines = once_along machine_cmp _
-          (λ es name its. once_altered machine_cmp name (option_map (with_sweep None)) es its) work.sweep.items
-          it.machines (stands.once).machines;
-      orphans = once_along nat_cmp _ (λ es d its. once_altered nat_cmp d (option_map (with_deleting None)) es its)
-          work.disks.items it.orphans (stands.once).orphans;
-      keys = (stands.once).keys;
-      tasks = (stands.once).tasks;
-      works = (stands.once).works;
-      calls = (stands.once).calls;
-    }
-
     -- ---- all
 
-    pub closed_stands : StandsIn (told_ended t end told) (closed_task t end it)
-    closed_stands = record {
+    pub closed_stands : StandsInOrder (told_ended t end told) (closed_task t end it)
+    closed_stands = λ ordered. record {
       uploads = same_came (work_of it t) ∙ stands.uploads;
       deployments = ap things (same_deployments (work_of it t)) ∙ stands.deployments;
       rows = λ i. instance_kept (λ known. known.row) (λ known. refl) (λ known. refl) (λ known. refl) (work_of it t) i
@@ -446,15 +424,7 @@ module _ (t : ℕ) (end : TaskEnd) (told : Told) (it : Recorded) (allows : Allow
       calls = λ n. ap (λ calls. thing_in nat_cmp calls n) (same_calls (work_of it t)) ∙ stands.calls n;
       works = works;
       linked = linked;
-      once = record {
-        instances = (once_cleared (work_of it t)).instances;
-        machines = (once_cleared (work_of it t)).machines;
-        orphans = (once_cleared (work_of it t)).orphans;
-        keys = (once_cleared (work_of it t)).keys;
-        tasks = once_altered nat_cmp t (option_map (with_end end)) it.tasks (stands.once).tasks;
-        works = once_without nat_cmp t it.works (stands.once).works;
-        calls = (once_cleared (work_of it t)).calls;
-      };
+      ordered = ordered;
       tells_well = record {
         number = stands.tells_well.number;
         low = stands.tells_well.low;

@@ -30,7 +30,7 @@ use Rattle.laws_facts.specs.KnownFacts.{KnownFacts}
 use Rattle.laws_facts.specs.Owners.{works}
 use Rattle.laws_stands.specs.Agrees.{Agrees}
 use Rattle.laws_stands.specs.Reading.{row_of}
-use Rattle.laws_stands.specs.Stands.{Stands, StandsIn}
+use Rattle.laws_stands.specs.Stands.{Stands, StandsIn, StandsInOrder}
 use Rattle.laws_stands.specs.Told.{Told, telling}
 use Rattle.laws_stands_after.proofs.DiskBegunLemmas.{after_disk_begin}
 use Rattle.laws_stands_after.specs.Disks.{AllowsDisk}
@@ -42,11 +42,11 @@ use Rattle.laws_stands_on.specs.Allows.{AllowsCall, AllowsNext, HasPlaces}
 -- ---- what is planned for a call that begins, with the room that was made for it
 
 begun_by : (was : Records) (b : Begin) (new : Told) (it : Recorded) (subject : Subject) → subject_of was b ≡ subject
-    → StandsIn new (begun_in (record { begin = b; subject = subject }) it) → (change : Change)
-    → IsBeginning b (subject_of was b) change → StandsIn new (learned (entries.Begin b) change it)
+    → StandsInOrder new (begun_in (record { begin = b; subject = subject }) it) → (change : Change)
+    → IsBeginning b (subject_of was b) change → StandsInOrder new (learned (entries.Begin b) change it)
 begun_by was b new it subject is stands (changes.Begun begun) (begin_is, subject_is) =
-    subst (λ begin. StandsIn new (begun_in (record { begin = begin; subject = begun.subject }) it)) (sym begin_is)
-    (subst (λ subject. StandsIn new (begun_in (record { begin = b; subject = subject }) it))
+    subst (λ begin. StandsInOrder new (begun_in (record { begin = begin; subject = begun.subject }) it)) (sym begin_is)
+    (subst (λ subject. StandsInOrder new (begun_in (record { begin = b; subject = subject }) it))
     (sym (subject_is ∙ is)) stands)
 begun_by was b new it subject is stands (changes.Release other) planned = absurd planned
 begun_by was b new it subject is stands (changes.Stemcell other) planned = absurd planned
@@ -88,10 +88,10 @@ module _ (told : Told) (was now : Records) (n number worker : ℕ) (call : Call)
         (stands.rows i ∙ sym (roomy.rows i))
 
     pub instance_begins : Stands (telling told (entries.Begin b)) now
-    instance_begins = subst (StandsIn (telling told (entries.Begin b))) (sym learns.is_learned)
+    instance_begins = subst (StandsInOrder (telling told (entries.Begin b))) (sym learns.is_learned)
         (begun_by was b (telling told (entries.Begin b)) it
         (subjects.Instance (begun_row number call (unwrap_or (row_of it i) (bare i)))) subject_is
-        (after_begin told it n number worker call i allows places roomy) learns.change learns.planned)
+        (after_begin told it n number worker call i allows places roomy) learns.change learns.planned) learns.ordered
 
   -- ---- of a disk
   module _ (d : ℕ)
@@ -107,10 +107,10 @@ module _ (told : Told) (was now : Records) (n number worker : ℕ) (call : Call)
         (call_there c (recorded was))
 
     pub disk_begins : Stands (telling told (entries.Begin c)) now
-    disk_begins = subst (StandsIn (telling told (entries.Begin c))) (sym learns.is_learned)
+    disk_begins = subst (StandsInOrder (telling told (entries.Begin c))) (sym learns.is_learned)
         (begun_by was c (telling told (entries.Begin c)) (recorded learns.roomy) (subject_of was c) refl
         (after_disk_begin told was (recorded learns.roomy) n number worker call d next allows there
-        (roomy_stands told was (entries.Begin c) now learns stands)) learns.change learns.planned)
+        (roomy_stands told was (entries.Begin c) now learns stands)) learns.change learns.planned) learns.ordered
 
 -- ---- where it may be noted
 

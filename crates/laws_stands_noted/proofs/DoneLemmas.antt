@@ -1,5 +1,5 @@
 -- A task is done that changes nothing of a deployment, where that may be noted.
-use Rattle.std.proofs.Common.{◌≡◌, ◌∙◌, ℕ, ◌≤◌, Bool, true, false, ◌&&◌, List, Option, Some, None, ap, refl, subst, sym}
+use Rattle.std.proofs.Common.{◌≡◌, ◌∙◌, ℕ, true, false, ◌&&◌, List, Option, Some, None, ap, refl, subst, sym}
 use Rattle.std.specs.Prelude.{is_some, nat_le, if◌then◌else◌}
 use Rattle.std.specs.Option.{option_and_then, option_map_or}
 use Rattle.std.specs.Ordering.{nat_cmp}
@@ -7,7 +7,6 @@ use Rattle.std.proofs.lemmas.Bool.{le-leb}
 use Rattle.bosh_base.specs.declared.entry.Entry.TheVariants as entries
 use Rattle.bosh_base.specs.declared.goal.Goal.{Goal}
 use Rattle.bosh_base.specs.declared.offer.Offer.{Offer}
-use Rattle.bosh_base.specs.declared.snapshot.DepRow.{DepRow}
 use Rattle.bosh_base.specs.declared.task.TaskEnd.TheVariants as ends
 use Rattle.bosh_base.specs.declared.task.TaskKind.{TaskKind}
 use Rattle.bosh_base.specs.declared.task.TaskKind.TheVariants as kinds
@@ -28,13 +27,13 @@ use Rattle.bosh_records.specs.Readers.{deployment_in}
 use Rattle.bosh_records.specs.Recorded.{Recorded, recorded}
 use Rattle.bosh_records.specs.Table.{thing_in}
 use Rattle.bosh_records.specs.declared.records.Records.{Records}
-use Rattle.laws_choices.proofs.SameCallLemmas.{told_at, told_is}
+use Rattle.laws_choices.proofs.SameCallLemmas.{told_is}
 use Rattle.laws_facts.proofs.CurrentLemmas.{done_works}
 use Rattle.laws_facts.specs.KnownFacts.{KnownFacts}
 use Rattle.laws_facts.specs.Owners.{works}
 use Rattle.laws_items.proofs.ListedLemmas.{WorksAt, works_at}
 use Rattle.laws_stands.specs.Agrees.{Agrees}
-use Rattle.laws_stands.specs.Stands.{Stands, StandsIn}
+use Rattle.laws_stands.specs.Stands.{Stands, StandsIn, StandsInOrder}
 use Rattle.laws_stands.specs.Told.{Told, telling}
 use Rattle.laws_stands_closed.proofs.ClosedLemmas.{closed_stands}
 use Rattle.laws_stands_closed.specs.Closed.{AllowsClose, told_ended}
@@ -107,9 +106,9 @@ module _ (m : Moment) (told : Told) (was now : Records) (t : ℕ) (stands : Stan
 
   pub task_done : Stands (telling told (entries.TaskDone t)) now
   task_done =
-      subst (λ told. StandsIn told (recorded now)) told_same
-      (subst (StandsIn (told_ended t ends.Finished told)) (sym learns.is_learned)
-      (subst (λ (change : Change). StandsIn (told_ended t ends.Finished told)
+      subst (λ told. StandsInOrder told (recorded now)) told_same
+      (subst (StandsInOrder (told_ended t ends.Finished told)) (sym learns.is_learned)
+      (subst (λ (change : Change). StandsInOrder (told_ended t ends.Finished told)
       (learned (entries.TaskDone t) change it)) (sym learns.planned)
-      (subst (λ (it : Recorded). StandsIn (told_ended t ends.Finished told) (closed_task t ends.Finished it))
-      (sym (nothing_done (offers_after was t))) (closed_stands t ends.Finished told it allows roomy))))
+      (subst (λ (it : Recorded). StandsInOrder (told_ended t ends.Finished told) (closed_task t ends.Finished it))
+      (sym (nothing_done (offers_after was t))) (closed_stands t ends.Finished told it allows roomy)))) learns.ordered

@@ -18,7 +18,7 @@ use Rattle.laws_choices.proofs.SameCallLemmas.{told_at, told_is}
 use Rattle.laws_facts.specs.CallFacts.{CallFacts}
 use Rattle.laws_facts.specs.KnownFacts.{KnownFacts}
 use Rattle.laws_stands.specs.Agrees.{Agrees}
-use Rattle.laws_stands.specs.Stands.{Stands, StandsIn}
+use Rattle.laws_stands.specs.Stands.{Stands, StandsInOrder}
 use Rattle.laws_stands.specs.Told.{Told, telling}
 use Rattle.laws_stands_after.proofs.DiskEndedLemmas.{after_disk_end}
 use Rattle.laws_stands_after.specs.Disks.{AllowsDisk}
@@ -29,12 +29,13 @@ use Rattle.laws_stands_on.specs.Allows.{AllowsEnd}
 
 -- what is planned for a call that ends is learned
 ended_by : (told : Told) (was now : Records) (e : End) (learns : Learns was (entries.End e) now)
-    → StandsIn (telling told (entries.End e)) (ended_in (ended_of was e) (recorded learns.roomy))
+    → StandsInOrder (telling told (entries.End e)) (ended_in (ended_of was e) (recorded learns.roomy))
     → Stands (telling told (entries.End e)) now
 ended_by told was now e learns stands =
-    subst (StandsIn (telling told (entries.End e))) (sym learns.is_learned)
-    (subst (λ (change : Change). StandsIn (telling told (entries.End e))
+    subst (StandsInOrder (telling told (entries.End e))) (sym learns.is_learned)
+    (subst (λ (change : Change). StandsInOrder (telling told (entries.End e))
     (learned (entries.End e) change (recorded learns.roomy))) (sym learns.planned) stands)
+    learns.ordered
 
 -- ---- where it may be noted
 
@@ -61,7 +62,7 @@ module _ (m : Moment) (told : Told) (was now : Records) (n : ℕ) (answer : Answ
       → Stands (telling told (entries.End (record { n = n; answer = answer }))) now
   ends_instance i own =
       ended_by told was now (record { n = n; answer = answer }) learns
-      (subst (λ n. StandsIn (telling told (entries.End (record { n = n; answer = answer })))
+      (subst (λ n. StandsInOrder (telling told (entries.End (record { n = n; answer = answer })))
       (ended_in (ended_of was (record { n = n; answer = answer })) (recorded learns.roomy))) its.number
       (after_end told was (recorded learns.roomy) b.task b.n b.worker b.call answer i
       (subst (λ (b : Begin). AllowsEnd told b answer i) (λ j. record b { owner = own j })
@@ -72,7 +73,7 @@ module _ (m : Moment) (told : Told) (was now : Records) (n : ℕ) (answer : Answ
       → Stands (telling told (entries.End (record { n = n; answer = answer }))) now
   ends_disk d own =
       ended_by told was now (record { n = n; answer = answer }) learns
-      (subst (λ n. StandsIn (telling told (entries.End (record { n = n; answer = answer })))
+      (subst (λ n. StandsInOrder (telling told (entries.End (record { n = n; answer = answer })))
       (ended_in (ended_of was (record { n = n; answer = answer })) (recorded learns.roomy))) its.number
       (after_disk_end told was (recorded learns.roomy) b.task b.n b.worker b.call answer d
       (there ∙ (λ j. Some (record b { owner = own j })))

@@ -36,7 +36,7 @@ use Rattle.laws_facts.specs.Owners.{works}
 use Rattle.laws_items.proofs.ListLemmas.{all_in}
 use Rattle.laws_items.proofs.ListedLemmas.{names_its_own}
 use Rattle.laws_stands.specs.Agrees.{Agrees}
-use Rattle.laws_stands.specs.Stands.{Stands, StandsIn}
+use Rattle.laws_stands.specs.Stands.{Stands, StandsInOrder}
 use Rattle.laws_stands.specs.Told.{Told, of_others, telling}
 use Rattle.laws_stands_closed.proofs.ClosedLemmas.{closed_stands}
 use Rattle.laws_stands_closed.specs.Closed.{AllowsClose, told_ended}
@@ -144,16 +144,16 @@ module _ (m : Moment) (told : Told) (was now : Records) (t : ℕ) (cause : Failu
 
   pub task_failed : Stands (telling told (entries.TaskError e)) now
   task_failed =
-      subst (λ told. StandsIn told (recorded now)) told_same
-      (subst (StandsIn (told_ended t end told)) (sym learns.is_learned)
-      (subst (λ (change : Change). StandsIn (told_ended t end told)
+      subst (λ told. StandsInOrder told (recorded now)) told_same
+      (subst (StandsInOrder (told_ended t end told)) (sym learns.is_learned)
+      (subst (λ (change : Change). StandsInOrder (told_ended t end told)
       (learned (entries.TaskError e) change (recorded learns.roomy))) (sym learns.planned)
-      (subst (λ planned. StandsIn (told_ended t end told)
+      (subst (λ planned. StandsInOrder (told_ended t end told)
       (closed_task t planned (interrupted_in t planned (recorded learns.roomy)))) (sym plan_is)
-      (subst (λ (it : Recorded). StandsIn (told_ended t end told) (closed_task t end it))
+      (subst (λ (it : Recorded). StandsInOrder (told_ended t end told) (closed_task t end it))
       (sym (not_interrupted cause called (told.known.begun (number_of cause)) begun t (recorded learns.roomy)))
       (closed_stands t end told (recorded learns.roomy) allows
-      (roomy_stands told was (entries.TaskError e) now learns stands))))))
+      (roomy_stands told was (entries.TaskError e) now learns stands)))))) learns.ordered
 
 pub failure_noted : (m : Moment) (told : Told) (was now : Records) (t : ℕ) (cause : Failure) → IsOfCall cause
     → Stands told was → Agrees m told → KnownFacts m → FailsTask m (record { task = t; cause = cause })

@@ -19,7 +19,7 @@ use Rattle.laws_facts.specs.Facts.{Holds}
 use Rattle.laws_facts.specs.KnownFacts.{KnownFacts}
 use Rattle.laws_facts.specs.Owners.{works}
 use Rattle.laws_stands.specs.Agrees.{Agrees}
-use Rattle.laws_stands.specs.Stands.{Stands, StandsIn}
+use Rattle.laws_stands.specs.Stands.{Stands, StandsIn, StandsInOrder}
 use Rattle.laws_stands.specs.Told.{Told, telling}
 use Rattle.laws_stands_noted.proofs.UpdateLemmas.{allows_finish, allows_leave, allows_update}
 use Rattle.laws_stands_on.proofs.RoomyLemmas.{roomy_stands}
@@ -71,14 +71,14 @@ module _ (m : Moment) (told : Told) (was now : Records) (u : Update) (stands : S
         → may_follow m (entries.UpdBegin u) ≡ true → Learns was (entries.UpdBegin u) now
         → Stands (telling told (entries.UpdBegin u)) now
     update_begins facts numbers noted follows learns =
-        subst (StandsIn (telling told (entries.UpdBegin u))) (sym learns.is_learned)
-        (subst (λ (change : Change). StandsIn (telling told (entries.UpdBegin u))
+        subst (StandsInOrder (telling told (entries.UpdBegin u))) (sym learns.is_learned)
+        (subst (λ (change : Change). StandsInOrder (telling told (entries.UpdBegin u))
         (learned (entries.UpdBegin u) change (recorded learns.roomy))) (sym learns.planned)
         (after_begun u told (recorded learns.roomy)
         (subst (λ told. AllowsUpdate told u) (told_now facts working)
         (allows_update m was u (at_work m told was u.task facts stands agrees working) facts working numbers noted
         told.snapped))
-        (roomy_stands told was (entries.UpdBegin u) now learns stands)))
+        (roomy_stands told was (entries.UpdBegin u) now learns stands))) learns.ordered
       where
         working : works m u.task ≡ true
         working = done_works m u.task follows noted.is_open

@@ -14,6 +14,7 @@ use Rattle.bosh_base.specs.declared.key.Key.{Key}
 use Rattle.bosh_base.specs.declared.snapshot.DepRow.{DepRow}
 use Rattle.bosh_base.specs.declared.task.TaskRow.{TaskRow}
 use Rattle.bosh_records.specs.Keys.{key_cmp}
+use Rattle.bosh_records.specs.Ordered.{AreOrdered}
 use Rattle.bosh_records.specs.Places.{part_of}
 use Rattle.bosh_records.specs.Readers.{machine_cmp}
 use Rattle.bosh_records.specs.Recorded.{Recorded, is_only_asked, is_unknown, kept}
@@ -28,6 +29,7 @@ use Rattle.laws_stands.specs.Linked.{want_place}
 use Rattle.laws_stands.specs.Reading as reading
 use Rattle.laws_stands.specs.Stands.{IsWork, StandsIn}
 use Rattle.laws_stands.specs.Told.{Told}
+use Rattle.laws_stands.proofs.OrderLemmas.{once_of}
 use Rattle.laws_stands_on.proofs.TableLemmas.{TellsKeys, nat_keys}
 use Rattle.laws_stands_on.proofs.KeyLemmas.{inst_keys, key_keys, machine_keys}
 use Rattle.laws_stands.specs.Once.{AreOnce, IsOnce}
@@ -106,10 +108,13 @@ unknown_says it is =
       change = none_is it.part.change change;
     }
 
-module _ (told : Told) (was now : Recorded) (once_now : AreOnce now) (alike : kept now ≡ kept was)
+module _ (told : Told) (was now : Recorded) (ordered : AreOrdered now) (alike : kept now ≡ kept was)
     (stands : StandsIn told was) where
   once : AreOnce was
-  once = stands.once
+  once = once_of stands.ordered
+
+  once_now : AreOnce now
+  once_now = once_of ordered
 
   -- a table of places
   places_same : {K V : Type 0} (cmp : K → K → Ordering) (tells : TellsKeys cmp) (table : Recorded
@@ -231,7 +236,7 @@ module _ (told : Told) (was now : Recorded) (once_now : AreOnce now) (alike : ke
           stands.linked.deletions t w d loose (sym (work_same t) ∙ is) (sym (orphan_same d) ∙ there)
           (sym (dep_same t) ∙ dep);
     };
-    once = once_now;
+    ordered = ordered;
     tells_well = stands.tells_well;
   }
     where

@@ -18,7 +18,7 @@ use Rattle.bosh_base.specs.declared.task.TaskEnd.{TaskEnd}
 use Rattle.bosh_fold.specs.Calls.{built_in}
 use Rattle.bosh_fold.specs.Calls.{pinged_by}
 use Rattle.bosh_history.specs.Calls as known_calls
-use Rattle.bosh_history.specs.Calls.{call_ended, least_failure, number_of, task_told}
+use Rattle.bosh_history.specs.Calls.{least_failure, number_of}
 use Rattle.bosh_history.specs.Known.{Known}
 use Rattle.bosh_history.specs.Steps.{compiles}
 use Rattle.bosh_history.specs.Tasks.{end_by}

@@ -25,7 +25,6 @@ use Rattle.bosh_history.specs.Steps.{compiles}
 use Rattle.bosh_history.specs.Words.{at, inserted, is_among}
 use Rattle.bosh_plan.specs.declared.beginning.Subject.TheVariants as subjects
 use Rattle.bosh_progress.specs.Tree.{first_marked}
-use Rattle.bosh_records.specs.Changes.{with_one_call}
 use Rattle.bosh_records.specs.Places.{part_of, places_in}
 use Rattle.bosh_records.specs.Recorded.{Recorded}
 use Rattle.bosh_records.specs.Table.{altered, found}
@@ -45,7 +44,7 @@ use Rattle.laws_facts.proofs.OrderLemmas.{any_inserted}
 use Rattle.laws_stands.proofs.MemberLemmas.{inst_is}
 use Rattle.laws_stands.proofs.PremiseLemmas.{none_at}
 use Rattle.laws_stands.specs.Reading.{dep_of, instance_of, row_of, work_of}
-use Rattle.laws_stands.specs.Stands.{AreSwept, IsWork, StandsIn, arrivals_of, call_of, key_of_slot}
+use Rattle.laws_stands.specs.Stands.{AreSwept, IsWork, StandsIn, StandsInOrder, arrivals_of, call_of, key_of_slot}
 use Rattle.laws_stands.specs.Told.{TellsWell, Told, idle_in, is_going, telling}
 use Rattle.laws_stands.specs.WorkStands.{StandsFor, places_of}
 use Rattle.laws_stands_on.proofs.FindLemmas.{compiling_begun}
@@ -53,7 +52,6 @@ use Rattle.laws_stands_on.proofs.KeyLemmas.{inst_at, inst_keys}
 use Rattle.laws_stands_on.proofs.LinkLemmas.{ListsSame, changed_work, links_go_on}
 use Rattle.laws_stands_on.proofs.ListedLemmas.{SameListed, listed_goes_on}
 use Rattle.laws_stands_on.proofs.TableLemmas.{found_altered, nat_at, nat_keys, thing_changed}
-use Rattle.laws_stands_on.proofs.OnceLemmas.{once_altered}
 use Rattle.laws_stands_on.proofs.CallLemmas.{inst_flip}
 use Rattle.laws_stands_on.proofs.NextCallLemmas as next_call
 use Rattle.laws_stands_on.proofs.WorkLemmas.{after_call_begun, compiles_itself}
@@ -344,8 +342,8 @@ module _ (told : Told) (it : Recorded) (n number worker : ℕ) (call : Call) (i 
   came : begun.came ≡ arrivals_of new.known
   came = λ j. record (stands.uploads j) { last_call = number }
 
-  pub begun_stands : StandsIn new begun
-  begun_stands = record {
+  pub begun_stands : StandsInOrder new begun
+  begun_stands = λ ordered. record {
     uploads = came;
     deployments = stands.deployments;
     rows = rows;
@@ -376,18 +374,7 @@ module _ (told : Told) (it : Recorded) (n number worker : ℕ) (call : Call) (i 
       machines = λ name. refl;
       orphans = λ d. refl;
     }) stands.linked;
-    once = record {
-      instances = once_altered inst_cmp i (λ known. record known { call = Some number }) (with_row row it).instances
-          (once_altered inst_cmp row.inst (λ known. record known { row = Some row }) it.instances
-          (stands.once).instances);
-      machines = (stands.once).machines;
-      orphans = (stands.once).orphans;
-      keys = (stands.once).keys;
-      tasks = once_altered nat_cmp n (option_map with_one_call) it.tasks (stands.once).tasks;
-      works = once_altered nat_cmp n (option_map (λ work. taken work (places_in noted (Instance i)))) it.works
-          (stands.once).works;
-      calls = once_altered nat_cmp number (λ _. Some b) it.calls (stands.once).calls;
-    };
+    ordered = ordered;
     tells_well = let tells : TellsWell _ = next_call.tells_next told it b next stands (inserted inst_cmp i k.instances)
         (λ x is. among_is x ∙ or_true (same_inst x i) (is_among same_inst x k.instances) is)
         (λ x own. among_is x ∙ own_first x own) in record {
@@ -408,7 +395,7 @@ module _ (told : Told) (it : Recorded) (n number worker : ℕ) (call : Call) (i 
   }
 
   -- .. as it is learned
-  pub after_begin : StandsIn new
+  pub after_begin : StandsInOrder new
       (noted_call b (counted n (opened_call b (with_subject (Instance i) (subjects.Instance row) it))))
-  after_begin = subst (λ (x : Recorded). StandsIn new (noted_call b (counted n (taken_by n (Instance i) x))))
+  after_begin = subst (λ (x : Recorded). StandsInOrder new (noted_call b (counted n (taken_by n (Instance i) x))))
       (sym (none_compiled call (Some number) noted allows.compiles_none)) begun_stands

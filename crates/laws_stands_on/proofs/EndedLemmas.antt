@@ -20,7 +20,7 @@ use Rattle.bosh_compile.specs.Readiness.{same_key}
 use Rattle.bosh_fold.specs.Calls.{closed_call, ended_by, ended_in, failed_in, given_by}
 use Rattle.bosh_fold.specs.Calls.{pinged_by, with_call, with_row}
 use Rattle.bosh_history.specs.Calls as known_calls
-use Rattle.bosh_history.specs.Calls.{call_ended, least_failure, number_of, task_told}
+use Rattle.bosh_history.specs.Calls.{call_ended, least_failure, task_told}
 use Rattle.bosh_history.specs.Items.{is_in_deployment}
 use Rattle.bosh_history.specs.Known.{Known, SlotName, Task}
 use Rattle.bosh_history.specs.Slots.{keys_of}
@@ -49,7 +49,7 @@ use Rattle.bosh_work.specs.declared.work.Work.{Work}
 use Rattle.laws_stands.proofs.MemberLemmas.{inst_is}
 use Rattle.laws_stands.proofs.PremiseLemmas.{none_at}
 use Rattle.laws_stands.specs.Reading.{dep_of, instance_of, row_of, work_of}
-use Rattle.laws_stands.specs.Stands.{AreSwept, IsWork, Stands, StandsIn, call_of, key_of_slot}
+use Rattle.laws_stands.specs.Stands.{AreSwept, IsWork, Stands, StandsIn, StandsInOrder, call_of, key_of_slot}
 use Rattle.laws_stands.specs.Told.{TellsWell, Told, idle_in, is_going, is_idle, telling}
 use Rattle.laws_stands.specs.WorkStands.{StandsFor, asked_line, asks, end_of, places_of}
 use Rattle.laws_stands_on.proofs.BegunLemmas.{none_compiled}
@@ -60,10 +60,10 @@ use Rattle.laws_stands_on.proofs.ListedLemmas.{SameListed, listed_goes_on}
 use Rattle.laws_stands_on.proofs.TableLemmas.{found_altered}
 use Rattle.laws_stands_on.proofs.CallLemmas.{inst_flip}
 use Rattle.laws_stands_on.proofs.NextCallLemmas.{row_by}
+use Rattle.laws_stands.proofs.OrderLemmas.{once_of}
 use Rattle.laws_stands_on.proofs.OnlyCallLemmas as only_call
 use Rattle.laws_stands_on.proofs.WorkLemmas.{after_call_ended, after_ping}
 use Rattle.laws_stands_on.specs.Allows.{AllowsEnd}
-use Rattle.laws_stands_on.proofs.OnceLemmas.{once_altered, once_without}
 use Rattle.laws_stands_on.proofs.AnsweredLemmas.{ended_as, ended_work, ends_same, none_built}
 use Rattle.laws_stands_on.proofs.AnsweredLemmas.{none_known, pinged_as, takes_as, takes_ping}
 use Rattle.laws_stands_on.proofs.TaskLemmas.{dep_recorded, part_listed}
@@ -430,8 +430,8 @@ module _ (told : Told) (was : Records) (it : Recorded) (n number worker : ℕ) (
 
   -- ---- all
 
-  ended_stands : StandsIn new ended
-  ended_stands = record {
+  ended_stands : StandsInOrder new ended
+  ended_stands = λ ordered. record {
     uploads = stands.uploads;
     deployments = stands.deployments;
     rows = rows;
@@ -457,7 +457,7 @@ module _ (told : Told) (was : Records) (it : Recorded) (n number worker : ℕ) (
         ∙ sym (only_call.task_same told it b answer pinged only stands
         (λ (it : Task). if nat_le 1 t && nat_le t k.tasks then Some (row_by t it) else None) refl
         t);
-    calls = only_call.calls_last told it b answer pinged only stands (stands.once).calls;
+    calls = only_call.calls_last told it b answer pinged only stands (once_of stands.ordered).calls;
     works = works;
     linked = links_go_on it ended (record {
       wants = kept_of (λ known. known.want) (λ known. refl);
@@ -468,16 +468,7 @@ module _ (told : Told) (was : Records) (it : Recorded) (n number worker : ℕ) (
       machines = λ name. refl;
       orphans = λ d. refl;
     }) stands.linked;
-    once = record {
-      instances = once_altered inst_cmp row.inst (λ known. record known { row = Some row }) closed.instances
-          (once_altered inst_cmp i (λ known. record known { call = None }) it.instances (stands.once).instances);
-      machines = (stands.once).machines;
-      orphans = (stands.once).orphans;
-      keys = (stands.once).keys;
-      tasks = (stands.once).tasks;
-      works = only_call.once_ended n asked places fail it.works (stands.once).works;
-      calls = once_without nat_cmp number it.calls (stands.once).calls;
-    };
+    ordered = ordered;
     tells_well = let tells : TellsWell _ = only_call.tells_last told it b answer pinged only stands in record {
       number = tells.number;
       low = tells.low;
@@ -496,8 +487,8 @@ module _ (told : Told) (was : Records) (it : Recorded) (n number worker : ℕ) (
   }
 
   -- .. as it is learned
-  pub after_end : StandsIn (telling told (entries.End e)) (ended_in (ended_of was e) it)
+  pub after_end : StandsInOrder (telling told (entries.End e)) (ended_in (ended_of was e) it)
   after_end =
-      subst (λ (plan : Ended). StandsIn (telling told (entries.End e)) (ended_in plan it)) (sym plan_is)
-      (subst (StandsIn (telling told (entries.End e))) (sym ended_is) (subst (λ (told : Told). StandsIn told ended)
+      subst (λ (plan : Ended). StandsInOrder (telling told (entries.End e)) (ended_in plan it)) (sym plan_is)
+      (subst (StandsInOrder (telling told (entries.End e))) (sym ended_is) (subst (λ (told : Told). StandsInOrder told ended)
       (sym told_is) ended_stands))

@@ -75,15 +75,16 @@ module _ (told : Told) (b : Begin) (next : b.n ≡ told.known.last_call + 1) whe
       number = omega arith
 
   -- whether one compiles a key
-  pub compiling_begun : (key : Key) → compiles key b.call ≡ false
+  pub any_begun : (key : Key)
       → list_any (λ c. holds (λ (d : Begin). compiles key d.call) (at eqb b.n (Some b) told.calls c))
       (numbers_to b.n)
-      ≡ list_any (λ c. holds (λ (d : Begin). compiles key d.call) (told.calls c)) (numbers_to told.known.last_call)
-  compiling_begun key none =
+      ≡ (list_any (λ c. holds (λ (d : Begin). compiles key d.call) (told.calls c)) (numbers_to told.known.last_call)
+      || compiles key b.call)
+  any_begun key =
       ap (λ m. list_any now (numbers_to m)) (next ∙ add-one told.known.last_call)
       ∙ list_any-append now (numbers_to told.known.last_call) (suc told.known.last_call ∷ [])
-      ∙ (λ i. any_within now was told.known.last_call (others test) i || ((here test ∙ none) i || false))
-      ∙ or_false (list_any was (numbers_to told.known.last_call))
+      ∙ (λ i. any_within now was told.known.last_call (others test) i || (here test i || false))
+      ∙ or_false (list_any was (numbers_to told.known.last_call)) (compiles key b.call)
     where
       test : Option Begin → Bool
       test o = holds (λ (d : Begin). compiles key d.call) o
@@ -94,6 +95,23 @@ module _ (told : Told) (b : Begin) (next : b.n ≡ told.known.last_call + 1) whe
       was : ℕ → Bool
       was c = holds (λ (d : Begin). compiles key d.call) (told.calls c)
 
-      or_false : (a : Bool) → (a || (false || false)) ≡ a
-      or_false true = refl
-      or_false false = refl
+      or_false : (a c : Bool) → (a || (c || false)) ≡ (a || c)
+      or_false true c = refl
+      or_false false true = refl
+      or_false false false = refl
+
+  pub compiling_begun : (key : Key) → compiles key b.call ≡ false
+      → list_any (λ c. holds (λ (d : Begin). compiles key d.call) (at eqb b.n (Some b) told.calls c))
+      (numbers_to b.n)
+      ≡ list_any (λ c. holds (λ (d : Begin). compiles key d.call) (told.calls c)) (numbers_to told.known.last_call)
+  compiling_begun key none = any_begun key ∙ by (compiles key b.call) none
+    where
+      was : Bool
+      was = list_any (λ c. holds (λ (d : Begin). compiles key d.call) (told.calls c)) (numbers_to told.known.last_call)
+
+      or_none : (a : Bool) → (a || false) ≡ a
+      or_none true = refl
+      or_none false = refl
+
+      by : (u : Bool) → u ≡ false → (was || u) ≡ was
+      by u is = (λ j. was || is j) ∙ or_none was

@@ -198,8 +198,8 @@ marks_set : (t : Task) (i : Inst) (apart : are_distinct same_inst t.changed ≡ 
 marks_set t i apart f g b place ms place_is are now =
     ap (λ ms. slice_set ms place b) are
     ∙ sym (same_marks g (at same_inst i b f) (changed_in t i.group) now
-    ∙ one_more same_inst i b f (changed_in t i.group) inst_is
-    (apart_filtered same_inst (λ x. bytes_eq x.group i.group) t.changed apart)
+    ∙ one_more same_inst inst_is (changed_in t i.group)
+    (apart_filtered same_inst (λ x. bytes_eq x.group i.group) t.changed apart) i b f
     ∙ ap (λ k. set_at k b (map f (changed_in t i.group))) place_is)
 
 module _ (t : Task) (idle : Inst → Bool) (i : Inst) (apart : are_distinct same_inst t.changed ≡ true)

@@ -10,7 +10,6 @@ pub mod KeyLemmas
 pub mod LinkLemmas
 pub mod ListedLemmas
 pub mod NextCallLemmas
-pub mod OnceLemmas
 pub mod OnlyCallLemmas
 pub mod RoomyLemmas
 pub mod TableLemmas

@@ -41,7 +41,6 @@ use Rattle.laws_stands.specs.WorkStands.{end_of, is_task_call}
 use Rattle.laws_stands_on.proofs.AnsweredLemmas.{ended_work, failed_as, least_is}
 use Rattle.laws_stands_on.proofs.CallLemmas.{count_within, idle_ended, one_less}
 use Rattle.laws_stands_on.proofs.FindLemmas.{find_within, none_is_found}
-use Rattle.laws_stands_on.proofs.OnceLemmas.{once_altered}
 use Rattle.laws_stands_on.proofs.TableLemmas.{found_without, nat_at, nat_keys}
 use Rattle.laws_stands.specs.Once.{IsOnce}
 use Rattle.laws_stands_on.proofs.ChangedLemmas.{things_changed, thing_at_key}
@@ -76,24 +75,6 @@ ended_works_are n true places fail works t =
     by true (Some w) = refl
     by true None = refl
     by false o = refl
-
-pub once_ended : (n : ℕ) (asked : Bool) (places : Places) (fail : Option TaskEnd) (works : List (ℕ × Option Work))
-    → IsOnce nat_cmp works → IsOnce nat_cmp (ended_works n asked places fail works)
-once_ended n asked places fail works once =
-    once_altered nat_cmp n (option_map (λ work. failed_by work fail)) (pinged asked) (by asked)
-  where
-    given_works : List (ℕ × Option Work)
-    given_works = changed nat_cmp n (λ work. given work places) works
-
-    pinged : Bool → List (ℕ × Option Work)
-    pinged asked = if asked then changed nat_cmp n (with_pinged places.part.ping) given_works else given_works
-
-    given_once : IsOnce nat_cmp given_works
-    given_once = once_altered nat_cmp n (option_map (λ work. given work places)) works once
-
-    by : (asked : Bool) → IsOnce nat_cmp (pinged asked)
-    by true = once_altered nat_cmp n (option_map (with_pinged places.part.ping)) given_works given_once
-    by false = given_once
 
 -- .. of which it is told who answered a ping
 module _ (told : Told) (it : Recorded) (b : Begin) (answer : Answer) (pinged : Inst → Bool)

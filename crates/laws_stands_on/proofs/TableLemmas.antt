@@ -1,15 +1,17 @@
 -- What is found in a table of which something changed at one key.
 use Rattle.std.proofs.Common.{◌≡◌, ◌∙◌, ℕ, Bool, true, false, List, [], ◌∷◌, Option, Some, None, ap, refl, sym}
 use Rattle.std.proofs.Common.{arith}
-use Rattle.std.specs.Prelude.{cond, eqb, option_map, if◌then◌else◌}
-use Rattle.std.specs.BTreeMap.{is_at}
-use Rattle.std.specs.Map.{lookup, set_value}
+use Rattle.std.specs.Prelude.{cond, eqb, is_some, option_map, if◌then◌else◌}
+use Rattle.std.specs.BTreeMap.{insert_entry, is_at}
+use Rattle.std.specs.Map.{keys_of, lookup, set_value}
 use Rattle.std.specs.Option.{option_and_then, option_map_or}
-use Rattle.std.specs.Ordering.{nat_cmp}
+use Rattle.std.specs.Ordering.{is_eq, match_ordering, nat_cmp}
 use Rattle.std.specs.declared.cmp.Ordering.{Ordering}
+use Rattle.std.specs.declared.cmp.Ordering.TheVariants.{Equal, Greater, Less}
 use Rattle.std.proofs.lemmas.Bool.{eqb-true, true≢false}
 use Rattle.std.proofs.lemmas.Bool.Decides.{nat_tests}
-use Rattle.bosh_records.specs.Table.{altered, changed, found, thing_in, without}
+use Rattle.std.proofs.lemmas.Map.{keys-set_value}
+use Rattle.bosh_records.specs.Table.{altered, changed, each_thing, found, thing_in, with_room, without}
 use Rattle.laws_stands.specs.Once.{IsOnce}
 
 -- keys that compare as equal are one
@@ -141,3 +143,77 @@ found_without {K} {X} cmp tells key (e ∷ es) (none, once) k = by (is_at (cmp k
         ∙ (λ i. cond (away i) (Some e.1) (found cmp (without cmp key es) k))
         ∙ more
         ∙ (λ i. if is_at (cmp key) k then None else cond (sym away i) (Some e.1) (found cmp es k))
+
+-- ---- the same keys
+
+pub altered_keys : {K X : Type 0} (cmp : K → K → Ordering) (key : K) (change : X → X) (es : List (K × X))
+    → keys_of (altered cmp key change es) ≡ keys_of es
+altered_keys {K} {X} cmp key change es = by (lookup (is_at (cmp key)) es)
+  where
+    by : (o : Option X)
+        → keys_of (option_map_or (λ it. set_value (is_at (cmp key)) es (change it)) o es) ≡ keys_of es
+    by (Some it) = keys-set_value (is_at (cmp key)) es (change it)
+    by None = refl
+
+pub each_keys : {K V : Type 0} (change : V → V) (places : List (K × Option V))
+    → keys_of (each_thing change places) ≡ keys_of places
+each_keys change [] = refl
+each_keys change (e ∷ places) = λ i. e.0 ∷ each_keys change places i
+
+-- ---- room for a key that does not stand there
+
+none_there : {X : Type 0} (b : Bool) (x : X) (o : Option X) → cond b (Some x) o ≡ None → (b ≡ false) × (o ≡ None)
+none_there true x o is = absurd (true≢false (ap is_some is))
+none_there false x o is = (refl, is)
+
+module _ {K X : Type 0} (cmp : K → K → Ordering) (tells : TellsKeys cmp) (key : K) (first : X) where
+  pub found_inserted : (es : List (K × X)) → found cmp es key ≡ None → (k : K)
+      → found cmp (insert_entry cmp es key first) k ≡ cond (is_at (cmp k) key) (Some first) (found cmp es k)
+  found_inserted [] none k = refl
+  found_inserted (e ∷ es) none k =
+      let (away, gone) = none_there (is_at (cmp key) e.0) e.1 (found cmp es key) none in
+      by (cmp key e.0) refl away (found_inserted es gone k)
+    where
+      apart : (a b : Bool) → is_at (cmp k) e.0 ≡ a → is_at (cmp k) key ≡ b → is_at (cmp key) e.0 ≡ false
+          → cond a (Some e.1) (cond b (Some first) (found cmp es k))
+          ≡ cond b (Some first) (cond a (Some e.1) (found cmp es k))
+      apart true true at own away =
+          absurd (true≢false (sym at ∙ ap (λ z. is_at (cmp z) e.0) (tells k key own) ∙ away))
+      apart true false at other away = refl
+      apart false b at own away = refl
+
+      by : (o : Ordering) → cmp key e.0 ≡ o → is_at (cmp key) e.0 ≡ false
+          → found cmp (insert_entry cmp es key first) k
+          ≡ cond (is_at (cmp k) key) (Some first) (found cmp es k)
+          → found cmp (match_ordering o ((key, first) ∷ e ∷ es) ((e.0, first) ∷ es)
+          (e ∷ insert_entry cmp es key first)) k
+          ≡ cond (is_at (cmp k) key) (Some first) (found cmp (e ∷ es) k)
+      by Less is away more = refl
+      by Equal is away more = absurd (true≢false (sym (ap is_eq is) ∙ away))
+      by Greater is away more = ap (cond (is_at (cmp k) e.0) (Some e.1)) more
+          ∙ apart (is_at (cmp k) e.0) (is_at (cmp k) key) refl refl away
+
+  -- the other places stay
+  pub found_roomy : (es : List (K × X)) (k : K) → is_some (found cmp es k) ≡ true
+      → is_some (found cmp (with_room cmp key first es) k) ≡ true
+  found_roomy es k there = by (found cmp es key) refl
+    where
+      more : (b : Bool) → is_some (cond b (Some first) (found cmp es k)) ≡ true
+      more true = refl
+      more false = there
+
+      by : (o : Option X) → found cmp es key ≡ o
+          → is_some (found cmp (if is_some o then es else insert_entry cmp es key first) k) ≡ true
+      by (Some it) is = there
+      by None is = ap is_some (found_inserted es is k) ∙ more (is_at (cmp k) key)
+
+  -- there is a place for it from then on
+  pub there_roomy : (es : List (K × X)) → is_at (cmp key) key ≡ true
+      → is_some (found cmp (with_room cmp key first es) key) ≡ true
+  there_roomy es own = by (found cmp es key) refl
+    where
+      by : (o : Option X) → found cmp es key ≡ o
+          → is_some (found cmp (if is_some o then es else insert_entry cmp es key first) key) ≡ true
+      by (Some it) is = ap is_some is
+      by None is = ap is_some (found_inserted es is key)
+          ∙ (λ i. is_some (cond (own i) (Some first) (found cmp es key)))

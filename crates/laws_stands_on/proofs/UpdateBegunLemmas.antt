@@ -28,12 +28,11 @@ use Rattle.bosh_work.specs.declared.part.MachineName.{MachineName}
 use Rattle.bosh_work.specs.declared.work.Work.{Work}
 use Rattle.laws_stands.specs.GroupsStand.{change_place}
 use Rattle.laws_stands.specs.Reading.{dep_of, work_of}
-use Rattle.laws_stands.specs.Stands.{AreSwept, IsWork, StandsIn, key_of_slot}
+use Rattle.laws_stands.specs.Stands.{AreSwept, IsWork, StandsIn, StandsInOrder, key_of_slot}
 use Rattle.laws_stands.specs.Told.{Told, is_going, telling}
 use Rattle.laws_stands.specs.WorkStands.{StandsFor}
 use Rattle.laws_stands_on.proofs.LinkLemmas.{changed_work, links_go_on}
 use Rattle.laws_stands_on.proofs.ListedLemmas.{SameListed, listed_goes_on, untouched}
-use Rattle.laws_stands_on.proofs.OnceLemmas.{once_altered}
 use Rattle.laws_stands_on.proofs.TableLemmas.{nat_at, nat_keys, thing_changed}
 use Rattle.laws_stands_on.proofs.WorkLemmas.{after_update_begun}
 use Rattle.laws_stands_on.specs.Allows.{AllowsUpdate}
@@ -155,8 +154,8 @@ module _ (u : Update) (told : Told) (it : Recorded) (allows : AllowsUpdate told 
         it.calls;
   }
 
-  pub after_begun : StandsIn new (update_begun_in u it)
-  after_begun = record {
+  pub after_begun : StandsInOrder new (update_begun_in u it)
+  after_begun = λ ordered. record {
     uploads = stands.uploads;
     deployments = stands.deployments;
     rows = stands.rows;
@@ -187,16 +186,7 @@ module _ (u : Update) (told : Told) (it : Recorded) (allows : AllowsUpdate told 
       machines = λ name. refl;
       orphans = λ d. refl;
     }) stands.linked;
-    once = record {
-      instances = (stands.once).instances;
-      machines = (stands.once).machines;
-      orphans = (stands.once).orphans;
-      keys = (stands.once).keys;
-      tasks = (stands.once).tasks;
-      works = once_altered nat_cmp n (option_map (λ work. work_specs.update_begun work (part_of it i).change)) it.works
-          (stands.once).works;
-      calls = (stands.once).calls;
-    };
+    ordered = ordered;
     tells_well = record {
       number = stands.tells_well.number;
       low = stands.tells_well.low;

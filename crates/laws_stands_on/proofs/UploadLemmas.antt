@@ -54,14 +54,15 @@ module _ (releases : List Release) (stemcells : List Stemcell) (config : Option 
       sweeps = stands.linked.sweeps;
       deletions = stands.linked.deletions;
     };
-    once = record {
-      instances = (stands.once).instances;
-      machines = (stands.once).machines;
-      orphans = (stands.once).orphans;
-      keys = (stands.once).keys;
-      tasks = (stands.once).tasks;
-      works = (stands.once).works;
-      calls = (stands.once).calls;
+    ordered = record {
+      deployments = (stands.ordered).deployments;
+      instances = (stands.ordered).instances;
+      machines = (stands.ordered).machines;
+      orphans = (stands.ordered).orphans;
+      keys = (stands.ordered).keys;
+      tasks = (stands.ordered).tasks;
+      works = (stands.ordered).works;
+      calls = (stands.ordered).calls;
     };
     tells_well = record {
       number = stands.tells_well.number;

@@ -42,6 +42,7 @@ use Rattle.laws_stands.specs.WorkStands.{is_worked_for, keys_in, places_of}
 use Rattle.laws_stands.proofs.MemberLemmas.{inst_is}
 use Rattle.laws_stands_on.proofs.KeptLemmas.{call_begun, update_begun, call_given}
 use Rattle.laws_stands.proofs.LineLemmas.{stands_on, stands_taken, stands_finished, stands_given}
+use Rattle.laws_stands.proofs.MarkLemmas.{one_more}
 use Rattle.laws_stands_on.proofs.CallLemmas.{idle_begun, idle_ended, inst_flip, one_less, one_more_call}
 
 -- ---- the update of an instance begins
@@ -97,9 +98,11 @@ after_call_begun told n number worker call swept work new i stands apart pings_a
     (subst (λ (w : Work). StandsFor after (task_with_call (told.known.task n)) n swept w) (sym others)
     (record {
       task_is = stands.task_is;
-      pings = stands_taken same_inst inst_is t.to_ping pings_apart i (λ x. not (t.pinged x)) (idle_in told)
+      pings = stands_taken same_inst inst_is t.to_ping i (one_more same_inst inst_is t.to_ping pings_apart i)
+          (λ x. not (t.pinged x)) (idle_in told)
           (λ x. not (t.pinged x)) (idle_in after) work.pings (λ x. refl) idle stands.pings;
-      obsolete = stands_taken same_inst inst_is t.obsolete gone_apart i (λ x. not (t.gone x)) (idle_in told)
+      obsolete = stands_taken same_inst inst_is t.obsolete i (one_more same_inst inst_is t.obsolete gone_apart i)
+          (λ x. not (t.gone x)) (idle_in told)
           (λ x. not (t.gone x)) (idle_in after) work.obsolete (λ x. refl) idle stands.obsolete;
       disks = stands_on t.disks (λ d. is_some (told.known.orphan d)) (λ d. is_idle told (Disk d))
           (λ d. is_some (told.known.orphan d)) (λ d. is_idle after (Disk d)) work.disks (λ d. refl)
@@ -268,7 +271,8 @@ after_call_ended told n number worker call answer swept work new i stands apart 
 
     given_pings : LineStands t.to_ping (λ x. not (t.pinged x)) (idle_in (after (Some b)))
         (given_line work.pings (place_of same_inst i t.to_ping))
-    given_pings = stands_given same_inst inst_is t.to_ping pings_apart i (λ x. not (t.pinged x)) (idle_in told)
+    given_pings = stands_given same_inst inst_is t.to_ping i (one_more same_inst inst_is t.to_ping pings_apart i)
+        (λ x. not (t.pinged x)) (idle_in told)
         (λ x. not (t.pinged x)) (idle_in (after (Some b))) work.pings (λ x. refl) idle stands.pings
 
     pings_by : (a : Bool)
@@ -276,7 +280,8 @@ after_call_ended told n number worker call answer swept work new i stands apart 
         (idle_in (after (Some b)))
         (asked_line a (given_line work.pings (place_of same_inst i t.to_ping)) (place_of same_inst i t.to_ping))
     pings_by true =
-        stands_finished same_inst inst_is t.to_ping pings_apart i (λ x. not (t.pinged x)) (idle_in (after (Some b)))
+        stands_finished same_inst inst_is t.to_ping i (one_more same_inst inst_is t.to_ping pings_apart i)
+        (λ x. not (t.pinged x)) (idle_in (after (Some b)))
         (λ x. not (at same_inst i true t.pinged x)) (idle_in (after (Some b)))
         (given_line work.pings (place_of same_inst i t.to_ping)) (λ x. by (same_inst i x) (t.pinged x))
         (λ x. refl) given_pings
@@ -294,7 +299,8 @@ after_call_ended told n number worker call answer swept work new i stands apart 
         (record {
           task_is = stands.task_is;
           pings = pings_by (asks call answer);
-          obsolete = stands_given same_inst inst_is t.obsolete gone_apart i (λ x. not (t.gone x)) (idle_in told)
+          obsolete = stands_given same_inst inst_is t.obsolete i (one_more same_inst inst_is t.obsolete gone_apart i)
+              (λ x. not (t.gone x)) (idle_in told)
               (λ x. not (t.gone x)) (idle_in (after (Some b))) work.obsolete (λ x. refl) idle stands.obsolete;
           disks =
               stands_on t.disks (λ d. is_some (told.known.orphan d)) (λ d. is_idle told (Disk d))

@@ -14,7 +14,7 @@ ghost use Rattle.bosh_records.specs.Recorded.{Recorded};
 ghost use Rattle.bosh_records.specs.declared.records.Records.{Records};
 ghost use Rattle.bosh_rows.specs.After.{bare, begun_row};
 ghost use Rattle.laws_stands.specs.Reading.{row_of};
-ghost use Rattle.laws_stands.specs.Stands.{Stands, StandsIn};
+ghost use Rattle.laws_stands.specs.Stands.{Stands, StandsIn, StandsInOrder};
 ghost use Rattle.laws_stands.specs.Told.{Told, telling};
 ghost use Rattle.laws_stands_on.specs.Allows.{AllowsCall, AllowsEnd, HasPlaces};
 
@@ -23,7 +23,7 @@ ghost use Rattle.laws_stands_on.specs.Allows.{AllowsCall, AllowsEnd, HasPlaces};
 pub fn what_is_recorded_stands_after_a_call_begins()
     ensures { (told : Told) (it : Recorded) (n number worker : ℕ) (call : Call) (i : Inst)
         → AllowsCall told n number call i → HasPlaces it number i → StandsIn told it
-        → StandsIn
+        → StandsInOrder
         (telling told
         (entries.Begin (record { n = number; task = n; worker = worker; owner = Instance i; call = call })))
         (learned (entries.Begin (record { n = number; task = n; worker = worker; owner = Instance i; call = call }))
@@ -33,13 +33,13 @@ pub fn what_is_recorded_stands_after_a_call_begins()
         })) it) }
 {}
 
-/// .. and after it ended, as it was planned, where no call stands twice.
+/// .. and after it ended, as it was planned.
 pub fn what_is_recorded_stands_after_a_call_ends()
     ensures { (told : Told) (was : Records) (it : Recorded) (n number worker : ℕ) (call : Call) (answer : Answer)
         (i : Inst)
         → AllowsEnd told (record { n = number; task = n; worker = worker; owner = Instance i; call = call }) answer i
         → Stands told was → StandsIn told it
-        → StandsIn (telling told (entries.End (record { n = number; answer = answer })))
+        → StandsInOrder (telling told (entries.End (record { n = number; answer = answer })))
         (learned (entries.End (record { n = number; answer = answer }))
         (changes.Ended (ended_of was (record { n = number; answer = answer }))) it) }
 {}

@@ -3,6 +3,7 @@ use Rattle.std.proofs.Common.{◌≡◌, ◌∙◌, ◌≤◌, ℕ, Bool, true, 
 use Rattle.std.proofs.Common.{arith, refl, subst, sym}
 use Rattle.std.specs.Prelude.{eqb, is_some, if◌then◌else◌}
 use Rattle.std.specs.List.{list_any}
+use Rattle.std.specs.List.Sorted.{IsStrictlySortedBy}
 use Rattle.std.specs.Option.{option_and_then, option_map, option_map_or}
 use Rattle.std.specs.Ordering.{nat_cmp}
 use Rattle.std.proofs.lemmas.Bool.{eqb-true, or_parts, true≢false}
@@ -32,17 +33,20 @@ use Rattle.bosh_plan.specs.Ended as planned
 use Rattle.bosh_plan.specs.Ended.{ended_of, is_told}
 use Rattle.bosh_plan.specs.declared.ending.After.TheVariants as afters
 use Rattle.bosh_plan.specs.declared.ending.Ended.{Ended}
-use Rattle.bosh_records.specs.Keys.{key_cmp}
+use Rattle.bosh_records.specs.Keys.{built_as, key_cmp}
+use Rattle.bosh_records.specs.Ordered.{AreOrdered}
 use Rattle.bosh_records.specs.Recorded.{Recorded}
 use Rattle.bosh_records.specs.Table.{found, without}
 use Rattle.bosh_records.specs.declared.keys.KeyState.{KeyState}
 use Rattle.bosh_records.specs.declared.records.Records.{Records}
 use Rattle.bosh_rows.specs.SoundSnapshot.{are_distinct}
+use Rattle.bosh_work.specs.Finished.{without_key}
 use Rattle.laws_stands.specs.Reading.{state_of}
-use Rattle.laws_stands.specs.Stands.{Stands, StandsIn}
+use Rattle.laws_stands.specs.Stands.{Stands, StandsIn, StandsInOrder}
 use Rattle.laws_stands.specs.Told.{Told, telling}
 use Rattle.laws_stands.specs.WorkStands.{keys_in}
 use Rattle.laws_stands_on.proofs.OnlyCallLemmas.{going_same, has_begun, task_same}
+use Rattle.laws_stands_on.proofs.TableLemmas.{altered_keys, each_keys}
 use Rattle.laws_stands_slots.proofs.KeyBuiltLemmas.{key_built}
 use Rattle.laws_stands_slots.proofs.SlotClosedLemmas.{ended, ended_is, ended_stands, keys_with_found}
 use Rattle.laws_stands_slots.proofs.SlotTableLemmas.{slot_same}
@@ -148,7 +152,7 @@ module _ (told : Told) (was : Records) (it : Recorded) (n number worker vm : ℕ
         (stands.calls number ∙ only)
         ∙ (λ j. built_in call (planned.built_by answer) (ended_is told was it n number worker call answer t s only allows stands j))
 
-    over_stands : StandsIn closed over
+    over_stands : StandsInOrder closed over
     over_stands = ended_stands told was it n number worker call answer t s only allows stands
 
     -- ---- the key
@@ -178,14 +182,28 @@ module _ (told : Told) (was : Records) (it : Recorded) (n number worker vm : ℕ
         (task_same told it b answer (k.task n).pinged only stands (λ it. it.goal) refl u)
         ∙ apart u (sym (going_same told it b answer (k.task n).pinged only stands u) ∙ going)
 
-    stands_by : (answer' : Answer) → StandsIn (record closed { known = known_calls.compiles call answer' closed.known })
+    -- the key that is compiled stands in its place
+    in_order : (digest : Digest) → AreOrdered (built_in call (Some digest) over) → AreOrdered over
+    in_order digest ordered = record {
+      deployments = ordered.deployments;
+      instances = ordered.instances;
+      machines = ordered.machines;
+      orphans = ordered.orphans;
+      keys = subst (IsStrictlySortedBy key_cmp) (altered_keys key_cmp work.key (built_as work digest) over.keys) ordered.keys;
+      tasks = ordered.tasks;
+      works = subst (IsStrictlySortedBy nat_cmp) (each_keys (without_key work.key) over.works) ordered.works;
+      calls = ordered.calls;
+    }
+
+    stands_by : (answer' : Answer) → StandsInOrder (record closed { known = known_calls.compiles call answer' closed.known })
         (built_in call (planned.built_by answer') over)
-    stands_by (answers.Built digest) = key_built closed over vm work deps digest still_apart key_there over_stands
+    stands_by (answers.Built digest) = λ ordered. key_built closed over vm work deps digest still_apart key_there
+        (over_stands (in_order digest ordered)) ordered
     stands_by answer' = over_stands
 
-    pub after_compilation : StandsIn (telling told (entries.End e)) (ended_in (ended_of was e) it)
+    pub after_compilation : StandsInOrder (telling told (entries.End e)) (ended_in (ended_of was e) it)
     after_compilation =
-        subst (λ (plan : Ended). StandsIn (telling told (entries.End e)) (ended_in plan it)) (sym plan_is)
-        (subst (StandsIn (telling told (entries.End e))) (sym over_is)
-        (subst (λ (told : Told). StandsIn told (built_in call (planned.built_by answer) over)) (sym told_is)
+        subst (λ (plan : Ended). StandsInOrder (telling told (entries.End e)) (ended_in plan it)) (sym plan_is)
+        (subst (StandsInOrder (telling told (entries.End e))) (sym over_is)
+        (subst (λ (told : Told). StandsInOrder told (built_in call (planned.built_by answer) over)) (sym told_is)
         (stands_by answer)))

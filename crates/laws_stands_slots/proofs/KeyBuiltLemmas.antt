@@ -32,16 +32,16 @@ use Rattle.bosh_work.specs.declared.line.Line.{Line}
 use Rattle.bosh_work.specs.declared.part.MachineName.{MachineName}
 use Rattle.bosh_work.specs.declared.work.Work.{Work}
 use Rattle.laws_stands.proofs.LineLemmas.{stands_finished}
+use Rattle.laws_stands.proofs.MarkLemmas.{one_more}
 use Rattle.laws_stands.specs.LineStands.{LineStands, place_of}
 use Rattle.laws_stands.specs.Linked.{IsLinked}
 use Rattle.laws_stands.specs.Reading.{digest_of, is_compiling, state_of, work_of}
-use Rattle.laws_stands.specs.Stands.{IsWork, StandsIn}
+use Rattle.laws_stands.specs.Stands.{IsWork, StandsIn, StandsInOrder}
 use Rattle.laws_stands.specs.Told.{TellsWell, Told, is_going}
 use Rattle.laws_stands.specs.WorkStands.{StandsFor, is_worked_for, keys_in}
 use Rattle.laws_stands_on.proofs.ChangedLemmas.{each_found}
 use Rattle.laws_stands_on.proofs.KeyLemmas.{eq_then, key_keys}
 use Rattle.laws_stands_on.proofs.LinkLemmas.{ListsSame, links_go_on}
-use Rattle.laws_stands_on.proofs.OnceLemmas.{once_altered, once_each}
 use Rattle.laws_stands_on.proofs.TableLemmas.{found_altered}
 use Rattle.laws_stands_on.proofs.WorksLemmas.{works_go_on, works_were}
 use Rattle.laws_stands_slots.specs.Slots.{AreKeysApart, told_built}
@@ -166,7 +166,8 @@ module _ (told : Told) (it : Recorded) (vm : ℕ) (work : KeyWork) (deps : List 
       subst (λ place. LineStands (keys_in (k.task t).goal) (λ key. not (is_compiled new.known key))
       (λ key. not (is_worked_for k t key)) (finished_line line place))
       (sym (ap (key_place work.key) line_stands.items_are ∙ key_placed work.key (keys_in (k.task t).goal)))
-      (stands_finished same_key (λ a b. (same_key_decides a b).0) (keys_in (k.task t).goal) (apart t going) work.key
+      (stands_finished same_key (λ a b. (same_key_decides a b).0) (keys_in (k.task t).goal) work.key
+      (one_more same_key (λ a b. (same_key_decides a b).0) (keys_in (k.task t).goal) (apart t going) work.key)
       (λ key. not (is_compiled k key)) (λ key. not (is_worked_for k t key)) (λ key. not (is_compiled new.known key))
       (λ key. not (is_worked_for k t key)) line (λ key. by key (same_key work.key key)) (λ key. refl) line_stands)
     where
@@ -215,8 +216,8 @@ module _ (told : Told) (it : Recorded) (vm : ℕ) (work : KeyWork) (deps : List 
     orphans = λ d. refl;
   }) stands.linked
 
-  pub key_built : StandsIn new (built_in (CompilePackage vm work deps) (Some digest) it)
-  key_built = record {
+  pub key_built : StandsInOrder new (built_in (CompilePackage vm work deps) (Some digest) it)
+  key_built = λ ordered. record {
     uploads = stands.uploads;
     deployments = stands.deployments;
     rows = stands.rows;
@@ -232,15 +233,7 @@ module _ (told : Told) (it : Recorded) (vm : ℕ) (work : KeyWork) (deps : List 
     calls = stands.calls;
     works = works;
     linked = linked;
-    once = record {
-      instances = (stands.once).instances;
-      machines = (stands.once).machines;
-      orphans = (stands.once).orphans;
-      keys = once_altered key_cmp work.key (built_as work digest) it.keys (stands.once).keys;
-      tasks = (stands.once).tasks;
-      works = once_each nat_cmp (without_key work.key) it.works (stands.once).works;
-      calls = (stands.once).calls;
-    };
+    ordered = ordered;
     tells_well = let tells : TellsWell told = stands.tells_well in record {
       number = tells.number;
       low = tells.low;

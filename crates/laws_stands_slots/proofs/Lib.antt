@@ -1,6 +1,5 @@
 pub mod CompilationEndedLemmas
 pub mod KeyBuiltLemmas
-pub mod LineOnceLemmas
 pub mod SlotClosedLemmas
 pub mod SlotTableLemmas
 pub mod SlotToldLemmas

@@ -42,13 +42,13 @@ use Rattle.bosh_work.specs.declared.part.Places.{Places}
 use Rattle.bosh_work.specs.declared.work.Work.{Work}
 use Rattle.laws_stands.proofs.PremiseLemmas.{none_at}
 use Rattle.laws_stands.proofs.SameGroupLemmas.{groups_as}
-use Rattle.laws_stands.proofs.LineLemmas.{stands_on}
+use Rattle.laws_stands.proofs.LineLemmas.{stands_given, stands_on}
+use Rattle.laws_stands.proofs.MarkLemmas.{marks_of_one}
 use Rattle.laws_stands.specs.GroupsStand.{GroupsStand, names_of}
 use Rattle.laws_stands.specs.LineStands.{LineStands, place_of}
 use Rattle.laws_stands.specs.Linked.{IsLinked, same_machine}
-use Rattle.laws_stands.specs.Once.{IsOnce}
 use Rattle.laws_stands.specs.Reading.{dep_of, is_compiling, machine_of, work_of}
-use Rattle.laws_stands.specs.Stands.{AreSwept, IsWork, StandsIn, call_of, key_of_slot, row_of_slot}
+use Rattle.laws_stands.specs.Stands.{AreSwept, IsWork, StandsIn, StandsInOrder, call_of, key_of_slot, row_of_slot}
 use Rattle.laws_stands.specs.Told.{TellsWell, Told, idle_in, is_going, is_idle}
 use Rattle.laws_stands.specs.WorkStands.{StandsFor, is_task_call}
 use Rattle.laws_stands_on.proofs.AnsweredLemmas.{ended_work, ends_same, pinged_as, takes_ping}
@@ -57,16 +57,14 @@ use Rattle.laws_stands_on.proofs.FindLemmas.{any_within}
 use Rattle.laws_stands_on.proofs.LinkLemmas.{WasWork, changed_work, links_go_on}
 use Rattle.laws_stands_on.proofs.ListedLemmas.{SameListed, listed_goes_on}
 use Rattle.laws_stands_on.proofs.NextCallLemmas.{row_by}
-use Rattle.laws_stands_on.proofs.OnceLemmas.{once_altered, once_without}
+use Rattle.laws_stands.proofs.OrderLemmas.{once_of}
 use Rattle.laws_stands_on.proofs.OnlyCallLemmas.{calls_last, ended_works, ended_works_are, failed_is, failure_is}
 use Rattle.laws_stands_on.proofs.OnlyCallLemmas.{going_same, idle_as, one_less_call, other_calls, own_call}
-use Rattle.laws_stands_on.proofs.OnlyCallLemmas.{once_ended, same_count, still, task_same, tells_last}
+use Rattle.laws_stands_on.proofs.OnlyCallLemmas.{same_count, still, task_same, tells_last}
 use Rattle.laws_stands_on.proofs.TableLemmas.{found_altered}
 use Rattle.laws_stands_on.proofs.KeyLemmas.{key_keys}
 use Rattle.laws_stands_on.proofs.TaskLemmas.{dep_recorded}
 use Rattle.laws_stands_slots.proofs.KeyBuiltLemmas.{key_at}
-use Rattle.laws_stands_slots.proofs.LineOnceLemmas as once_lines
-use Rattle.laws_stands_slots.proofs.LineOnceLemmas.{marks_of_one}
 use Rattle.laws_stands_slots.proofs.SlotTableLemmas.{machine_changed, same_machine_is}
 use Rattle.laws_stands_slots.proofs.SweptLemmas.{swept_never, swept_once}
 use Rattle.laws_stands_slots.specs.Slots.{AllowsSlot, told_closed}
@@ -94,13 +92,6 @@ keys_with_found (CompilePackage vm work deps) calling keys key =
     then option_map (λ (state : KeyState). record state { call = calling }) (found key_cmp keys key)
     else found key_cmp keys key)
 keys_with_found call calling keys key = refl
-
-pub once_keys_with : (call : Call) (calling : Option ℕ) (keys : List (Key × KeyState))
-    → IsOnce key_cmp keys
-    → IsOnce key_cmp (keys_with call calling keys)
-once_keys_with (CompilePackage vm work deps) calling keys once =
-    once_altered key_cmp work.key (λ (state : KeyState). record state { call = calling }) keys once
-once_keys_with call calling keys once = once
 
 none_any : (p : ℕ → Bool) (xs : List ℕ) → ((x : ℕ) → p x ≡ false) → list_any p xs ≡ false
 none_any p [] none = refl
@@ -328,7 +319,7 @@ module _ (told : Told) (was : Records) (it : Recorded) (n number worker : ℕ) (
         (λ d. is_some (k.orphan d)) (λ d. is_idle new (Disk d)) work.disks (λ d. refl)
         (λ d. idle_as told it b answer (k.task n).pinged only stands (Disk d)) work_stands.disks;
     sweep =
-        once_lines.stands_given same_machine same_machine_is swept name
+        stands_given same_machine same_machine_is swept name
         (marks_of_one same_machine name swept (swept_once k n swept are name some_there allows.once))
         (λ x. is_some (k.slot x.task x.slot)) (λ x. is_idle told (Compile x.task x.slot))
         (λ x. is_some (k.slot x.task x.slot)) (λ x. is_idle new (Compile x.task x.slot)) work.sweep
@@ -463,8 +454,8 @@ module _ (told : Told) (was : Records) (it : Recorded) (n number worker : ℕ) (
 
   -- ---- all
 
-  pub ended_stands : StandsIn new ended
-  ended_stands = record {
+  pub ended_stands : StandsInOrder new ended
+  ended_stands = λ ordered. record {
     uploads = stands.uploads;
     deployments = stands.deployments;
     rows = stands.rows;
@@ -488,18 +479,10 @@ module _ (told : Told) (was : Records) (it : Recorded) (n number worker : ℕ) (
     tasks = λ u. stands.tasks u
         ∙ sym (task_same told it b answer (k.task n).pinged only stands
         (λ (it : Task). if nat_le 1 u && nat_le u k.tasks then Some (row_by u it) else None) refl u);
-    calls = calls_last told it b answer (k.task n).pinged only stands (stands.once).calls;
+    calls = calls_last told it b answer (k.task n).pinged only stands (once_of stands.ordered).calls;
     works = works;
     linked = linked;
-    once = record {
-      instances = (stands.once).instances;
-      machines = once_altered machine_cmp name (option_map (with_machine_call None)) it.machines (stands.once).machines;
-      orphans = (stands.once).orphans;
-      keys = once_keys_with call None it.keys (stands.once).keys;
-      tasks = (stands.once).tasks;
-      works = once_ended n asked places fail it.works (stands.once).works;
-      calls = once_without nat_cmp number it.calls (stands.once).calls;
-    };
+    ordered = ordered;
     tells_well = let tells : TellsWell _ = tells_last told it b answer (k.task n).pinged only stands in record {
       number = tells.number;
       low = tells.low;
@@ -518,6 +501,6 @@ module _ (told : Told) (was : Records) (it : Recorded) (n number worker : ℕ) (
   }
 
   -- .. as it is learned
-  pub slot_closed : StandsIn (told_closed b answer told) (failed_in n fail (pinged_by (is_told answer) b
+  pub slot_closed : StandsInOrder (told_closed b answer told) (failed_in n fail (pinged_by (is_told answer) b
       (given_by n (Compile t s) (closed_call b (record it { calls = without nat_cmp number it.calls })))))
-  slot_closed = subst (StandsIn new) (sym ended_is) ended_stands
+  slot_closed = subst (StandsInOrder new) (sym ended_is) ended_stands

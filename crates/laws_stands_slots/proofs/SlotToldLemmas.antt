@@ -25,12 +25,11 @@ use Rattle.bosh_work.specs.declared.work.Work.{Work}
 use Rattle.laws_stands.specs.Linked.{IsLinked, same_machine}
 use Rattle.laws_stands.specs.LineStands.{place_of}
 use Rattle.laws_stands.specs.Reading.{dep_of, machine_of, work_of}
-use Rattle.laws_stands.specs.Stands.{AreSwept, IsWork, StandsIn, key_of_slot, key_place, row_of_slot}
+use Rattle.laws_stands.specs.Stands.{AreSwept, IsWork, StandsIn, StandsInOrder, key_of_slot, key_place, row_of_slot}
 use Rattle.laws_stands.specs.Told.{TellsWell, Told}
 use Rattle.laws_stands_on.proofs.ChangedLemmas.{some_mapped}
 use Rattle.laws_stands_on.proofs.LinkLemmas.{WasWork, links_go_on}
 use Rattle.laws_stands_on.proofs.ListedLemmas.{SameListed, listed_goes_on}
-use Rattle.laws_stands_on.proofs.OnceLemmas.{once_altered}
 use Rattle.laws_stands_slots.proofs.SlotTableLemmas.{machine_changed, same_machine_is, slot_same, with_slot_is}
 use Rattle.laws_stands_slots.specs.Slots.{in_doubt_by, slot_there, told_slot}
 
@@ -225,8 +224,8 @@ module _ (told : Told) (it : Recorded) (t s : ℕ) (f : Slot → Slot) (g : Comp
 
   -- ---- all
 
-  pub slot_told : StandsIn new now
-  slot_told = record {
+  pub slot_told : StandsInOrder new now
+  slot_told = λ ordered. record {
     uploads = stands.uploads;
     deployments = stands.deployments;
     rows = stands.rows;
@@ -243,15 +242,7 @@ module _ (told : Told) (it : Recorded) (t s : ℕ) (f : Slot → Slot) (g : Comp
     calls = stands.calls;
     works = works;
     linked = linked;
-    once = record {
-      instances = (stands.once).instances;
-      machines = once_altered machine_cmp name (option_map said) it.machines (stands.once).machines;
-      orphans = (stands.once).orphans;
-      keys = (stands.once).keys;
-      tasks = (stands.once).tasks;
-      works = (stands.once).works;
-      calls = (stands.once).calls;
-    };
+    ordered = ordered;
     tells_well = let tells : TellsWell told = stands.tells_well in record {
       number = tells.number;
       low = tells.low;
@@ -272,14 +263,14 @@ module _ (told : Told) (it : Recorded) (t s : ℕ) (f : Slot → Slot) (g : Comp
 -- ---- that it is there, or in doubt
 
 pub slot_shown : (told : Told) (it : Recorded) (t s : ℕ) (vm : Option Vm) → StandsIn told it
-    → StandsIn (told_slot t s (option_map (slot_there vm) (told.known.slot t s)) told)
+    → StandsInOrder (told_slot t s (option_map (slot_there vm) (told.known.slot t s)) told)
     (machine_told (machine_name t s) (There vm) it)
 slot_shown told it t s vm stands =
     slot_told told it t s (slot_there vm) (λ row. record row { vm = option_or vm row.vm; doubt = None })
     (λ slot. refl) (λ row. refl) (λ slot. refl) (λ slot. refl) stands
 
 pub slot_doubted : (told : Told) (it : Recorded) (t s : ℕ) (doubt : Doubt) → StandsIn told it
-    → StandsIn (told_slot t s (option_map (in_doubt_by doubt) (told.known.slot t s)) told)
+    → StandsInOrder (told_slot t s (option_map (in_doubt_by doubt) (told.known.slot t s)) told)
     (with_doubt (Compile t s) doubt it)
 slot_doubted told it t s doubt stands =
     slot_told told it t s (in_doubt_by doubt) (λ row. record row { doubt = Some doubt })

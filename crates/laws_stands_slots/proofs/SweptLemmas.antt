@@ -12,7 +12,7 @@ use Rattle.bosh_history.specs.Words.{is_among}
 use Rattle.bosh_work.specs.declared.part.MachineName.{MachineName}
 use Rattle.laws_stands.specs.Linked.{same_machine}
 use Rattle.laws_stands.specs.Stands.{AreSwept}
-use Rattle.laws_stands_slots.proofs.LineOnceLemmas.{is_once}
+use Rattle.laws_stands.proofs.MarkLemmas.{is_once}
 
 -- ---- how many pass a test
 

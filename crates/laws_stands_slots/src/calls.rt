@@ -15,7 +15,7 @@ ghost use Rattle.bosh_plan.specs.Ended.{ended_of, failure_of, is_told};
 ghost use Rattle.bosh_records.specs.Recorded.{Recorded};
 ghost use Rattle.bosh_records.specs.Table.{without};
 ghost use Rattle.bosh_records.specs.declared.records.Records.{Records};
-ghost use Rattle.laws_stands.specs.Stands.{Stands, StandsIn};
+ghost use Rattle.laws_stands.specs.Stands.{Stands, StandsIn, StandsInOrder};
 ghost use Rattle.laws_stands.specs.Told.{Told, telling};
 ghost use Rattle.laws_stands_slots.specs.Slots.{AllowsSlot, AreKeysApart, told_closed};
 
@@ -27,7 +27,7 @@ pub fn what_is_recorded_stands_once_a_call_of_a_compile_machine_is_closed()
         → told.calls number
         ≡ Some (record { n = number; task = n; worker = worker; owner = Compile t s; call = call })
         → AllowsSlot told n t s → StandsIn told it
-        → StandsIn
+        → StandsInOrder
         (told_closed (record { n = number; task = n; worker = worker; owner = Compile t s; call = call }) answer told)
         (failed_in n
         (failure_of was answer (record { n = number; task = n; worker = worker; owner = Compile t s; call = call }))
@@ -51,7 +51,7 @@ pub fn what_is_recorded_stands_after_a_compilation_ends()
           call = CompilePackage vm work deps;
         })
         → AllowsSlot told n t s → AreKeysApart told → Stands told was → StandsIn told it
-        → StandsIn (telling told (entries.End (record { n = number; answer = answer })))
+        → StandsInOrder (telling told (entries.End (record { n = number; answer = answer })))
         (learned (entries.End (record { n = number; answer = answer }))
         (changes.Ended (ended_of was (record { n = number; answer = answer }))) it) }
 {}

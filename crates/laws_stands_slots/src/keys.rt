@@ -6,7 +6,7 @@ ghost use Rattle.bosh_base.specs.declared.key.KeyWork.{KeyWork};
 ghost use Rattle.bosh_fold.specs.Calls.{built_in};
 ghost use Rattle.bosh_records.specs.Recorded.{Recorded};
 ghost use Rattle.laws_stands.specs.Reading.{state_of};
-ghost use Rattle.laws_stands.specs.Stands.{StandsIn};
+ghost use Rattle.laws_stands.specs.Stands.{StandsIn, StandsInOrder};
 ghost use Rattle.laws_stands.specs.Told.{Told};
 ghost use Rattle.laws_stands_slots.specs.Slots.{AreKeysApart, told_built};
 
@@ -14,5 +14,5 @@ ghost use Rattle.laws_stands_slots.specs.Slots.{AreKeysApart, told_built};
 pub fn what_is_recorded_stands_once_a_key_is_compiled()
     ensures { (told : Told) (it : Recorded) (vm : ℕ) (work : KeyWork) (deps : List Digest) (digest : Digest)
         → AreKeysApart told → is_some (state_of it work.key) ≡ true → StandsIn told it
-        → StandsIn (told_built work digest told) (built_in (CompilePackage vm work deps) (Some digest) it) }
+        → StandsInOrder (told_built work digest told) (built_in (CompilePackage vm work deps) (Some digest) it) }
 {}

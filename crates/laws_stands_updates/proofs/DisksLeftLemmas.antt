@@ -2,6 +2,7 @@
 use Rattle.std.proofs.Common.{◌≡◌, ◌∙◌, ℕ, Bool, true, false, List, Option, Some, None, ap, refl, subst, sym}
 use Rattle.std.specs.Prelude.{eqb, is_some, slice_get}
 use Rattle.std.specs.Option.{option_and_then, option_map}
+use Rattle.std.specs.Ordering.{nat_cmp}
 use Rattle.std.proofs.lemmas.Bool.{eqb-true, false≢true}
 use Rattle.bosh_base.specs.Cloud.{numbers_to}
 use Rattle.bosh_base.specs.declared.inst.Inst.{Inst}
@@ -21,11 +22,12 @@ use Rattle.laws_stands.proofs.MarkLemmas.{placed}
 use Rattle.laws_stands.specs.LineStands.{place_of}
 use Rattle.laws_stands.specs.Linked.{IsLinked}
 use Rattle.laws_stands.specs.Reading.{dep_of, orphan_of, work_of}
+use Rattle.bosh_records.specs.Ordered.{AreInOrder}
 use Rattle.laws_stands.specs.Stands.{IsWork, StandsIn, call_of}
 use Rattle.laws_stands.specs.Told.{Told, is_going}
 use Rattle.laws_stands_on.proofs.FindLemmas.{none_is_found}
 use Rattle.laws_stands_on.proofs.ListedLemmas.{SameListed, listed_goes_on}
-use Rattle.laws_stands_updates.proofs.LeftLemmas.{IsLoose, once_left, orphans_left, others_known}
+use Rattle.laws_stands_updates.proofs.LeftLemmas.{IsLoose, orphans_left, others_known}
 use Rattle.laws_stands_updates.proofs.LeftLemmas.{others_left, these_left}
 use Rattle.laws_stands_updates.specs.Finished.{AllowsLeft, HavePlaces, numbers_of}
 
@@ -136,8 +138,8 @@ module _ (told : Told) (it : Recorded) (i : Inst) (disks : List DiskRow) (listed
 
   -- ---- all
 
-  pub left_stands : StandsIn told_left left
-  left_stands = record {
+  pub left_stands : AreInOrder nat_cmp left.orphans → StandsIn told_left left
+  left_stands order = record {
     uploads = stands.uploads;
     deployments = stands.deployments;
     rows = stands.rows;
@@ -153,14 +155,15 @@ module _ (told : Told) (it : Recorded) (i : Inst) (disks : List DiskRow) (listed
     calls = stands.calls;
     works = λ t. works t (work_of it t) (stands.works t);
     linked = linked;
-    once = record {
-      instances = (stands.once).instances;
-      machines = (stands.once).machines;
-      orphans = once_left i disks it.orphans (stands.once).orphans;
-      keys = (stands.once).keys;
-      tasks = (stands.once).tasks;
-      works = (stands.once).works;
-      calls = (stands.once).calls;
+    ordered = record {
+      deployments = (stands.ordered).deployments;
+      instances = (stands.ordered).instances;
+      machines = (stands.ordered).machines;
+      orphans = order;
+      keys = (stands.ordered).keys;
+      tasks = (stands.ordered).tasks;
+      works = (stands.ordered).works;
+      calls = (stands.ordered).calls;
     };
     tells_well = record {
       number = stands.tells_well.number;

@@ -31,16 +31,14 @@ use Rattle.bosh_work.specs.declared.part.MachineName.{MachineName}
 use Rattle.bosh_work.specs.declared.work.Work.{Work}
 use Rattle.laws_stands.proofs.MemberLemmas.{inst_is}
 use Rattle.laws_stands.specs.GroupsStand.{change_place}
-use Rattle.laws_stands.specs.Once.{IsOnce}
 use Rattle.laws_stands.specs.Reading.{dep_of, instance_of, row_of, work_of}
-use Rattle.laws_stands.specs.Stands.{AreSwept, StandsIn, key_of_slot}
+use Rattle.laws_stands.specs.Stands.{AreSwept, StandsIn, StandsInOrder, key_of_slot}
 use Rattle.laws_stands.specs.Told.{Told, idle_in, is_going}
 use Rattle.laws_stands.specs.WorkStands.{StandsFor}
 use Rattle.laws_stands_on.proofs.KeptLemmas.{update_finished}
 use Rattle.laws_stands_on.proofs.LinkLemmas.{ListsSame, links_go_on}
 use Rattle.laws_stands_on.proofs.ListedLemmas.{SameListed, listed_goes_on, untouched}
 use Rattle.laws_stands_on.proofs.NextCallLemmas.{row_by}
-use Rattle.laws_stands_on.proofs.OnceLemmas.{once_altered}
 use Rattle.laws_stands_on.proofs.TableLemmas.{nat_at, nat_keys, thing_changed}
 use Rattle.laws_stands_on.proofs.WorksLemmas.{of_task, of_task_is, of_task_same, works_go_on, works_were}
 use Rattle.laws_stands_updates.proofs.InstanceLemmas.{instance_altered, kept_of, part_kept}
@@ -224,13 +222,8 @@ module _ (u : Update) (told : Told) (it : Recorded) (row : Row) (going : is_goin
 
   -- ---- all
 
-  once_noted : (r : Bool) → IsOnce inst_cmp (noted r row it.instances)
-  once_noted true = once_altered inst_cmp row.inst (λ known. record known { row = Some row }) it.instances
-      (stands.once).instances
-  once_noted false = (stands.once).instances
-
-  pub finished_stands : StandsIn told_finished finished
-  finished_stands = record {
+  pub finished_stands : StandsInOrder told_finished finished
+  finished_stands = λ ordered. record {
     uploads = stands.uploads;
     deployments = stands.deployments;
     rows = rows;
@@ -267,15 +260,7 @@ module _ (u : Update) (told : Told) (it : Recorded) (row : Row) (going : is_goin
       machines = λ name. refl;
       orphans = λ d. refl;
     }) stands.linked;
-    once = record {
-      instances = once_noted recorded;
-      machines = (stands.once).machines;
-      orphans = (stands.once).orphans;
-      keys = (stands.once).keys;
-      tasks = (stands.once).tasks;
-      works = once_altered nat_cmp n (option_map done) it.works (stands.once).works;
-      calls = (stands.once).calls;
-    };
+    ordered = ordered;
     tells_well = record {
       number = stands.tells_well.number;
       low = stands.tells_well.low;
@@ -294,6 +279,6 @@ module _ (u : Update) (told : Told) (it : Recorded) (row : Row) (going : is_goin
   }
 
   -- .. as it is noted
-  pub after_finished : StandsIn told_finished
+  pub after_finished : StandsInOrder told_finished
       (with_row_of (if recorded then Some row else None) (update_finished_in u it))
-  after_finished = subst (StandsIn told_finished) (sym (noted_is recorded)) finished_stands
+  after_finished = subst (StandsInOrder told_finished) (sym (noted_is recorded)) finished_stands

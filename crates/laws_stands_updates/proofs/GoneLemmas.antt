@@ -5,7 +5,6 @@ use Rattle.std.specs.Prelude.{eqb, filter, is_some, map, nat_le, if◌then◌els
 use Rattle.std.specs.Option.{option_and_then, option_map}
 use Rattle.std.specs.Ordering.{nat_cmp}
 use Rattle.std.proofs.lemmas.Bool.{eqb-true, false≢true, true≢false}
-use Rattle.bosh_base.specs.Inst.{inst_cmp}
 use Rattle.bosh_base.specs.declared.entry.Begin.{Begin}
 use Rattle.bosh_base.specs.declared.entry.Update.{Update}
 use Rattle.bosh_base.specs.declared.inst.Inst.{Inst}
@@ -32,18 +31,18 @@ use Rattle.bosh_work.specs.declared.line.Line.{Line}
 use Rattle.bosh_work.specs.declared.part.MachineName.{MachineName}
 use Rattle.bosh_work.specs.declared.work.Work.{Work}
 use Rattle.laws_stands.proofs.LineLemmas.{stands_finished}
+use Rattle.laws_stands.proofs.MarkLemmas.{one_more}
 use Rattle.laws_stands.proofs.MemberLemmas.{inst_is}
 use Rattle.laws_stands.specs.GroupsStand.{names_of}
 use Rattle.laws_stands.specs.LineStands.{place_of}
 use Rattle.laws_stands.specs.Reading.{dep_of, instance_of, row_of, work_of}
-use Rattle.laws_stands.specs.Stands.{AreSwept, StandsIn, key_of_slot}
+use Rattle.laws_stands.specs.Stands.{AreSwept, StandsIn, StandsInOrder, key_of_slot}
 use Rattle.laws_stands.specs.Told.{Told, idle_in, is_going}
 use Rattle.laws_stands.specs.WorkStands.{StandsFor}
 use Rattle.laws_stands_on.proofs.CallLemmas.{all_numbered}
 use Rattle.laws_stands_on.proofs.LinkLemmas.{ListsSame, links_go_on}
 use Rattle.laws_stands_on.proofs.ListedLemmas.{SameListed, listed_goes_on, untouched}
 use Rattle.laws_stands_on.proofs.NextCallLemmas.{row_by}
-use Rattle.laws_stands_on.proofs.OnceLemmas.{once_altered}
 use Rattle.laws_stands.proofs.SameGroupLemmas.{groups_as}
 use Rattle.laws_stands_on.proofs.TableLemmas.{nat_at, nat_keys, thing_changed}
 use Rattle.laws_stands_on.proofs.WorksLemmas.{of_task, of_task_is, of_task_same, works_go_on, works_were}
@@ -187,7 +186,8 @@ module _ (u : Update) (told : Told) (it : Recorded) (going : is_going told.known
       (record {
         task_is = work_stands.task_is;
         pings = work_stands.pings;
-        obsolete = stands_finished same_inst inst_is t.obsolete apart i (λ x. not (t.gone x)) (idle_in told)
+        obsolete = stands_finished same_inst inst_is t.obsolete i
+            (one_more same_inst inst_is t.obsolete apart i) (λ x. not (t.gone x)) (idle_in told)
             (λ x. not (at same_inst i true t.gone x)) (idle_in told) work.obsolete left_as (λ x. refl)
             work_stands.obsolete;
         disks = work_stands.disks;
@@ -246,8 +246,8 @@ module _ (u : Update) (told : Told) (it : Recorded) (going : is_going told.known
 
   -- ---- all
 
-  pub gone_stands : StandsIn told_gone (left_in u it)
-  gone_stands = record {
+  pub gone_stands : StandsInOrder told_gone (left_in u it)
+  gone_stands = λ ordered. record {
     uploads = stands.uploads;
     deployments = stands.deployments;
     rows = rows;
@@ -283,15 +283,7 @@ module _ (u : Update) (told : Told) (it : Recorded) (going : is_going told.known
       machines = λ name. refl;
       orphans = λ d. refl;
     }) stands.linked;
-    once = record {
-      instances = once_altered inst_cmp i said it.instances (stands.once).instances;
-      machines = (stands.once).machines;
-      orphans = (stands.once).orphans;
-      keys = (stands.once).keys;
-      tasks = (stands.once).tasks;
-      works = once_altered nat_cmp n (option_map gone) it.works (stands.once).works;
-      calls = (stands.once).calls;
-    };
+    ordered = ordered;
     tells_well = record {
       number = stands.tells_well.number;
       low = stands.tells_well.low;

@@ -22,7 +22,7 @@ use Rattle.bosh_plan.specs.Updated.{left_gone, orphans_of}
 use Rattle.bosh_records.specs.Recorded.{Recorded, recorded}
 use Rattle.bosh_records.specs.declared.records.Records.{Records}
 use Rattle.bosh_rows.specs.Same.{same_inst}
-use Rattle.laws_stands.specs.Stands.{Stands, StandsIn}
+use Rattle.laws_stands.specs.Stands.{Stands, StandsIn, StandsInOrder}
 use Rattle.laws_stands.specs.Told.{Told, telling}
 use Rattle.laws_stands_on.proofs.RoomyLemmas.{roomy_stands}
 use Rattle.laws_stands_updates.proofs.DisksLeftLemmas.{left_stands}
@@ -65,8 +65,8 @@ module _ (u : Update) (told : Told) (was now : Records) (allows : AllowsLeave to
   abbrev new : Told
   new = telling told (entries.Gone u)
 
-  planned_stands : StandsIn new (with_left_behind (orphans_of i disks) (left_in u it))
-  planned_stands = gone_stands u
+  planned_stands : StandsInOrder new (with_left_behind (orphans_of i disks) (left_in u it))
+  planned_stands ordered = gone_stands u
       (record told {
         known = record k {
           orphans = all_inserted nat_cmp (numbers_of disks) k.orphans;
@@ -75,14 +75,15 @@ module _ (u : Update) (told : Told) (was now : Records) (allows : AllowsLeave to
       })
       (record it { orphans = with_orphans (orphans_of i disks) it.orphans }) allows.going allows.dep
       allows.obsolete_apart allows.idle
-      (left_stands told it i disks (all_inserted nat_cmp (numbers_of disks) k.orphans) allows.left places roomy)
+      (left_stands told it i disks (all_inserted nat_cmp (numbers_of disks) k.orphans) allows.left places roomy
+      ordered.orphans) ordered
 
   by_change : (change : Change) → IsPlanned was learns.roomy (entries.Gone u) change
-      → StandsIn new (learned (entries.Gone u) change it)
+      → StandsInOrder new (learned (entries.Gone u) change it)
   by_change (changes.Updated updated) (row_planned, left_planned) =
-      subst (λ left. StandsIn new (with_left_behind left (with_row_of updated.row (left_in u it))))
+      subst (λ left. StandsInOrder new (with_left_behind left (with_row_of updated.row (left_in u it))))
       (sym (left_planned ∙ left_is))
-      (subst (λ row. StandsIn new (with_left_behind (orphans_of i disks) (with_row_of row (left_in u it))))
+      (subst (λ row. StandsInOrder new (with_left_behind (orphans_of i disks) (with_row_of row (left_in u it))))
       (sym row_planned) planned_stands)
   by_change (changes.Release other) planned = absurd planned
   by_change (changes.Stemcell other) planned = absurd planned
@@ -96,4 +97,5 @@ module _ (u : Update) (told : Told) (was now : Records) (allows : AllowsLeave to
   by_change changes.Nothing planned = absurd planned
 
   pub after_gone : Stands new now
-  after_gone = subst (StandsIn new) (sym learns.is_learned) (by_change learns.change learns.planned)
+  after_gone =
+      subst (StandsInOrder new) (sym learns.is_learned) (by_change learns.change learns.planned) learns.ordered

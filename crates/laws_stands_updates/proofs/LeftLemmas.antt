@@ -15,9 +15,8 @@ use Rattle.bosh_plan.specs.Roomy.{disk_room}
 use Rattle.bosh_plan.specs.Updated.{orphans_of}
 use Rattle.bosh_records.specs.Table.{found, thing_in, with_room}
 use Rattle.bosh_records.specs.declared.orphans.LooseDisk.{LooseDisk}
-use Rattle.laws_stands.specs.Once.{IsOnce}
 use Rattle.laws_stands_on.proofs.ChangedLemmas.{eqb_flip, some_mapped}
-use Rattle.laws_stands_on.proofs.OnceLemmas.{found_roomy, once_along, once_altered, there_roomy}
+use Rattle.laws_stands_on.proofs.TableLemmas.{found_roomy, there_roomy}
 use Rattle.laws_stands_on.proofs.TableLemmas.{found_altered, nat_at, nat_keys}
 use Rattle.laws_stands.specs.Told.{Told}
 use Rattle.laws_stands_updates.specs.Finished.{AllowsLeft, HavePlaces, numbers_of}
@@ -166,12 +165,6 @@ these_left i (d ∷ disks) orphans places x among =
           ∙ (λ j. if (eqb_flip d.disk x ∙ is) j then Some (loose (orphan_of i d)) else thing_in nat_cmp orphans x);
     }
     by false none false is either later = absurd (false≢true either)
-
-pub once_left : (i : Inst) (disks : List DiskRow) (orphans : List (ℕ × Option LooseDisk)) → IsOnce nat_cmp orphans
-    → IsOnce nat_cmp (with_orphans (orphans_of i disks) orphans)
-once_left i disks orphans once =
-    once_along nat_cmp with_loose (λ es orphan its. once_altered nat_cmp orphan.disk (λ _. Some (loose orphan)) es its)
-    (orphans_of i disks) orphans once
 
 -- ---- the room that is made for them
 

@@ -28,7 +28,8 @@ use Rattle.bosh_rows.specs.After.{left_behind, updated_row}
 use Rattle.bosh_rows.specs.Same.{same_inst}
 use Rattle.laws_stands.proofs.DeploymentLemmas.{goal_is}
 use Rattle.laws_stands.proofs.WantLemmas.{want_is}
-use Rattle.laws_stands.specs.Stands.{Stands, StandsIn}
+use Rattle.bosh_records.specs.Ordered.{AreInOrder, AreOrdered}
+use Rattle.laws_stands.specs.Stands.{Stands, StandsIn, StandsInOrder}
 use Rattle.laws_stands.specs.Told.{Told, telling}
 use Rattle.laws_stands_on.proofs.RoomyLemmas.{roomy_stands}
 use Rattle.laws_stands_updates.proofs.DisksLeftLemmas.{left_stands}
@@ -107,11 +108,18 @@ module _ (u : Update) (told : Told) (was now : Records) (allows : AllowsFinish t
   left_first true = refl
   left_first false = refl
 
-  planned_stands : StandsIn (new_by (Some allows.want))
+  -- the row stands in its place
+  in_order : (noted : Option Row)
+      → AreOrdered (with_row_of noted (update_finished_in u (record it { orphans = with_orphans (orphans_of i disks) it.orphans })))
+      → AreInOrder nat_cmp (with_orphans (orphans_of i disks) it.orphans)
+  in_order (Some row) = λ ordered. ordered.orphans
+  in_order None = λ ordered. ordered.orphans
+
+  planned_stands : StandsInOrder (new_by (Some allows.want))
       (with_left_behind (orphans_of i disks)
       (with_row_of (if is_among same_inst i k.instances then Some row else None) (update_finished_in u it)))
-  planned_stands = subst (StandsIn (new_by (Some allows.want))) (left_first (is_among same_inst i k.instances))
-      (after_finished u
+  planned_stands = subst (StandsInOrder (new_by (Some allows.want))) (left_first (is_among same_inst i k.instances))
+      (λ ordered. after_finished u
       (record told {
         known = record k {
           orphans = all_inserted nat_cmp (numbers_of disks) k.orphans;
@@ -121,16 +129,17 @@ module _ (u : Update) (told : Told) (was now : Records) (allows : AllowsFinish t
       (record it { orphans = with_orphans (orphans_of i disks) it.orphans }) row allows.going allows.dep
       allows.changed_apart allows.own_row
       (left_stands told it i disks (all_inserted nat_cmp (numbers_of disks) k.orphans)
-      (fewer_left told (λ d. not (stays allows.want d)) (k.row i).disks allows.left) places roomy))
+      (fewer_left told (λ d. not (stays allows.want d)) (k.row i).disks allows.left) places roomy
+      (in_order (if is_among same_inst i k.instances then Some row else None) ordered)) ordered)
 
   by_change : (change : Change) → IsPlanned was learns.roomy (entries.UpdDone u) change
-      → StandsIn new (learned (entries.UpdDone u) change it)
+      → StandsInOrder new (learned (entries.UpdDone u) change it)
   by_change (changes.Updated updated) (row_planned, left_planned) =
-      subst (λ want. StandsIn (new_by want) (learned (entries.UpdDone u) (changes.Updated updated) it))
+      subst (λ want. StandsInOrder (new_by want) (learned (entries.UpdDone u) (changes.Updated updated) it))
       (sym allows.wanted)
-      (subst (λ left. StandsIn (new_by (Some allows.want))
+      (subst (λ left. StandsInOrder (new_by (Some allows.want))
       (with_left_behind left (with_row_of updated.row (update_finished_in u it)))) (sym (left_planned ∙ left_is))
-      (subst (λ (row : Option Row). StandsIn (new_by (Some allows.want))
+      (subst (λ (row : Option Row). StandsInOrder (new_by (Some allows.want))
       (with_left_behind (orphans_of i disks) (with_row_of row (update_finished_in u it))))
       (sym (row_planned ∙ row_is)) planned_stands))
   by_change (changes.Release other) planned = absurd planned
@@ -145,4 +154,5 @@ module _ (u : Update) (told : Told) (was now : Records) (allows : AllowsFinish t
   by_change changes.Nothing planned = absurd planned
 
   pub after_update_done : Stands new now
-  after_update_done = subst (StandsIn new) (sym learns.is_learned) (by_change learns.change learns.planned)
+  after_update_done =
+      subst (StandsInOrder new) (sym learns.is_learned) (by_change learns.change learns.planned) learns.ordered
