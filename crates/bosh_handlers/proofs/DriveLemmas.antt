@@ -166,7 +166,7 @@ module _ {K L : Type 0} {k : keeper.Ghosts K} {l : keeper.Ghosts L} (bodies : K 
   adds_carries : (was now : Site K L k l) (result : Result (Unit {0}) SiteFault) →
       Carries bodies faults cloud_bodies cloud_faults tasks worker was result now → Adds was now
   adds_carries was now (Ok value) (reached, ended) = adds_acts was now (acts_reaches was Empty now Empty reached)
-  adds_carries was now (Err fault) (mid, at, reached, stops) =
+  adds_carries was now (Err fault) (mid, (at, reached, stops)) =
       adds_then was mid now (adds_acts was mid (acts_reaches was Empty mid at reached)) (adds_stops mid at now fault stops)
 
   -- tasks are carried to their ends, or as far as they can be
