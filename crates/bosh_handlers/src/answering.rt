@@ -1,5 +1,5 @@
 //! A command is carried out and answered.
-ghost use Rattle.bosh_world.specs.Silent.{IsSilent};
+ghost use Rattle.bosh_handlers.specs.Acts.{Acts};
 
 use crate::config::update_config;
 use crate::listings::list;
@@ -23,7 +23,7 @@ pub fn answer<F: Shelf, K: Keeper, L: Keeper>(
     shelf: &mut F,
     site: &mut Site<K, L>,
 ) -> Result<Reply, AnswerFault>
-    ensures silent { IsSilent site.old site.new }
+    ensures acts { Acts site.old site.new }
 {
     match opens_task(&request) {
         true => run_task(alloc, request, files, shelf, site),
@@ -45,7 +45,7 @@ fn answer_at_once<F: Shelf, K: Keeper, L: Keeper>(
     shelf: &mut F,
     site: &mut Site<K, L>,
 ) -> Result<Reply, AnswerFault>
-    ensures silent { IsSilent site.old site.new }
+    ensures acts { Acts site.old site.new }
 {
     let reply = take_up(alloc, &request, files, shelf, site);
     drop(request);
@@ -60,7 +60,7 @@ fn take_up<F: Shelf, K: Keeper, L: Keeper>(
     shelf: &mut F,
     site: &mut Site<K, L>,
 ) -> Result<Reply, AnswerFault>
-    ensures silent { IsSilent site.old site.new }
+    ensures acts { Acts site.old site.new }
 {
     match &request.asked {
         Ok(command) => obey(alloc, command, &request.block, files, shelf, site),
@@ -76,7 +76,7 @@ fn obey<F: Shelf, K: Keeper, L: Keeper>(
     shelf: &mut F,
     site: &mut Site<K, L>,
 ) -> Result<Reply, AnswerFault>
-    ensures silent { IsSilent site.old site.new }
+    ensures acts { Acts site.old site.new }
 {
     match command {
         Command::File { path } => keep_file(alloc, path, block, files),
@@ -103,7 +103,7 @@ fn carry_out<F: Shelf, K: Keeper, L: Keeper>(
     shelf: &mut F,
     site: &mut Site<K, L>,
 ) -> Result<Reply, AnswerFault>
-    ensures silent { IsSilent site.old site.new }
+    ensures acts { Acts site.old site.new }
 {
     match command {
         Command::UploadRelease { folder, version } => upload_folder(
@@ -128,7 +128,7 @@ fn run_task<F: Shelf, K: Keeper, L: Keeper>(
     shelf: &mut F,
     site: &mut Site<K, L>,
 ) -> Result<Reply, AnswerFault>
-    ensures silent { IsSilent site.old site.new }
+    ensures acts { Acts site.old site.new }
 {
     match open_request(alloc, request, files, shelf, site) {
         Ok(opened) => finish(alloc, opened, site),
@@ -142,7 +142,7 @@ fn attend<K: Keeper, L: Keeper>(
     command: &Command,
     site: &mut Site<K, L>,
 ) -> Result<Reply, AnswerFault>
-    ensures silent { IsSilent site.old site.new }
+    ensures acts { Acts site.old site.new }
 {
     match command {
         Command::UploadStemcell(stemcell) => upload_stemcell(alloc, stemcell, site),

@@ -1,5 +1,5 @@
 //! The cloud config is set.
-ghost use Rattle.bosh_world.specs.Silent.{IsSilent};
+ghost use Rattle.bosh_handlers.specs.Acts.{Acts};
 
 use crate::ends::refused_by_site;
 use bosh_answers::{AnswerFault, Files, read_file, refused};
@@ -18,7 +18,7 @@ pub(crate) fn update_config<F: Shelf, K: Keeper, L: Keeper>(
     shelf: &mut F,
     site: &mut Site<K, L>,
 ) -> Result<Reply, AnswerFault>
-    ensures silent { IsSilent site.old site.new }
+    ensures acts { Acts site.old site.new }
 {
     match read_file(alloc, files, shelf, path) {
         Ok(text) => set_config(alloc, text.as_slice(), site),
@@ -32,7 +32,7 @@ pub fn set_config<K: Keeper, L: Keeper>(
     text: &[u8],
     site: &mut Site<K, L>,
 ) -> Result<Reply, AnswerFault>
-    ensures silent { IsSilent site.old site.new }
+    ensures acts { Acts site.old site.new }
 {
     match read(alloc, text) {
         Ok(node) => set_checked(alloc, text, &node, site),
@@ -46,7 +46,7 @@ fn set_checked<K: Keeper, L: Keeper>(
     node: &Node,
     site: &mut Site<K, L>,
 ) -> Result<Reply, AnswerFault>
-    ensures silent { IsSilent site.old site.new }
+    ensures acts { Acts site.old site.new }
 {
     match check(alloc, node) {
         Ok(config) => {
@@ -62,7 +62,7 @@ fn put<K: Keeper, L: Keeper>(
     text: &[u8],
     site: &mut Site<K, L>,
 ) -> Result<Reply, AnswerFault>
-    ensures silent { IsSilent site.old site.new }
+    ensures acts { Acts site.old site.new }
 {
     match site.set_config(text) {
         Ok(()) => Ok(Reply::ConfigUpdated),

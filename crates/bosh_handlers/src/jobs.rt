@@ -1,5 +1,5 @@
 //! Jobs write to their disks, and what machines and disks have is shown.
-ghost use Rattle.bosh_world.specs.Silent.{IsSilent};
+ghost use Rattle.bosh_handlers.specs.Acts.{Acts};
 
 use crate::ends::{refused_by_site, stopped};
 use bosh_answers::{AnswerFault, show_file};
@@ -16,7 +16,7 @@ pub(crate) fn write<K: Keeper, L: Keeper>(
     text: &[u8],
     site: &mut Site<K, L>,
 ) -> Result<Reply, AnswerFault>
-    ensures silent { IsSilent site.old site.new }
+    ensures acts { Acts site.old site.new }
 {
     match site.write_disk(inst, text) {
         Ok(()) => Ok(Reply::Written),
@@ -31,7 +31,7 @@ pub(crate) fn lose<K: Keeper, L: Keeper>(
     lost: Lost,
     site: &mut Site<K, L>,
 ) -> Result<Reply, AnswerFault>
-    ensures silent { IsSilent site.old site.new }
+    ensures acts { Acts site.old site.new }
 {
     let whole = match lost {
         Lost::Vm => true,

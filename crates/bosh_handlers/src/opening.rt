@@ -1,6 +1,6 @@
 //! Tasks are opened.
 ghost use Rattle.std.specs.Prelude.{◌≡◌};
-ghost use Rattle.bosh_world.specs.Silent.{IsSilent};
+ghost use Rattle.bosh_handlers.specs.Acts.{Acts};
 
 use crate::ends::refused_by_site;
 use bosh_answers::{AnswerFault, Files, How, ask_of, deploy_of, read_file, refused};
@@ -21,7 +21,7 @@ pub fn open_request<F: Shelf, K: Keeper, L: Keeper>(
     shelf: &mut F,
     site: &mut Site<K, L>,
 ) -> Result<Opened, AnswerFault>
-    ensures silent { IsSilent site.old site.new }
+    ensures acts { Acts site.old site.new }
 {
     match asked_of(request) {
         Ok(command) => open(alloc, command, files, shelf, site),
@@ -45,7 +45,7 @@ fn open<F: Shelf, K: Keeper, L: Keeper>(
     shelf: &mut F,
     site: &mut Site<K, L>,
 ) -> Result<Opened, AnswerFault>
-    ensures silent { IsSilent site.old site.new }
+    ensures acts { Acts site.old site.new }
 {
     match is_deploy(&command) {
         true => open_deploy(alloc, command, files, shelf, site),
@@ -64,7 +64,7 @@ fn open_deploy<F: Shelf, K: Keeper, L: Keeper>(
     shelf: &mut F,
     site: &mut Site<K, L>,
 ) -> Result<Opened, AnswerFault>
-    ensures silent { IsSilent site.old site.new }
+    ensures acts { Acts site.old site.new }
 {
     let opened = open_manifest(alloc, &command, files, shelf, site);
     drop(command);
@@ -78,7 +78,7 @@ fn open_manifest<F: Shelf, K: Keeper, L: Keeper>(
     shelf: &mut F,
     site: &mut Site<K, L>,
 ) -> Result<Opened, AnswerFault>
-    ensures silent { IsSilent site.old site.new }
+    ensures acts { Acts site.old site.new }
 {
     match command {
         Command::Deploy(deploy) => open_file(alloc, deploy, files, shelf, site),
@@ -91,7 +91,7 @@ fn open_asked<K: Keeper, L: Keeper>(
     ask: Option<Ask>,
     site: &mut Site<K, L>,
 ) -> Result<Opened, AnswerFault>
-    ensures silent { IsSilent site.old site.new }
+    ensures acts { Acts site.old site.new }
 {
     match ask {
         Some(ask) => begin(alloc, ask, site),
@@ -111,7 +111,7 @@ fn begin<K: Keeper, L: Keeper>(
     ask: Ask,
     site: &mut Site<K, L>,
 ) -> Result<Opened, AnswerFault>
-    ensures silent { IsSilent site.old site.new }
+    ensures acts { Acts site.old site.new }
 {
     let begun = site.begin_task(&ask);
     drop(ask);
@@ -128,7 +128,7 @@ fn open_file<F: Shelf, K: Keeper, L: Keeper>(
     shelf: &mut F,
     site: &mut Site<K, L>,
 ) -> Result<Opened, AnswerFault>
-    ensures silent { IsSilent site.old site.new }
+    ensures acts { Acts site.old site.new }
 {
     let how = How {
         recreate: deploy.recreate,
@@ -156,7 +156,7 @@ pub fn open_text<K: Keeper, L: Keeper>(
     text: &[u8],
     site: &mut Site<K, L>,
 ) -> Result<Opened, AnswerFault>
-    ensures silent { IsSilent site.old site.new }
+    ensures acts { Acts site.old site.new }
 {
     match deploy_of(alloc, dep, vars, how, text) {
         Ok(ask) => begin(alloc, ask, site),

@@ -4,7 +4,7 @@ ghost use Rattle.std.specs.Prelude.{◌≡◌, IfOk};
 ghost use Rattle.bosh_answers.specs.Ends.{end_of, told_end};
 ghost use Rattle.bosh_director.specs.Left.{told_left};
 ghost use Rattle.bosh_handlers.specs.Tasks.{cause_of};
-ghost use Rattle.bosh_world.specs.Silent.{IsSilent};
+ghost use Rattle.bosh_handlers.specs.Acts.{Acts};
 
 use crate::ends::{halted_by, stopped};
 use bosh_answers::{AnswerFault, end_of, refused, told_end};
@@ -22,7 +22,7 @@ pub fn carry_out<K: Keeper, L: Keeper>(
     tasks: &[u64],
     site: &mut Site<K, L>,
 ) -> Result<Left, AnswerFault>
-    ensures silent { IsSilent site.old site.new }
+    ensures acts { Acts site.old site.new }
 {
     let driven = drive(site, tasks);
     let left = left_by(&driven);
@@ -67,7 +67,7 @@ pub fn finish<K: Keeper, L: Keeper>(
     opened: Opened,
     site: &mut Site<K, L>,
 ) -> Result<Reply, AnswerFault>
-    ensures silent { IsSilent site.old site.new }
+    ensures acts { Acts site.old site.new }
 {
     match opened {
         Opened::Refused(reply) => Ok(reply),
@@ -80,7 +80,7 @@ fn finish_task<K: Keeper, L: Keeper>(
     task: u64,
     site: &mut Site<K, L>,
 ) -> Result<Reply, AnswerFault>
-    ensures silent { IsSilent site.old site.new }
+    ensures acts { Acts site.old site.new }
 {
     let left = carry_out(&[task], site)?;
     told(alloc, task, site.book().records(), left)

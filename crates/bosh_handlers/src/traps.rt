@@ -1,7 +1,7 @@
 //! Calls and appends are made to fail, the director is stopped, and started anew.
 ghost use Rattle.std.specs.Prelude.{◌≤◌};
 ghost use Rattle.bosh_world.specs.Arms.{count_of};
-ghost use Rattle.bosh_world.specs.Silent.{IsSilent};
+ghost use Rattle.bosh_handlers.specs.Acts.{Acts};
 
 use crate::ends::refused_by_site;
 use bosh_answers::AnswerFault;
@@ -25,7 +25,7 @@ fn arm<K: Keeper, L: Keeper>(
     site: &mut Site<K, L>,
 ) -> Result<Reply, AnswerFault>
     requires { 1 ≤ count_of trap }
-    ensures silent { IsSilent site.old site.new }
+    ensures acts { Acts site.old site.new }
 {
     match site.arm(trap) {
         Ok(()) => Ok(Reply::Nothing),
@@ -39,7 +39,7 @@ pub(crate) fn fail_call<K: Keeper, L: Keeper>(
     doom: &Doom,
     site: &mut Site<K, L>,
 ) -> Result<Reply, AnswerFault>
-    ensures silent { IsSilent site.old site.new }
+    ensures acts { Acts site.old site.new }
 {
     let owner = doom.owner.copy(alloc)?;
     arm(
@@ -61,7 +61,7 @@ pub(crate) fn fail_store<K: Keeper, L: Keeper>(
     appends: u64,
     site: &mut Site<K, L>,
 ) -> Result<Reply, AnswerFault>
-    ensures silent { IsSilent site.old site.new }
+    ensures acts { Acts site.old site.new }
 {
     let how = match fate {
         Fate::Lose => Rig::FailLost,
@@ -83,7 +83,7 @@ pub(crate) fn stop_call<K: Keeper, L: Keeper>(
     stop: &StopCall,
     site: &mut Site<K, L>,
 ) -> Result<Reply, AnswerFault>
-    ensures silent { IsSilent site.old site.new }
+    ensures acts { Acts site.old site.new }
 {
     let owner = stop.owner.copy(alloc)?;
     arm(
@@ -106,7 +106,7 @@ pub(crate) fn stop_store<K: Keeper, L: Keeper>(
     appends: u64,
     site: &mut Site<K, L>,
 ) -> Result<Reply, AnswerFault>
-    ensures silent { IsSilent site.old site.new }
+    ensures acts { Acts site.old site.new }
 {
     let how = match when {
         When::Before => Rig::StopBefore,
@@ -127,7 +127,7 @@ pub(crate) fn restart<K: Keeper, L: Keeper>(
     alloc: Global,
     site: &mut Site<K, L>,
 ) -> Result<Reply, AnswerFault>
-    ensures silent { IsSilent site.old site.new }
+    ensures acts { Acts site.old site.new }
 {
     match site.restart() {
         Ok(()) => Ok(Reply::Restarted),

@@ -1,5 +1,5 @@
 //! Releases and stemcells are uploaded.
-ghost use Rattle.bosh_world.specs.Silent.{IsSilent};
+ghost use Rattle.bosh_handlers.specs.Acts.{Acts};
 
 use crate::ends::refused_by_site;
 use bosh_answers::{AnswerFault, Files, read_folder, refused};
@@ -19,7 +19,7 @@ pub(crate) fn upload_folder<F: Shelf, K: Keeper, L: Keeper>(
     shelf: &mut F,
     site: &mut Site<K, L>,
 ) -> Result<Reply, AnswerFault>
-    ensures silent { IsSilent site.old site.new }
+    ensures acts { Acts site.old site.new }
 {
     match read_folder(alloc, files, shelf, folder) {
         Ok(found) => upload_files(alloc, found.as_slice(), version, site),
@@ -34,7 +34,7 @@ pub fn upload_files<K: Keeper, L: Keeper>(
     version: &[u8],
     site: &mut Site<K, L>,
 ) -> Result<Reply, AnswerFault>
-    ensures silent { IsSilent site.old site.new }
+    ensures acts { Acts site.old site.new }
 {
     match collect(alloc, files, version) {
         Ok(release) => upload(alloc, release, site),
@@ -58,7 +58,7 @@ fn upload<K: Keeper, L: Keeper>(
     release: Release,
     site: &mut Site<K, L>,
 ) -> Result<Reply, AnswerFault>
-    ensures silent { IsSilent site.old site.new }
+    ensures acts { Acts site.old site.new }
 {
     match summary(alloc, &release) {
         Ok(summary) => upload_told(alloc, release, summary, site),
@@ -72,7 +72,7 @@ fn upload_told<K: Keeper, L: Keeper>(
     summary: ReleaseAdded,
     site: &mut Site<K, L>,
 ) -> Result<Reply, AnswerFault>
-    ensures silent { IsSilent site.old site.new }
+    ensures acts { Acts site.old site.new }
 {
     match site.upload(release) {
         Ok(Added::New) => Ok(Reply::ReleaseAdded(summary)),
@@ -90,7 +90,7 @@ pub fn upload_stemcell<K: Keeper, L: Keeper>(
     stemcell: &Stemcell,
     site: &mut Site<K, L>,
 ) -> Result<Reply, AnswerFault>
-    ensures silent { IsSilent site.old site.new }
+    ensures acts { Acts site.old site.new }
 {
     let told = stemcell.copy(alloc)?;
     match site.add_stemcell(&stemcell.os, stemcell.version.as_slice()) {

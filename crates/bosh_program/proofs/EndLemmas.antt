@@ -1,10 +1,9 @@
 -- How a session ends, as a whole.
-use Rattle.std.proofs.Common.{◌≡◌, ◌∙◌, ℕ, Bool, List, [], ◌++◌, Option, Some, None, Result, Ok, Err, IfErr, OnOk, ap, drop, inl, inr, refl, sym, subst}
+use Rattle.std.proofs.Common.{◌≡◌, ℕ, Bool, List, ◌++◌, Option, Some, None, Result, Ok, Err, IfErr, OnOk, inl, inr, refl, sym, subst}
 use Rattle.std.specs.Prelude.{IfSome}
 use Rattle.bosh_base.specs.declared.reply.Refusal.{Refusal}
+use Rattle.bosh_handlers.specs.Acts.{past_of}
 use Rattle.bosh_handlers.specs.SiteFaults.{site_told}
-use Rattle.bosh_moves.proofs.SilentLemmas.{notes_silent}
-use Rattle.bosh_moves.specs.Replies.{replies_in}
 use Rattle.bosh_ports.specs.Faults.{Rose}
 use Rattle.bosh_ports.specs.declared.keeper.Keeper as keeper
 use Rattle.bosh_report.specs.Refusal.{refusal_line}
@@ -15,8 +14,6 @@ use Rattle.bosh_transcript.specs.Writing.{WritesFront}
 use Rattle.bosh_transcript.specs.declared.status.Status.{Status}
 use Rattle.bosh_transcript.specs.declared.status.Status.TheVariants.{Memory, Sink, Unloaded}
 use Rattle.bosh_world.specs.Loads.{IsNotSite, Loads}
-use Rattle.bosh_world.specs.Restarts.{read_count}
-use Rattle.bosh_world.specs.Silent.{moves_of}
 use Rattle.bosh_world.specs.declared.fault.SiteFault.{SiteFault}
 use Rattle.bosh_world.specs.declared.site.Site.{Site}
 use Rattle.bosh_world.specs.declared.unloaded.Unloaded as unloaded
@@ -54,14 +51,6 @@ line_written written faults fault told text o p result is line all failed front 
       (text_written written faults text o p result all failed front was before),
 )
 
--- a site that was loaded has told the ends of tasks, and no reply
-pub loaded_silent : {K L : Type 0} {k : keeper.Ghosts K} {l : keeper.Ghosts L}
-    (bodies : K → Option (List (List ℕ))) (faults : K → ℕ) (is_broken : K → Bool)
-    (cloud_bodies : L → Option (List (List ℕ))) (cloud_faults : L → ℕ) (store : K) (cloud : L) (site : Site K L k l) →
-    Loads bodies faults is_broken cloud_bodies cloud_faults store cloud site → replies_in (moves_of site) ≡ []
-loaded_silent bodies faults is_broken cloud_bodies cloud_faults store cloud site loads =
-    ap replies_in loads.moves_of ∙ notes_silent (drop (read_count site.book) site.book.journal.entries)
-
 -- a session over a site that was loaded
 pub plain_loaded : {I O K L : Type 0} {k : keeper.Ghosts K} {l : keeper.Ghosts L}
     (left : I → Option (List ℕ)) (read_faults : I → ℕ) (written : O → Option (List ℕ)) (write_faults : O → ℕ)
@@ -69,7 +58,8 @@ pub plain_loaded : {I O K L : Type 0} {k : keeper.Ghosts K} {l : keeper.Ghosts L
     (cloud_bodies : L → Option (List (List ℕ))) (cloud_faults : L → ℕ)
     (source_before source_after : I) (out_before out_after : O) (store : K) (cloud : L) (was now : Site K L k l)
     (status : Status) (end : ended.Ended K L k l) → Loads bodies faults is_broken cloud_bodies cloud_faults store cloud was →
-    IsSession left read_faults written write_faults source_before source_after out_before out_after status (moves_of now) →
+    IsSession left read_faults written write_faults source_before source_after out_before out_after status (past_of was)
+    (past_of now) →
     end.status ≡ status → end.site ≡ Some now → end.refused ≡ None →
     IsPlain left read_faults written write_faults bodies faults is_broken cloud_bodies cloud_faults source_before
     source_after out_before out_after store cloud end
@@ -79,9 +69,9 @@ plain_loaded {I} {O} {K} {L} {k} {l} left read_faults written write_faults bodie
         was,
         loads,
         subst (λ (s : Status). IsSession left read_faults written write_faults source_before source_after out_before out_after s
-            (moves_of site)) (sym ends)
+            (past_of was) (past_of site)) (sym ends)
             (subst (λ (s : Site K L k l). IsSession left read_faults written write_faults source_before source_after out_before
-            out_after status (moves_of s)) same session),
+            out_after status (past_of was) (past_of s)) same session),
         none,
       );
   not_loaded = λ refused is. absurd (not_none end.refused refused is none);

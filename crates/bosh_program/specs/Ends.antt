@@ -1,6 +1,7 @@
 -- How a session ended, as a whole.
 use Rattle.std.specs.Prelude.{◌≡◌, ◌⊎◌, ℕ, Bool, List, ◌++◌, MatchOption, Option, Some, None, codes}
 use Rattle.bosh_base.specs.declared.reply.Refusal.{Refusal}
+use Rattle.bosh_handlers.specs.Acts.{past_of}
 use Rattle.bosh_handlers.specs.SiteFaults.{site_told}
 use Rattle.bosh_options.specs.Words.{Tells}
 use Rattle.bosh_ports.specs.Faults.{Rose}
@@ -10,7 +11,6 @@ use Rattle.bosh_transcript.specs.Sessions.{IsSession}
 use Rattle.bosh_transcript.specs.Writing.{WritesFront}
 use Rattle.bosh_transcript.specs.declared.status.Status.TheVariants.{Memory, Unloaded, Usage}
 use Rattle.bosh_world.specs.Loads.{IsNotSite, Loads}
-use Rattle.bosh_world.specs.Silent.{moves_of}
 use Rattle.bosh_world.specs.declared.fault.SiteFault.{SiteFault}
 use Rattle.bosh_ports.specs.declared.keeper.Keeper as keeper
 use Rattle.bosh_world.specs.declared.site.Site.{Site}
@@ -28,8 +28,9 @@ IsLineWritten written faults fault before after =
     × ((was : List ℕ) → written before ≡ Some was →
     IsTextWritten was (refusal_line told) (written after) (faults before) (faults after))
 
--- A session over two keepers: over the site that they were loaded as; or they were not loaded, are given back, and why is
--- written; or there was no memory for that, and nothing is written. Nothing is read of the input without a site.
+-- A session over two keepers: over the site that they were loaded as, which it goes on with and gives back; or they
+-- were not loaded, are given back, and why is written; or there was no memory for that, and nothing is written. Nothing
+-- is read of the input without a site.
 pub record IsPlain {I O K L : Type 0} {k : keeper.Ghosts K} {l : keeper.Ghosts L}
     (left : I → Option (List ℕ)) (read_faults : I → ℕ) (written : O → Option (List ℕ)) (write_faults : O → ℕ)
     (bodies : K → Option (List (List ℕ))) (faults : K → ℕ) (is_broken : K → Bool)
@@ -39,7 +40,7 @@ pub record IsPlain {I O K L : Type 0} {k : keeper.Ghosts K} {l : keeper.Ghosts L
     pub loaded : (site : Site K L k l) → end.site ≡ Some site →
         (was : Site K L k l) × Loads bodies faults is_broken cloud_bodies cloud_faults store cloud was
         × IsSession left read_faults written write_faults source_before source_after out_before out_after end.status
-        (moves_of site) × (end.refused ≡ None)
+        (past_of was) (past_of site) × (end.refused ≡ None)
     pub not_loaded : (refused : unloaded.Unloaded K L) → end.refused ≡ Some refused →
         (end.status ≡ Unloaded) × (end.site ≡ None)
         × IsNotSite bodies faults is_broken cloud_bodies cloud_faults store cloud refused.store refused.cloud refused.fault

@@ -1,4 +1,4 @@
-ghost use Rattle.bosh_world.specs.Silent.{moves_of};
+ghost use Rattle.bosh_handlers.specs.Acts.{past_of};
 
 use bosh_answers::{AnswerFault, Files, How};
 use bosh_base::{Entry, Move, Name, Reply, Stemcell};
@@ -16,7 +16,7 @@ pub struct Directing<K: Keeper, L: Keeper> {
 }
 
 impl<K: Keeper, L: Keeper> Director for Directing<K, L> {
-    ghost moves = { λ it. moves_of it.site };
+    ghost past = { λ it. past_of it.site };
 
     ghost entries = { λ it. it.site.book.journal.entries };
 

@@ -1,11 +1,6 @@
 use Rattle.std.proofs.Common.{refl}
-use Rattle.bosh_program.proofs.EndLemmas.{loaded_silent, plain_loaded, plain_unloaded}
+use Rattle.bosh_program.proofs.EndLemmas.{plain_loaded, plain_unloaded}
 use Rattle.bosh_program.proofs.plain.session_plain.Goals as goal
-
-pub carry_out_all-status-requires : goal.carry_out_all-status-requires
-carry_out_all-status-requires g c =
-    loaded_silent g.K.Keeper.bodies g.K.Keeper.faults g.K.Keeper.is_broken g.L.Keeper.bodies g.L.Keeper.faults c.args.store
-    c.args.cloud c.in-Ok.site c.in-Ok.ensures.loaded
 
 pub returns-in-Ok : goal.returns-in-Ok
 returns-in-Ok g c =

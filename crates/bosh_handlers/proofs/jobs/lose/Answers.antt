@@ -1,0 +1,17 @@
+use Rattle.std.proofs.Common.{refl}
+use Rattle.bosh_handlers.proofs.ActLemmas.{acts_changes, acts_unchanged}
+use Rattle.bosh_handlers.proofs.jobs.lose.Goals as goal
+use Rattle.bosh_world.specs.Jobs.{IsLoss, IsMissing}
+
+pub returns-in-Ok : goal.returns-in-Ok
+returns-in-Ok g c = record {
+  acts = acts_changes g.L.Keeper.bodies g.L.Keeper.faults c.args.site.now c.lose.new.self _ _ c.in-Ok.ensures.lost.2
+      refl;
+}
+
+pub returns-in-Err : goal.returns-in-Err
+returns-in-Err g c = record {
+  acts = acts_unchanged g.L.Keeper.bodies g.L.Keeper.faults c.args.site.now c.lose.new.self
+      (IsLoss c.args.site.now c.args.inst.now c.match-lost.whole) (IsMissing c.args.site.now c.args.inst.now) c.in-Err.fault
+      c.in-Err.ensures.refused;
+}

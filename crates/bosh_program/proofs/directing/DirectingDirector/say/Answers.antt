@@ -1,0 +1,14 @@
+use Rattle.std.proofs.Common.{[], ◌∷◌}
+use Rattle.bosh_handlers.proofs.ActLemmas.{continues_comes}
+use Rattle.bosh_transcript.specs.Segments.{said_reply}
+use Rattle.bosh_program.proofs.directing.DirectingDirector.say.Goals as goal
+
+pub returns-in-Ok-clause-said : goal.returns-in-Ok-clause-said
+returns-in-Ok-clause-said g c =
+    continues_comes c.args.self.now.site c.say.new.self (said_reply c.args.number c.args.reply ∷ [])
+    c.in-Ok.ensures.said.comes c.in-Ok.ensures.said.keeps.same_opening
+
+pub returns-in-Err-clause-refused : goal.returns-in-Err-clause-refused
+returns-in-Err-clause-refused g c =
+    continues_comes c.args.self.now.site c.say.new.self [] c.in-Err.ensures.refused.0
+    c.in-Err.ensures.refused.1.same_opening
