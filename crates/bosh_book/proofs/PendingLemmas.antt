@@ -166,10 +166,10 @@ turns_pending {K} bodies faults task worker (suc room) was now (turned, mid, tur
                   nothing_added bodies faults was,
                   it.1,
                   subst (λ (b : Book K). b.journal.entries ≡ was.journal.entries) (sym same)
-                      (it.3.entries ∙ append-nil was.journal.entries),
+                      (it.2.1.entries ∙ append-nil was.journal.entries),
                 ),
               ),
-              subst (λ (b : Book K). b.journal.pending ≡ Some (added it.0)) (sym same) it.2,
+              subst (λ (b : Book K). b.journal.pending ≡ Some (added it.0)) (sym same) it.2.0,
             )
         last fault turn is same = absurd (let no = is in cc)
 

@@ -40,9 +40,11 @@ round_then bodies faults cloud_bodies cloud_faults tasks worker was mid now plac
     (reached_then bodies faults cloud_bodies cloud_faults tasks worker was mid now place at places.Empty before goes.0, goes.1)
 round_then bodies faults cloud_bodies cloud_faults tasks worker was mid now place at (Err fault) before goes = (
   goes.0,
-  goes.1,
-  reached_then bodies faults cloud_bodies cloud_faults tasks worker was mid goes.0 place at goes.1 before goes.2,
-  goes.3,
+  (
+    goes.1.0,
+    reached_then bodies faults cloud_bodies cloud_faults tasks worker was mid goes.0 place at goes.1.0 before goes.1.1,
+    goes.1.2,
+  ),
 )
 
 -- a task that is over, as a claim said, ends or not
@@ -56,10 +58,12 @@ over_then bodies faults cloud_bodies cloud_faults task worker was mid now (Ok (s
 over_then bodies faults cloud_bodies cloud_faults task worker was mid now (Ok step) claimed ended = absurd ended
 over_then bodies faults cloud_bodies cloud_faults task worker was mid now (Err fault) claimed ended = λ tasks there. (
   mid,
-  places.Empty,
-  steps was places.Empty mid places.Empty mid places.Empty (claims task Over refl refl there claimed.0 claimed.1)
-      (stays mid places.Empty),
-  ended tasks worker there,
+  (
+    places.Empty,
+    steps was places.Empty mid places.Empty mid places.Empty (claims task Over refl refl there claimed.0 claimed.1)
+        (stays mid places.Empty),
+    ended tasks worker there,
+  ),
 )
 
 -- a step of a worker is one for the tasks
@@ -123,7 +127,7 @@ pub stopped_at_once : {K L : Type 0} {k : keeper.Ghosts K} {l : keeper.Ghosts L}
     Stops bodies faults cloud_bodies cloud_faults tasks worker was place fault now →
     IsStopped bodies faults cloud_bodies cloud_faults tasks worker was place fault now
 stopped_at_once bodies faults cloud_bodies cloud_faults tasks worker was place fault now stops =
-    (was, place, stays was place, stops)
+    (was, (place, stays was place, stops))
 
 -- after a step for one task a round waits only where that step does
 pub left_by : {K L : Type 0} {k : keeper.Ghosts K} {l : keeper.Ghosts L} (bodies : K → Option (List (List ℕ)))

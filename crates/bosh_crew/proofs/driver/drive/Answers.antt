@@ -35,12 +35,15 @@ returns-in-Ok-Ended-clause-carries g c = (
 pub returns-in-Ok-Waits-clause-carries : goal.returns-in-Ok-Waits-clause-carries
 returns-in-Ok-Waits-clause-carries g c = (
   c.go_round.new.site,
-  Empty,
-  reached_then g.K.Keeper.bodies g.K.Keeper.faults g.L.Keeper.bodies g.L.Keeper.faults c.args.tasks.now 0 c.args.site.now
-      c.loop.site c.go_round.new.site Empty Empty Empty c.loop.invariant.reaches c.in-Ok-Waits.ensures.goes_round.0,
-  waits c.in-Ok-Waits.task refl
-      (subst (λ (round : Round). IsLeft g.K.Keeper.bodies g.K.Keeper.faults c.args.tasks.now 0 round c.go_round.new.site)
-      c.in-Ok-Waits.field-0-is c.in-Ok-Waits.ensures.goes_round.1) c.locked.ensures refl,
+  (
+    Empty,
+    reached_then g.K.Keeper.bodies g.K.Keeper.faults g.L.Keeper.bodies g.L.Keeper.faults c.args.tasks.now 0
+        c.args.site.now c.loop.site c.go_round.new.site Empty Empty Empty c.loop.invariant.reaches
+        c.in-Ok-Waits.ensures.goes_round.0,
+    waits c.in-Ok-Waits.task refl
+        (subst (λ (round : Round). IsLeft g.K.Keeper.bodies g.K.Keeper.faults c.args.tasks.now 0 round
+        c.go_round.new.site) c.in-Ok-Waits.field-0-is c.in-Ok-Waits.ensures.goes_round.1) c.locked.ensures refl,
+  ),
 )
 
 pub returns-in-Err-clause-carries : goal.returns-in-Err-clause-carries
@@ -49,4 +52,4 @@ returns-in-Err-clause-carries g c =
     c.loop.site c.go_round.new.site Empty Empty (Err c.in-Err.fault) c.loop.invariant.reaches c.in-Err.ensures.goes_round
 
 pub returns-clause-carries : goal.returns-clause-carries
-returns-clause-carries g c = (c.loop.site, Empty, c.loop.invariant.reaches, lacks refl refl refl)
+returns-clause-carries g c = (c.loop.site, (Empty, c.loop.invariant.reaches, lacks refl refl refl))
