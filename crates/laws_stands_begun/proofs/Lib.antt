@@ -1,0 +1,2 @@
+pub mod SlotBegunLemmas
+pub mod SlotOpenedLemmas
