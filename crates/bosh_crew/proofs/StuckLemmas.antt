@@ -22,7 +22,7 @@ stuck_in_claim bodies faults was now task worker (Book book.Stopped) (noted, upd
 stuck_in_claim bodies faults was now task worker (Book book.Stopped) (noted, updates, inr (running, fails), turned) is = fails.notes.halted
 stuck_in_claim bodies faults was now task worker (Book book.StoreFault) (noted, updates, (running, fails), turned) is = fails.notes.halted
 stuck_in_claim bodies faults was now task worker (Book book.Full) left is = is.1
-stuck_in_claim bodies faults was now task worker (Book (book.Locked task)) left is = tt
+stuck_in_claim bodies faults was now task worker (Book (book.Locked holder)) left is = tt
 stuck_in_claim bodies faults was now task worker (Book book.Memory) left is = absurd is
 stuck_in_claim bodies faults was now task worker (Book (book.Damaged place)) left is = absurd is
 stuck_in_claim bodies faults was now task worker (Book (book.Differs name)) left is = absurd is
