@@ -1,5 +1,5 @@
 -- What is left to do of a task that opens.
-use Rattle.std.specs.Prelude.{ℕ, Bool, false, true, ◌&&◌, List, [], Option, Some, None, fold, is_some, length, map, min, not, replicate, if◌then◌else◌}
+use Rattle.std.specs.Prelude.{ℕ, Bool, false, true, ◌&&◌, List, [], Option, Some, None, fold, is_some, length, map, not, replicate, if◌then◌else◌}
 use Rattle.std.specs.List.{enumerate_from, filter}
 use Rattle.std.specs.Option.{option_map_or}
 use Rattle.std.specs.Str.{bytes_eq}
@@ -95,7 +95,7 @@ key_line keys works = fold (with_key keys) (full (map (λ work. work.key) works)
 -- ---- all of a task
 
 abbrev pub with_keys : Keys → Option Goal → Work → Work
-with_keys keys (Some goal) work = record work { keys = key_line keys goal.keys; slots = min (length goal.slots) 4294967295 }
+with_keys keys (Some goal) work = record work { keys = key_line keys goal.keys; slots = length goal.slots }
 with_keys keys None work = work
 
 -- what is asked, swept and compiled before any instance changes

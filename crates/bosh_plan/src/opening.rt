@@ -1,4 +1,4 @@
-ghost use Rattle.std.specs.Prelude.{◌≡◌, IfOk, OnOk};
+ghost use Rattle.std.specs.Prelude.{◌≡◌, ◌<◌, IfErr, IfOk, OnOk};
 ghost use Rattle.std.specs.Option.{option_copied};
 ghost use Rattle.bosh_records.specs.Recorded.{kept, recorded};
 ghost use Rattle.bosh_plan.specs.Opened.{IsOpened, dep_row_of, task_row_of};
@@ -104,9 +104,20 @@ fn note_keys(records: &Records, work: &mut Work, opening: &TaskOpen) -> Result<(
             &mut work.keys,
             key_line(records.alloc, goal.keys.as_slice(), &records.keys)?,
         );
-        work.slots = u32::try_from(goal.slots.len()).unwrap_or(u32::MAX);
+        work.slots = counted(goal.slots.len())?;
     }
     Ok(())
+}
+
+// Slots have numbers of 32 bits: there is no memory for more of them.
+fn counted(slots: usize) -> Result<u32, RecordsFault>
+    ensures ok { IfOk result (λ count. count ≡ slots) }
+    ensures err { IfErr result (λ _. 4294967295 < slots) }
+{
+    match u32::try_from(slots) {
+        Ok(count) => Ok(count),
+        Err(_) => Err(RecordsFault::Memory),
+    }
 }
 
 // Which instances leave and change, and which disks are deleted.

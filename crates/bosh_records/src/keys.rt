@@ -2,7 +2,8 @@ ghost use Rattle.std.specs.Prelude.{◌≡◌, [], IfOk, IsPermutation, None, On
 ghost use Rattle.std.specs.BTreeMap.{IsOrdered, IsUnchanged, insert_entry};
 ghost use Rattle.std.specs.List.Sorted.{IsSorted};
 ghost use Rattle.bosh_rows.specs.SoundSnapshot.{built_cmp};
-ghost use Rattle.bosh_records.specs.Keys.{IsChanged, asked, built_as, built_of, compiled_of, digest_in, is_compiling_in, key_cmp, state_in};
+ghost use Rattle.bosh_records.specs.Keys.{IsChanged, asked, built_as, built_of, compiled_of, digest_in};
+ghost use Rattle.bosh_records.specs.Keys.{is_compiling_in, key_cmp, state_in};
 ghost use Rattle.bosh_records.specs.Recorded.{known_keys};
 ghost use Rattle.bosh_records.specs.Table.{with_room};
 

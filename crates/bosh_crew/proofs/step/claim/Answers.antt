@@ -1,4 +1,4 @@
-use Rattle.std.proofs.Common.{◌≡◌, refl, subst}
+use Rattle.std.proofs.Common.{refl, subst}
 use Rattle.bosh_book.specs.declared.claim.Claim.{Claim}
 use Rattle.bosh_crew.proofs.CarryLemmas.{over_then, stopped_at_once}
 use Rattle.bosh_crew.specs.Carried.{HasClaimed}
