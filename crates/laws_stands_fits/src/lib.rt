@@ -1,0 +1,2 @@
+//! What is recorded of open tasks fits what is told of them.
+#![tactic(auto)]
