@@ -22,7 +22,7 @@ below_all cmp k [] below = refl
 below_all cmp k (e ∷ es) (first, rest) =
     (λ i. cond (is_eq (first i)) (Some e.1) (found cmp es k)) ∙ below_all cmp k es rest
 
-once_in : {K X : Type 0} (cmp : K → K → Ordering) (es : List (K × X)) → AreInOrder cmp es → IsOnce cmp es
+pub once_in : {K X : Type 0} (cmp : K → K → Ordering) (es : List (K × X)) → AreInOrder cmp es → IsOnce cmp es
 unfolding IsStrictlySortedBy
 once_in cmp [] order = tt
 once_in cmp (e ∷ es) (below, order) = (below_all cmp e.0 es below, once_in cmp es order)

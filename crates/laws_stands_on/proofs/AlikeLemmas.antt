@@ -84,7 +84,7 @@ none_is None is = refl
 none_is (Some x) is = absurd (false≢true is)
 
 -- what is said of an instance that is not known
-record SaysNothing (it : Instance) : Type 0 where
+pub record SaysNothing (it : Instance) : Type 0 where
   pub row : it.row ≡ None
   pub want : it.want ≡ None
   pub call : it.call ≡ None
@@ -117,7 +117,7 @@ module _ (told : Told) (was now : Recorded) (ordered : AreOrdered now) (alike : 
   once_now = once_of ordered
 
   -- a table of places
-  places_same : {K V : Type 0} (cmp : K → K → Ordering) (tells : TellsKeys cmp) (table : Recorded
+  pub places_same : {K V : Type 0} (cmp : K → K → Ordering) (tells : TellsKeys cmp) (table : Recorded
       → List (K × Option V))
       → IsOnce cmp (table was) → IsOnce cmp (table now) → taken_places (table now) ≡ taken_places (table was)
       → (k : K)
@@ -127,11 +127,11 @@ module _ (told : Told) (was now : Recorded) (ordered : AreOrdered now) (alike : 
       ∙ ap (λ places. thing_in cmp places k) same
       ∙ reads_kept cmp tells (λ place. is_some place.1) (λ o. o) free_says (table was) its k
 
-  machine_same : (name : MachineName) → reading.machine_of now name ≡ reading.machine_of was name
+  pub machine_same : (name : MachineName) → reading.machine_of now name ≡ reading.machine_of was name
   machine_same = places_same machine_cmp machine_keys (λ it. it.machines) once.machines once_now.machines
       (ap (λ (it : Recorded). it.machines) alike)
 
-  orphan_same : (d : ℕ) → reading.orphan_of now d ≡ reading.orphan_of was d
+  pub orphan_same : (d : ℕ) → reading.orphan_of now d ≡ reading.orphan_of was d
   orphan_same = places_same nat_cmp nat_keys (λ it. it.orphans) once.orphans once_now.orphans
       (ap (λ (it : Recorded). it.orphans) alike)
 
@@ -139,7 +139,7 @@ module _ (told : Told) (was now : Recorded) (ordered : AreOrdered now) (alike : 
   task_same = places_same nat_cmp nat_keys (λ it. it.tasks) once.tasks once_now.tasks
       (ap (λ (it : Recorded). it.tasks) alike)
 
-  work_same : (t : ℕ) → reading.work_of now t ≡ reading.work_of was t
+  pub work_same : (t : ℕ) → reading.work_of now t ≡ reading.work_of was t
   work_same = places_same nat_cmp nat_keys (λ it. it.works) once.works once_now.works
       (ap (λ (it : Recorded). it.works) alike)
 
@@ -147,7 +147,7 @@ module _ (told : Told) (was now : Recorded) (ordered : AreOrdered now) (alike : 
   call_same = places_same nat_cmp nat_keys (λ it. it.calls) once.calls once_now.calls
       (ap (λ (it : Recorded). it.calls) alike)
 
-  dep_same : (t : ℕ) → reading.dep_of now t ≡ reading.dep_of was t
+  pub dep_same : (t : ℕ) → reading.dep_of now t ≡ reading.dep_of was t
   dep_same t = ap (option_and_then (λ (row : TaskRow). row.dep)) (task_same t)
 
   -- what is read of an instance
@@ -161,7 +161,7 @@ module _ (told : Told) (was now : Recorded) (ordered : AreOrdered now) (alike : 
       ∙ reads_kept inst_cmp inst_keys (λ entry. not (is_unknown entry.1)) read
       (λ e is. silent e.1 (unknown_says e.1 is)) was.instances once.instances i
 
-  part_same : {Y : Type 0} (read : Part → Option Y) → read no_part ≡ None
+  pub part_same : {Y : Type 0} (read : Part → Option Y) → read no_part ≡ None
       → ((it : Instance) → SaysNothing it → read it.part ≡ None) → (i : Inst)
       → read (part_of now i) ≡ read (part_of was i)
   part_same read none silent i = of (reading.instance_of now i) ∙ instance_same (λ it. read it.part) silent i
