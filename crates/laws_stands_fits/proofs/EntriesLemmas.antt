@@ -15,7 +15,7 @@ use Rattle.bosh_base.specs.declared.owner.Owner.TheVariants as owners
 use Rattle.bosh_base.specs.declared.row.Row.{Row}
 use Rattle.bosh_base.specs.declared.snapshot.Orphan.{Orphan}
 use Rattle.bosh_fold.specs.Learned.{learned}
-use Rattle.bosh_fold.specs.Learns.{Learns}
+use Rattle.bosh_fold.specs.Learns.{IsAlike, Learns}
 use Rattle.bosh_fold.specs.Planned.{IsPlanned, IsUpdated}
 use Rattle.bosh_fold.specs.declared.change.Change.{Change}
 use Rattle.bosh_fold.specs.declared.change.Change.TheVariants as changes
@@ -46,8 +46,9 @@ use Rattle.laws_stands_fits.proofs.SinceLemmas.{since_keys}
 use Rattle.laws_stands_fits.proofs.StepsLemmas.{IsFree, begun_keeps, ended_keeps, gone_keeps, keeps_others, update_begun_keeps}
 use Rattle.laws_stands_fits.proofs.StepsLemmas.{update_done_keeps}
 use Rattle.laws_stands_fits.specs.Fits.{Fits}
+use Rattle.laws_stands_fits.specs.Whole.{StandsWhole}
 use Rattle.laws_stands_fits.specs.Within.{is_within}
-use Rattle.laws_stands_on.proofs.AlikeLemmas.{dep_same, machine_same, orphan_same, part_same, places_same, work_same}
+use Rattle.laws_stands_on.proofs.AlikeLemmas.{alike_stands, dep_same, machine_same, orphan_same, part_same, places_same, work_same}
 use Rattle.laws_stands_on.proofs.RoomyLemmas.{roomy_stands}
 
 -- ---- with room for more
@@ -82,6 +83,17 @@ alike_keeps told was now ordered alike stands = record {
       (once_in since_cmp was.deployments (stands.ordered).deployments) (once_in since_cmp now.deployments ordered.deployments)
       (ap (λ (it : Recorded). it.deployments) alike);
 }
+
+pub whole_with_room : (told : Told) (was now : Records) → IsAlike was now → StandsWhole told was → StandsWhole told now
+whole_with_room told was now alike whole = record {
+  stands = alike_stands told (recorded was) (recorded now) ordered alike.same whole.stands;
+  fits = fits_on told told (recorded was) (recorded now)
+      (alike_keeps told (recorded was) (recorded now) ordered alike.same whole.stands) (λ t none. none) refl whole.fits;
+  own = whole.own;
+}
+  where
+    ordered : AreOrdered (recorded now)
+    ordered = alike.ordered (whole.stands).ordered
 
 -- ---- what is planned
 

@@ -1,3 +1,4 @@
 pub mod Fits
 pub mod Own
+pub mod Whole
 pub mod Within

@@ -1,6 +1,6 @@
 -- What is told of tasks that have not ended, whether they work or a stop interrupted them: each lists what is of its
 -- deployment, or of none as it is, and so are the owners of its open calls.
-use Rattle.std.specs.Prelude.{◌≡◌, ℕ, List, [], None, Option, Some, eqb, false, true}
+use Rattle.std.specs.Prelude.{◌≡◌, ◌≤◌, ℕ, List, [], None, Option, Some, eqb, false, length, true}
 use Rattle.std.specs.Str.{bytes_eq}
 use Rattle.bosh_base.specs.declared.entry.Begin.{Begin}
 use Rattle.bosh_base.specs.declared.inst.Inst.{Inst}
@@ -32,5 +32,7 @@ pub record TellsOwn (told : Told) : Type 0 where
   pub lists : (t : ℕ) → is_going told.known t ≡ true → ListsOwn (told.known.task t)
   pub calls : (n : ℕ) (b : Begin) → told.calls n ≡ Some b →
       IsOwn told.known (told.known.task b.task).dep b.owner
+  -- each compile machine that is recorded was made by a call of its own
+  pub few : length told.known.machines ≤ told.known.last_call
   -- a deployment that is not recorded offers nothing
   pub unshared : (dep : List ℕ) → is_among bytes_eq dep told.known.deployments ≡ false → told.known.shared dep ≡ []

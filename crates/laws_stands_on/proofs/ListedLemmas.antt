@@ -34,7 +34,7 @@ marks_at : {T : Type 0} (f g : T → Bool) (xs : List T) → ((j : ℕ) (x : T) 
 marks_at f g [] same = refl
 marks_at f g (x ∷ xs) same = λ i. same 0 x refl i ∷ marks_at f g xs (λ j y is. same (suc j) y is) i
 
-line_on : {T : Type 0} (items : List T) (left idle left' idle' : T → Bool) (line : Line T)
+pub line_on : {T : Type 0} (items : List T) (left idle left' idle' : T → Bool) (line : Line T)
     → ((j : ℕ) (x : T) → slice_get items j ≡ Some x → left' x ≡ left x)
     → ((j : ℕ) (x : T) → slice_get items j ≡ Some x → idle' x ≡ idle x)
     → LineStands items left idle line → LineStands items left' idle' line
