@@ -3,11 +3,13 @@ use Rattle.std.proofs.Common.{◌≡◌, ◌∙◌, ℕ, ◌+◌, Bool, true, fa
 use Rattle.std.proofs.Common.{arith, refl, sym}
 use Rattle.std.specs.Prelude.{length, suc, if◌then◌else◌}
 use Rattle.std.specs.Str.{bytes_eq}
-use Rattle.std.proofs.lemmas.Bool.{true≢false}
-use Rattle.std.proofs.lemmas.List.{append-nil}
+use Rattle.std.proofs.lemmas.Bool.{false≢true, true≢false}
+use Rattle.std.proofs.lemmas.Map.Views.{any-filter_same}
+use Rattle.std.proofs.lemmas.List.{append-nil, length-map}
 use Rattle.std.proofs.lemmas.List.Elements.{filter-append}
 use Rattle.bosh_base.specs.declared.inst.Inst.{Inst}
 use Rattle.bosh_history.specs.Words.{is_among}
+use Rattle.laws_stands.proofs.MemberLemmas.{members_are, once_has}
 use Rattle.laws_stands.proofs.DeploymentLemmas.{bytes_flip, bytes_is}
 use Rattle.laws_stands.specs.GroupsStand.{numbered, once}
 
@@ -20,19 +22,10 @@ with_name x names = if is_among bytes_eq x names then names else names ++ x ∷ 
 -- another name is among those that are left
 among_rest : (y x : List ℕ) (names : List (List ℕ)) → bytes_eq x y ≡ false
     → is_among bytes_eq x (filter (λ it. not (bytes_eq y it)) names) ≡ is_among bytes_eq x names
-among_rest y x [] other = refl
-among_rest y x (z ∷ names) other = by (bytes_eq y z) refl (among_rest y x names other)
+among_rest y x names other = any-filter_same (bytes_eq x) (λ it. not (bytes_eq y it)) true apart names
   where
-    away : bytes_eq y z ≡ true → bytes_eq x z ≡ false
-    away same = ap (bytes_eq x) (sym (bytes_is y z same)) ∙ other
-
-    by : (b : Bool) → bytes_eq y z ≡ b
-        → is_among bytes_eq x (filter (λ it. not (bytes_eq y it)) names) ≡ is_among bytes_eq x names
-        → is_among bytes_eq x (if not b then z ∷ filter (λ it. not (bytes_eq y it)) names
-        else filter (λ it. not (bytes_eq y it)) names)
-        ≡ (bytes_eq x z || is_among bytes_eq x names)
-    by true same more = more ∙ (λ j. sym (away same) j || is_among bytes_eq x names)
-    by false differs more = ap (λ b. bytes_eq x z || b) more
+    apart : (z : List ℕ) → bytes_eq x z ≡ true → not (bytes_eq y z) ≡ true
+    apart z same = ap not (bytes_flip y z ∙ ap (λ z. bytes_eq z y) (sym (bytes_is x z same)) ∙ other)
 
 pub once_snoc : (names : List (List ℕ)) (x : List ℕ) → once (names ++ x ∷ []) ≡ with_name x (once names)
 once_snoc [] x = refl
@@ -73,15 +66,11 @@ once_snoc (y ∷ names) x = ap (λ all. y ∷ filter (λ it. not (bytes_eq y it)
 -- a name that is not among those that stand once is not among all
 none_once : (x : List ℕ) (names : List (List ℕ)) → is_among bytes_eq x (once names) ≡ false
     → is_among bytes_eq x names ≡ false
-none_once x [] none = refl
-none_once x (y ∷ names) none = by (bytes_eq x y) refl none (none_once x names)
+none_once x names none = by (is_among bytes_eq x names) refl
   where
-    by : (b : Bool) → bytes_eq x y ≡ b
-        → (b || is_among bytes_eq x (filter (λ it. not (bytes_eq y it)) (once names))) ≡ false
-        → (is_among bytes_eq x (once names) ≡ false → is_among bytes_eq x names ≡ false)
-        → (b || is_among bytes_eq x names) ≡ false
-    by true same none more = absurd (true≢false none)
-    by false other none more = more (sym (among_rest y x (once names) other) ∙ none)
+    by : (b : Bool) → is_among bytes_eq x names ≡ b → is_among bytes_eq x names ≡ false
+    by false is = is
+    by true is = absurd (false≢true (sym none ∙ once_has x names is))
 
 -- ---- members
 
@@ -104,7 +93,8 @@ pub members_snoc : (before : List Inst) (x : Inst) (group : List ℕ)
     → members_of (before ++ x ∷ []) group
     ≡ members_of before group ++ (if bytes_eq x.group group then (length before, x) ∷ [] else [])
 members_snoc before x group =
-    ap (filter (λ (e : ℕ × Inst). bytes_eq e.1.group group)) (numbered_snoc 0 before x ∙ (λ j. numbered 0 before ++ (zero j, x) ∷ []))
+    ap (filter (λ (e : ℕ × Inst). bytes_eq e.1.group group))
+    (numbered_snoc 0 before x ∙ (λ j. numbered 0 before ++ (zero j, x) ∷ []))
     ∙ filter-append (λ (e : ℕ × Inst). bytes_eq e.1.group group) (numbered 0 before) ((length before, x) ∷ [])
   where
     zero : 0 + length before ≡ length before
@@ -138,14 +128,9 @@ none_of_group before group none = none_numbered 0 before group (none_once group 
 pub as_many : (n : ℕ) (xs : List Inst) (group : List ℕ)
     → length (map (λ (e : ℕ × Inst). e.0) (filter (λ e. bytes_eq e.1.group group) (numbered n xs)))
     ≡ length (filter (λ i. bytes_eq i.group group) xs)
-as_many n [] group = refl
-as_many n (x ∷ xs) group = by (bytes_eq x.group group) (as_many (suc n) xs group)
+as_many n xs group =
+    length-map all (λ (e : ℕ × Inst). e.0) ∙ sym (length-map all (λ (e : ℕ × Inst). e.1))
+    ∙ ap length (members_are (λ (i : Inst). bytes_eq i.group group) n xs)
   where
-    rest : List (ℕ × Inst)
-    rest = filter (λ e. bytes_eq e.1.group group) (numbered (suc n) xs)
-
-    by : (b : Bool) → length (map (λ (e : ℕ × Inst). e.0) rest) ≡ length (filter (λ i. bytes_eq i.group group) xs)
-        → length (map (λ (e : ℕ × Inst). e.0) (if b then (n, x) ∷ rest else rest))
-        ≡ length (if b then x ∷ filter (λ i. bytes_eq i.group group) xs else filter (λ i. bytes_eq i.group group) xs)
-    by true more = ap suc more
-    by false more = more
+    all : List (ℕ × Inst)
+    all = filter (λ e. bytes_eq e.1.group group) (numbered n xs)

@@ -7,11 +7,9 @@ use Rattle.bosh_base.specs.declared.entry.Entry.TheVariants as entries
 use Rattle.bosh_base.specs.declared.entry.TaskOpen.{TaskOpen}
 use Rattle.bosh_history.specs.Items.{is_in_deployment}
 use Rattle.bosh_history.specs.Known.{Known, SlotName, Task}
-use Rattle.bosh_history.specs.Openings.{MayOpen}
 use Rattle.bosh_history.specs.Tasks.{task_opened}
 use Rattle.bosh_work.specs.declared.part.MachineName.{MachineName}
 use Rattle.bosh_work.specs.declared.work.Work.{Work}
-use Rattle.laws_facts.proofs.WorkLemmas.{opens_next}
 use Rattle.laws_stands.specs.Stands.{AreSwept, IsWork}
 use Rattle.laws_stands.specs.Told.{Told, is_going, telling}
 use Rattle.laws_stands.specs.WorkStands.{StandsFor}
@@ -55,6 +53,6 @@ module _ (told : Told) (o : TaskOpen) (t : ℕ) (next : o.task ≡ told.known.ta
   )
   go_on None none = λ later. same_going ∙ none later
 
-pub others_go_on : (told : Told) (o : TaskOpen) (t : ℕ) (work : Option Work) → MayOpen told.known o
+pub others_go_on : (told : Told) (o : TaskOpen) (t : ℕ) (work : Option Work) → o.task ≡ told.known.tasks + 1
     → eqb o.task t ≡ false → IsWork told t work → IsWork (telling told (entries.TaskOpen o)) t work
-others_go_on told o t work may other = go_on told o t (opens_next told.known o may) other work
+others_go_on told o t work next other = go_on told o t next other work

@@ -42,11 +42,15 @@ use Rattle.laws_stands_works.proofs.KeptLemmas.{all_among, all_filtered, all_tru
 -- ---- what is known at a moment, as far as it is needed
 
 pub record IsOrderly (k : Known) : Type 0 where
+  -- instances and compile machines stand in order
   pub instances : are_ascending inst_cmp k.instances ≡ true
   pub machines : are_ascending slot_cmp k.machines ≡ true
+  -- compile machines and disks are listed where something is known of them
   pub machine_listed : (t s : ℕ) → is_machine_listed k t s ≡ true
   pub orphan_listed : (d : ℕ) → is_orphan_listed k d ≡ true
+  -- a compile machine is of a task that was opened, and of its deployment
   pub of_tasks : (t s : ℕ) → is_of_its_task k t s ≡ true
+  -- what is known of each current goal
   pub goals : (dep : List ℕ) (goal : Goal) → k.goal dep ≡ Some goal → GoalFacts k dep goal
 
 pub orderly : (m : Moment) → KnownFacts m → IsOrderly m.known

@@ -31,16 +31,20 @@ use Rattle.laws_stands_works.proofs.KeptLemmas.{all_true}
 use Rattle.laws_stands_works.proofs.PlanLemmas.{groups_stand}
 use Rattle.laws_stands_works.specs.Opens.{swept_by}
 
--- nothing of the task was told yet, its instances are asked in the order in which they are recorded, and all that it asks,
--- sweeps, takes away and deletes is there and has no open call
+-- what the work of a task that opens needs of what was told before, and of what is recorded
 pub record AllowsWork (told : Told) (records : Records) (o : TaskOpen) : Type 0 where
+  -- its instances are asked in the order in which they are told
   pub asked : asked_in o records.instances.by_inst.entries ≡ to_ping told.known o
+  -- no open call, and no compile machine, is of its number
   pub no_call : (n : ℕ) (b : Begin) → told.calls n ≡ Some b → (b.task == o.task) ≡ false
   pub no_machine : list_all (λ (name : SlotName). not (name.task == o.task)) told.known.machines ≡ true
+  -- what it asks, takes away, deletes and sweeps has no open call
   pub pings_idle : list_all (idle_in told) (to_ping told.known o) ≡ true
   pub obsolete_idle : list_all (idle_in told) o.obsolete ≡ true
+  -- .. and is there, where it is a disk
   pub disks_there : list_all (λ d. is_some (told.known.orphan d)) o.disks ≡ true
   pub disks_idle : list_all (λ d. is_idle told (Disk d)) o.disks ≡ true
+  -- .. or a compile machine
   pub swept_there :
       list_all (λ (name : MachineName). is_some (told.known.slot name.task name.slot)) (swept_by records o) ≡ true
   pub swept_idle :

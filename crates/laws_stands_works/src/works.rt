@@ -1,5 +1,5 @@
 //! The work of a task that opens, and that of the others.
-ghost use Rattle.std.specs.Prelude.{◌≡◌, Option, ℕ, eqb, false};
+ghost use Rattle.std.specs.Prelude.{◌+◌, ◌≡◌, Option, ℕ, eqb, false};
 ghost use Rattle.bosh_base.specs.declared.entry.Entry.TheVariants as entries;
 ghost use Rattle.bosh_base.specs.declared.entry.TaskOpen.{TaskOpen};
 ghost use Rattle.bosh_history.specs.Moments.{Moment};
@@ -23,8 +23,8 @@ pub fn work_of_a_task_that_opens_stands()
         → IsWorkOpened (telling told (entries.TaskOpen o)) o.task (swept_by records o) (work_by records o) }
 {}
 
-/// The work of each other task stands as before, and one that has none is not open.
+/// What another task has left goes on to stand, and one that has no work goes on to be closed, or told by a snapshot.
 pub fn works_of_others_stand_once_a_task_opens()
-    ensures { (told : Told) (o : TaskOpen) (t : ℕ) (work : Option Work) → MayOpen told.known o → eqb o.task t ≡ false
+    ensures { (told : Told) (o : TaskOpen) (t : ℕ) (work : Option Work) → o.task ≡ told.known.tasks + 1 → eqb o.task t ≡ false
         → IsWork told t work → IsWork (telling told (entries.TaskOpen o)) t work }
 {}
