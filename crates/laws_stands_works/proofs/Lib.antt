@@ -1,0 +1,12 @@
+pub mod AllowsLemmas
+pub mod AskedLemmas
+pub mod FullLemmas
+pub mod GroupedLemmas
+pub mod InOrderLemmas
+pub mod KeptLemmas
+pub mod NameLemmas
+pub mod OthersLemmas
+pub mod OwnLemmas
+pub mod PlanLemmas
+pub mod SweptLemmas
+pub mod WorkLemmas
