@@ -48,7 +48,7 @@ same_slot_is a b is =
     λ j. record { task = eqb-true a.task b.task both.0 j; slot = eqb-true a.slot b.slot both.1 j }
 
 -- the place of a key in a goal is its place among the keys
-key_placed : (key : Key) (goal : Option Goal) → first_marked (map (λ work. same_key work.key key) (keys_of goal))
+pub key_placed : (key : Key) (goal : Option Goal) → first_marked (map (λ work. same_key work.key key) (keys_of goal))
     ≡ place_of same_key key (keys_in goal)
 key_placed key goal = by (keys_of goal)
   where

@@ -3,24 +3,24 @@ use Rattle.std.proofs.Common.{◌≡◌, ◌∙◌, ◌+◌, ◌≤◌, ℕ, Boo
 use Rattle.std.specs.Prelude.{◌||◌, cond, count_by, filter, if◌then◌else◌, length}
 use Rattle.std.specs.List.{list_any}
 use Rattle.std.proofs.lemmas.Bool.{or_parts, true≢false}
-use Rattle.std.proofs.lemmas.List.{sum_by-cons}
+use Rattle.std.proofs.lemmas.List.Sums.{sum_by-cons}
 use Rattle.std.specs.declared.cmp.Ordering.{Ordering}
 use Rattle.std.specs.declared.cmp.Ordering.TheVariants.{Equal, Greater, Less}
 use Rattle.bosh_history.specs.Words.{by_order, inserted, is_among}
 
 -- a test that is as another one of each item but one, which is not there
-module _ {A : Type 0} (same : A → A → Bool) (a : A) (p q : A → Bool) (as : (b : A) → same a b ≡ false → p b ≡ q b) where
+module _ {A : Type 0} (same : A → A → Bool) (a : A) (p q : A → Bool) (alike : (b : A) → same a b ≡ false → p b ≡ q b) where
   pub any_but : (xs : List A) → is_among same a xs ≡ false → list_any p xs ≡ list_any q xs
   any_but [] none = refl
   any_but (b ∷ xs) none =
       let parts : (same a b ≡ false) × (is_among same a xs ≡ false) = or_parts (same a b) (is_among same a xs) none in
-      λ j. as b parts.0 j || any_but xs parts.1 j
+      λ j. alike b parts.0 j || any_but xs parts.1 j
 
   pub filter_but : (xs : List A) → is_among same a xs ≡ false → filter p xs ≡ filter q xs
   filter_but [] none = refl
   filter_but (b ∷ xs) none =
       let parts : (same a b ≡ false) × (is_among same a xs ≡ false) = or_parts (same a b) (is_among same a xs) none in
-      λ j. if as b parts.0 j then b ∷ filter_but xs parts.1 j else filter_but xs parts.1 j
+      λ j. if alike b parts.0 j then b ∷ filter_but xs parts.1 j else filter_but xs parts.1 j
 
 module _ {A : Type 0} (cmp : A → A → Ordering) (same : A → A → Bool)
     (equal : (a b : A) → cmp a b ≡ Equal → same a b ≡ true) (a : A) where

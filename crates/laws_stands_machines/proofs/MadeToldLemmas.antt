@@ -3,6 +3,7 @@ use Rattle.std.proofs.Common.{◌≡◌, ◌∙◌, ℕ, Bool, true, false, ◌&
 use Rattle.std.specs.Prelude.{eqb, filter, is_some, if◌then◌else◌, ◌||◌}
 use Rattle.std.specs.List.{list_any}
 use Rattle.std.specs.Option.{option_eq}
+use Rattle.std.specs.Ordering.{is_eq}
 use Rattle.std.specs.Str.{bytes_eq}
 use Rattle.std.specs.declared.cmp.Ordering.TheVariants.{Equal}
 use Rattle.std.proofs.lemmas.Bool.{and_parts, eq-eqb, eqb-true, false≢true, true≢false}
@@ -23,6 +24,7 @@ use Rattle.laws_facts.proofs.OrderLemmas.{any_inserted}
 use Rattle.laws_stands.proofs.LineLemmas.{stands_on, stands_taken}
 use Rattle.laws_stands.proofs.MarkLemmas.{one_more}
 use Rattle.laws_stands.specs.LineStands.{LineStands}
+use Rattle.laws_stands.specs.Linked.{same_machine}
 use Rattle.laws_stands.specs.Stands.{AreSwept, key_place}
 use Rattle.laws_stands.specs.Told.{Told, is_going}
 use Rattle.laws_stands.specs.WorkStands.{is_worked_for, keys_in}
@@ -30,8 +32,12 @@ use Rattle.laws_stands_ends.proofs.DroppedToldLemmas.{key_placed, same_slot_is}
 use Rattle.laws_stands_machines.proofs.InsertedLemmas.{any_but, filter_but, filter_inserted}
 use Rattle.laws_stands_machines.specs.Making.{AllowsMake, told_made}
 use Rattle.laws_stands_on.proofs.ChangedLemmas.{eqb_flip}
-use Rattle.laws_stands_slots.proofs.SlotTableLemmas.{with_slot_is}
+use Rattle.laws_stands_slots.proofs.SlotTableLemmas.{machine_at, with_slot_is}
 use Rattle.laws_stands_slots.specs.Slots.{named}
+
+pub slot_equal : (a b : SlotName) → slot_cmp a b ≡ Equal → same_slot a b ≡ true
+slot_equal a b is =
+    sym (machine_at (record { task = a.task; slot = a.slot }) (record { task = b.task; slot = b.slot })) ∙ ap is_eq is
 
 module _ (told : Told) (it : Recorded) (t s : ℕ) (slot : Slot) (allows : AllowsMake told it t s slot) where
   abbrev k : Known

@@ -8,11 +8,13 @@ use Rattle.bosh_history.specs.Words.{inserted, is_among}
 use Rattle.bosh_records.specs.Readers.{machine_cmp}
 use Rattle.bosh_records.specs.Recorded.{Recorded}
 use Rattle.bosh_records.specs.Table.{found}
+use Rattle.bosh_records.specs.declared.machines.Machine.{Machine}
 use Rattle.bosh_rows.specs.SoundSnapshot.{are_distinct}
 use Rattle.bosh_work.specs.declared.part.MachineName.{MachineName}
 use Rattle.bosh_work.specs.declared.work.Work.{Work}
 use Rattle.laws_stands.specs.Linked.{same_machine}
 use Rattle.laws_stands.specs.Reading.{work_of}
+use Rattle.laws_stands.specs.Stands.{key_place, row_of_slot}
 use Rattle.laws_stands.specs.Told.{Told, is_going, is_idle}
 use Rattle.laws_stands.specs.WorkStands.{keys_in}
 use Rattle.laws_stands_slots.specs.Slots.{named, with_slot}
@@ -25,6 +27,11 @@ told_made t s slot told = record told {
     slot = with_slot t s (Some slot) told.known.slot;
   };
 }
+
+-- what is recorded of it
+abbrev pub machine_of_slot : Told → ℕ → ℕ → Slot → Machine
+machine_of_slot told t s slot =
+    record { row = row_of_slot t s slot; key = key_place told.known t slot.key; sweep = None; call = None }
 
 -- It is not recorded yet, has no open call, and there is a place for it. It is of the deployment of its task, which is
 -- open, wants no key twice and has fewer machines than can be counted; no other open task is of this deployment, and none

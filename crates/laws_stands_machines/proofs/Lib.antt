@@ -1,0 +1,4 @@
+pub mod InsertedLemmas
+pub mod MadeToldLemmas
+pub mod MadeWorksLemmas
+pub mod SlotMadeLemmas
