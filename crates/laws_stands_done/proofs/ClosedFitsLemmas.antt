@@ -307,9 +307,6 @@ module _ (t : ℕ) (end planned : TaskEnd) (told : Told) (it : Recorded) (once :
   abbrev sweep_of : Option Machine → Option ℕ
   sweep_of place = option_and_then (λ machine. machine.sweep) place
 
-  row_of : Option Machine → Option CompileRow
-  row_of place = option_and_then (λ machine. Some machine.row) place
-
   module _ (w : Work) (is : work_of it t ≡ Some w) (name : MachineName) where
     abbrev swept_now : Option Machine
     swept_now = thing_in machine_cmp (cleared (Some w) it).machines name

@@ -174,11 +174,6 @@ module _ (told : Told) (was now : Records) (t : ℕ) (stands : Stands told was) 
       (task_settled (told.known.task t).kind (told.known.task t).goal (dep_of_task told.known t) told.known)
       (same_fits it done same told fits_roomy)
 
-  -- the task of the number is as it was, but for its end
-  task_same : (settled.known).task t ≡ told.known.task t
-  task_same = ap (λ task. task t)
-      (task_settled (told.known.task t).kind (told.known.task t).goal (dep_of_task told.known t) told.known)
-
   pub done_fits : Fits (telling told (entries.TaskDone t)) (recorded now)
   done_fits =
       subst (Fits (telling told (entries.TaskDone t))) (sym learns.is_learned)

@@ -11,7 +11,7 @@ use Rattle.bosh_base.specs.declared.task.TaskEnd.TheVariants as ends
 use Rattle.bosh_base.specs.declared.task.TaskRow.{TaskRow}
 use Rattle.bosh_fold.specs.Learned.{learned}
 use Rattle.bosh_fold.specs.Learns.{Learns}
-use Rattle.bosh_fold.specs.Tasks.{closed_task, forgotten_in, interrupted_in}
+use Rattle.bosh_fold.specs.Tasks.{forgotten_in, interrupted_in}
 use Rattle.bosh_fold.specs.declared.change.Change.{Change}
 use Rattle.bosh_history.specs.Calls.{number_of}
 use Rattle.bosh_history.specs.Tasks.{end_by}
@@ -27,7 +27,6 @@ use Rattle.bosh_records.specs.declared.records.Records.{Records}
 use Rattle.bosh_records.specs.declared.records.Since.{Since}
 use Rattle.bosh_work.specs.Part.{no_part}
 use Rattle.bosh_work.specs.declared.part.MachineName.{MachineName}
-use Rattle.bosh_work.specs.declared.part.Part.{Part}
 use Rattle.bosh_work.specs.declared.work.Work.{Work}
 use Rattle.laws_stands.proofs.OrderLemmas.{once_of}
 use Rattle.laws_stands.specs.Once.{IsOnce}
@@ -41,7 +40,6 @@ use Rattle.laws_stands_fits.specs.Fits.{Fits}
 use Rattle.laws_stands_interrupted.proofs.FoldedLemmas.{deployments_are, folded, instance_read, machine_read, orphan_read}
 use Rattle.laws_stands_interrupted.proofs.FoldedLemmas.{tasks_are, works_are}
 use Rattle.laws_stands_interrupted.specs.Interrupts.{told_without}
-use Rattle.laws_stands_on.proofs.LinkLemmas.{WasWork}
 use Rattle.laws_stands_on.proofs.RoomyLemmas.{roomy_stands}
 
 -- ---- places stay where calls are open no more

@@ -1,31 +1,23 @@
 -- Tables once several calls are open no more.
-use Rattle.std.proofs.Common.{◌≡◌, ◌∙◌, ℕ, Bool, true, false, ◌&&◌, ◌||◌, not, ◌==◌, List, [], ◌∷◌, filter, Option}
+use Rattle.std.proofs.Common.{◌≡◌, ◌∙◌, ℕ, Bool, true, false, ◌||◌, not, ◌==◌, List, [], ◌∷◌, filter, Option}
 use Rattle.std.proofs.Common.{Some, None, ap, refl, sym}
-use Rattle.std.specs.Prelude.{cond, eqb, fold, option_map, if◌then◌else◌}
+use Rattle.std.specs.Prelude.{cond, fold, option_map, if◌then◌else◌}
 use Rattle.std.specs.BTreeMap.{is_at}
 use Rattle.std.specs.List.{list_any}
-use Rattle.std.specs.Option.{option_and_then, option_map_or}
+use Rattle.std.specs.Option.{option_and_then}
 use Rattle.std.specs.Ordering.{nat_cmp}
 use Rattle.std.specs.declared.cmp.Ordering.{Ordering}
 use Rattle.std.proofs.lemmas.Bool.{eq-eqb, false≢true, true≢false}
-use Rattle.bosh_base.specs.Inst.{inst_cmp}
 use Rattle.bosh_base.specs.declared.call.Call.{Call}
-use Rattle.bosh_base.specs.declared.call.Call.TheVariants as calls
 use Rattle.bosh_base.specs.declared.entry.Begin.{Begin}
-use Rattle.bosh_base.specs.declared.inst.Inst.{Inst}
 use Rattle.bosh_base.specs.declared.owner.Owner.{Owner}
-use Rattle.bosh_base.specs.declared.owner.Owner.TheVariants.{Compile, Disk, Instance}
 use Rattle.bosh_fold.specs.Calls.{closed_call, with_call, with_compiling}
 use Rattle.bosh_fold.specs.Tasks.{calls_of, forgotten_call, is_call_of}
 use Rattle.bosh_records.specs.Recorded.{Recorded}
-use Rattle.bosh_records.specs.Table.{found, thing_in, things}
-use Rattle.bosh_records.specs.declared.instances.Instance as instance
-use Rattle.bosh_rows.specs.Same.{same_owner}
+use Rattle.bosh_records.specs.Table.{found, thing_in}
 use Rattle.laws_stands.specs.Once.{IsOnce}
 use Rattle.laws_stands.specs.Told.{of_others}
-use Rattle.laws_stands_on.proofs.CallLemmas.{inst_flip}
-use Rattle.laws_stands_on.proofs.KeyLemmas.{inst_at, inst_keys}
-use Rattle.laws_stands_on.proofs.TableLemmas.{TellsKeys, found_altered, nat_at, nat_keys}
+use Rattle.laws_stands_on.proofs.TableLemmas.{nat_at, nat_keys}
 
 -- ---- what no call changes
 

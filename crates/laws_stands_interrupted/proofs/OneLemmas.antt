@@ -1,7 +1,6 @@
 -- What one call that is open no more changes in each table.
-use Rattle.std.proofs.Common.{◌≡◌, ◌∙◌, ℕ, Bool, true, false, ◌&&◌, Option, Some, None, ap, refl, sym}
-use Rattle.std.specs.Prelude.{eqb, option_map, if◌then◌else◌}
-use Rattle.std.specs.BTreeMap.{is_at}
+use Rattle.std.proofs.Common.{◌≡◌, ◌∙◌, ℕ, ◌&&◌, Option, None, ap, refl}
+use Rattle.std.specs.Prelude.{option_map, if◌then◌else◌}
 use Rattle.std.specs.Ordering.{nat_cmp}
 use Rattle.bosh_base.specs.Inst.{inst_cmp}
 use Rattle.bosh_base.specs.declared.call.Call.{Call}
@@ -48,7 +47,7 @@ abbrev pub no_compiler : KeyState → KeyState
 no_compiler state = record state { call = None }
 
 -- the table of instances is not touched by what compiles
-instances_left : (call : Call) (it : Recorded) → (with_compiling call None it).instances ≡ it.instances
+pub instances_left : (call : Call) (it : Recorded) → (with_compiling call None it).instances ≡ it.instances
 instances_left (calls.CompilePackage vm work deps) it = refl
 instances_left call it = refl
 
@@ -67,7 +66,7 @@ instance_one b it i =
     by (Compile t s) = refl
     by (Disk d) = refl
 
-machines_left : (call : Call) (it : Recorded) → (with_compiling call None it).machines ≡ it.machines
+pub machines_left : (call : Call) (it : Recorded) → (with_compiling call None it).machines ≡ it.machines
 machines_left (calls.CompilePackage vm work deps) it = refl
 machines_left call it = refl
 
@@ -89,7 +88,7 @@ machine_one b it name =
         else found machine_cmp it.machines name)
     by (Disk d) = refl
 
-orphans_left : (call : Call) (it : Recorded) → (with_compiling call None it).orphans ≡ it.orphans
+pub orphans_left : (call : Call) (it : Recorded) → (with_compiling call None it).orphans ≡ it.orphans
 orphans_left (calls.CompilePackage vm work deps) it = refl
 orphans_left call it = refl
 
@@ -105,7 +104,7 @@ orphan_one b it d = ap (λ all. found nat_cmp all d) (orphans_left b.call (with_
     by (Disk e) = found_altered nat_cmp nat_keys e no_disk_call it.orphans d
         ∙ (λ l. if (nat_at e d ∙ eqb_flip e d) l then option_map no_disk_call (found nat_cmp it.orphans d) else found nat_cmp it.orphans d)
 
-keys_left : (owner : Owner) (it : Recorded) → (with_call owner None it).keys ≡ it.keys
+pub keys_left : (owner : Owner) (it : Recorded) → (with_call owner None it).keys ≡ it.keys
 keys_left (owners.Instance i) it = refl
 keys_left (Compile t s) it = refl
 keys_left (Disk d) it = refl

@@ -1,16 +1,15 @@
 -- Which calls are told as open of an owner, once those of a task are open no more.
-use Rattle.std.proofs.Common.{◌≡◌, ◌∙◌, ℕ, ◌≤◌, Bool, true, false, ◌&&◌, not, ◌==◌, List, [], ◌∷◌, Option, Some, None, ap}
+use Rattle.std.proofs.Common.{◌≡◌, ◌∙◌, ℕ, Bool, true, false, ◌&&◌, not, ◌==◌, List, [], ◌∷◌, Option, Some, None, ap}
 use Rattle.std.proofs.Common.{refl, sym}
 use Rattle.std.specs.Prelude.{find, if◌then◌else◌}
 use Rattle.std.specs.List.{list_all, list_any}
-use Rattle.std.proofs.lemmas.Bool.{false≢true, true≢false}
+use Rattle.std.proofs.lemmas.Bool.{true≢false}
 use Rattle.bosh_base.specs.Cloud.{numbers_to}
 use Rattle.bosh_base.specs.declared.entry.Begin.{Begin}
 use Rattle.bosh_base.specs.declared.owner.Owner.{Owner}
 use Rattle.bosh_history.specs.Words.{holds}
 use Rattle.bosh_rows.specs.Same.{same_owner}
-use Rattle.laws_stands.specs.Stands.{call_of}
-use Rattle.laws_stands.specs.Told.{TellsWell, Told, is_idle, of_others}
+use Rattle.laws_stands.specs.Told.{TellsWell, Told, of_others}
 use Rattle.laws_stands_interrupted.specs.Interrupts.{told_without}
 use Rattle.laws_stands_on.proofs.CallLemmas.{same_owner_is}
 use Rattle.laws_stands_on.proofs.FindLemmas.{any_within, find_within}

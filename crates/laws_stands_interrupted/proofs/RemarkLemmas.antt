@@ -1,7 +1,7 @@
--- The work of a task whose calls are open no more: the same is listed and left, and all that is left is free.
-use Rattle.std.proofs.Common.{◌≡◌, ◌∙◌, ℕ, Bool, true, false, ◌&&◌, not, ◌==◌, List, [], ◌∷◌, map, Option, Some, None}
+-- The work of a task whose calls are open no more: the same is listed and left, and what is free is marked anew.
+use Rattle.std.proofs.Common.{◌≡◌, ◌∙◌, ℕ, Bool, true, false, ◌&&◌, not, List, [], ◌∷◌, map, Option, Some, None}
 use Rattle.std.proofs.Common.{ap, refl, sym}
-use Rattle.std.specs.Prelude.{cond, count_by, is_some, option_map}
+use Rattle.std.specs.Prelude.{cond, count_by, is_some}
 use Rattle.std.specs.BTreeMap.{is_at}
 use Rattle.std.specs.Map.{lookup, remove_entry, set_value}
 use Rattle.std.specs.Option.{option_map_or}
@@ -9,10 +9,8 @@ use Rattle.std.specs.declared.cmp.Ordering.{Ordering}
 use Rattle.bosh_base.specs.Cloud.{numbers_to}
 use Rattle.bosh_base.specs.declared.inst.Inst.{Inst}
 use Rattle.bosh_base.specs.declared.owner.Owner.TheVariants.{Compile, Disk}
-use Rattle.bosh_fold.specs.Tasks.{cleared}
 use Rattle.bosh_history.specs.Goals.{changed_in}
 use Rattle.bosh_history.specs.Known.{Known, Task}
-use Rattle.bosh_records.specs.Recorded.{Recorded}
 use Rattle.bosh_records.specs.Table.{altered, without}
 use Rattle.bosh_roll.specs.Upd.{is_busy}
 use Rattle.bosh_work.specs.declared.groups.GroupWork.{GroupWork}
@@ -72,6 +70,7 @@ module _ (t : ℕ) (told : Told) where
   abbrev new : Told
   new = told_without t told
 
+  -- the work, with what is free and how many calls are open by what is told now
   abbrev pub marked : Work → Work
   marked work = record work {
     pings = marked_line (λ i. not ((k.task t).pinged i)) (idle_in new) work.pings;
@@ -83,6 +82,7 @@ module _ (t : ℕ) (told : Told) where
     «open» = count_by (is_task_call new t) (numbers_to k.last_call);
   }
 
+  -- it stands then
   pub marked_work : (swept : List MachineName) (work : Work) → StandsFor told (k.task t) t swept work
       → StandsFor new (k.task t) t swept (marked work)
   marked_work swept work stands = record {
@@ -109,11 +109,6 @@ module _ (t : ℕ) (told : Told) where
     failed_is = stands.failed_is;
     open_are = refl;
   }
-
-  -- once the task ends, the marks make no difference
-  pub cleared_same : (o : Option Work) (it : Recorded) → cleared (option_map marked o) it ≡ cleared o it
-  cleared_same (Some work) it = refl
-  cleared_same None it = refl
 
 -- what changed at a key that goes makes no difference
 pub gone_same : {K X : Type 0} (cmp : K → K → Ordering) (key : K) (change : X → X) (es : List (K × X))

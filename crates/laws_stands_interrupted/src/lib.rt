@@ -3,4 +3,7 @@
 
 mod tasks;
 
-pub use tasks::what_is_recorded_fits_after_a_task_that_failed;
+pub use tasks::{
+    what_is_recorded_fits_after_a_task_that_failed,
+    what_is_recorded_stands_after_a_task_that_was_interrupted,
+};
