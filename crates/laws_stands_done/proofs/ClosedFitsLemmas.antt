@@ -147,14 +147,17 @@ module _ (t : ℕ) (end planned : TaskEnd) (told : Told) (it : Recorded) (once :
   abbrev k : Known
   k = told.known
 
+  -- what is told once the task has ended
   abbrev new : Told
   new = told_ended t end told
 
+  -- what is recorded then
   abbrev closed : Recorded
   closed = closed_task t planned it
 
   -- ---- tasks
 
+  -- a task is open, where it may be the one that ends
   abbrev going_with : ℕ → Bool → Bool
   going_with x b = nat_le 1 x && (nat_le x k.tasks && not (is_some
       (if b then record (k.task t) { end = Some end } else k.task x).end))
@@ -249,6 +252,7 @@ module _ (t : ℕ) (end planned : TaskEnd) (told : Told) (it : Recorded) (once :
   read_part read none None = sym none
 
   module _ (w : Work) (i : Inst) (places : NoPlaces w i) where
+    -- what is known of the instance then
     abbrev now : Option Instance
     now = found inst_cmp (cleared (Some w) it).instances i
 
@@ -304,10 +308,12 @@ module _ (t : ℕ) (end planned : TaskEnd) (told : Told) (it : Recorded) (once :
   machine_as : (a b : MachineName) → is_at (machine_cmp a) b ≡ same_machine b a
   machine_as a b = machine_at a b ∙ (λ j. eqb_flip a.task b.task j && eqb_flip a.slot b.slot j)
 
+  -- the place of a machine among those that are swept
   abbrev sweep_of : Option Machine → Option ℕ
   sweep_of place = option_and_then (λ machine. machine.sweep) place
 
   module _ (w : Work) (is : work_of it t ≡ Some w) (name : MachineName) where
+    -- what is recorded of the machine then
     abbrev swept_now : Option Machine
     swept_now = thing_in machine_cmp (cleared (Some w) it).machines name
 
@@ -373,10 +379,12 @@ module _ (t : ℕ) (end planned : TaskEnd) (told : Told) (it : Recorded) (once :
   nat_as : (a b : ℕ) → is_at (nat_cmp a) b ≡ eqb b a
   nat_as a b = nat_at a b ∙ eqb_flip a b
 
+  -- the place of a disk among those that are deleted
   abbrev deleting_of : Option LooseDisk → Option ℕ
   deleting_of place = option_and_then (λ loose. loose.deleting) place
 
   module _ (w : Work) (is : work_of it t ≡ Some w) (d : ℕ) (none : HasNoWork closed None) where
+    -- what is recorded of the disk then
     abbrev loose_now : Option LooseDisk
     loose_now = thing_in nat_cmp (cleared (Some w) it).orphans d
 

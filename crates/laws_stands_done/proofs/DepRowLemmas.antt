@@ -31,6 +31,7 @@ none_without dep (d ∷ deps) none = by (bytes_eq dep d) refl none (none_without
 module _ (was now : List ℕ → Option DepRow) (dep : List ℕ)
     (named : (d : List ℕ) (row : DepRow) → was d ≡ Some row → row.dep ≡ d)
     (others : (d : List ℕ) → bytes_eq dep d ≡ false → now d ≡ was d) where
+  -- the row is of the deployment
   abbrev test : DepRow → Bool
   test row = bytes_eq row.dep dep
 

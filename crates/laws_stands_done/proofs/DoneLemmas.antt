@@ -44,6 +44,7 @@ use Rattle.laws_stands_done.proofs.SinceLemmas.{since_keys, since_own}
 use Rattle.laws_stands_done.specs.Settles.{Settles}
 use Rattle.laws_stands_on.proofs.RoomyLemmas.{roomy_stands}
 
+-- what is recorded of a deployment
 abbrev named_row : List ℕ → Goal → List Offer → DepRow
 named_row dep goal shared = record { dep = dep; goal = goal; shared = shared }
 
@@ -52,6 +53,7 @@ module _ (told : Told) (t : ℕ) (dep : List ℕ) (goal : Goal) (settles : Settl
   abbrev k : Known
   k = told.known
 
+  -- what is recorded of the deployment of the task
   abbrev row : DepRow
   row = named_row dep goal (k.shared dep)
 
@@ -143,6 +145,7 @@ module _ (told : Told) (t : ℕ) (dep : List ℕ) (goal : Goal) (settles : Settl
 -- ---- what is told
 
 module _ (told : Told) (t : ℕ) (dep : List ℕ) (goal : Goal) (settles : Settles told t dep goal) where
+  -- what was known before
   abbrev kept : Known
   kept = told.known
 
@@ -163,6 +166,7 @@ module _ (told : Told) (t : ℕ) (dep : List ℕ) (goal : Goal) (settles : Settl
 
   module _ (allows : AllowsClose told t) (was now : Records) (stands : Stands told was)
       (learns : Learns was (entries.TaskDone t) now) where
+    -- what was recorded, with the room that was made
     abbrev it : Recorded
     it = recorded learns.roomy
 
@@ -172,6 +176,7 @@ module _ (told : Told) (t : ℕ) (dep : List ℕ) (goal : Goal) (settles : Settl
     once : IsOnce since_cmp it.deployments
     once = once_in since_cmp it.deployments roomy.ordered.deployments
 
+    -- where the deployment stands
     abbrev place : Stood since_cmp since_keys since_own (λ (row : DepRow). bytes_eq row.dep dep) it.deployments
         (named_row dep goal (kept.shared dep))
     place = stood told t dep goal settles it roomy once

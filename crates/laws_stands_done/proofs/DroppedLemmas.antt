@@ -56,13 +56,16 @@ module _ (dep : List ℕ) (goal : Goal) (told : Told) (it : Recorded) (since : S
   abbrev k : Known
   k = told.known
 
+  -- what is told once the deployment is recorded no more
   abbrev pub dropped : Told
   dropped = settled (words.without bytes_eq dep k.deployments) (at bytes_eq dep None k.goal)
       (at bytes_eq dep [] k.shared) told
 
+  -- what is recorded of instances then
   abbrev instances : List (Inst × Instance)
   instances = wants_forgotten goal.rows it.instances
 
+  -- .. and of deployments
   abbrev rows : List (Since × Option DepRow)
   rows = without since_cmp since it.deployments
 
@@ -97,6 +100,7 @@ module _ (dep : List ℕ) (goal : Goal) (told : Told) (it : Recorded) (since : S
         by true = refl
         by false = refl
 
+    -- the place at which a goal wants an instance
     abbrev wanted : Inst → Option Goal → Option ℕ
     wanted i = option_and_then (λ (goal : Goal). want_place goal.rows i)
 

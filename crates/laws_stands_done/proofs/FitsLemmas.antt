@@ -60,6 +60,7 @@ task_settled kind goal dep k = refl
 
 -- ---- what is recorded of the deployment
 
+-- a deployment was recorded since then
 abbrev WasThere : Recorded → Since → Type 0
 WasThere it since = (old : DepRow) × (thing_in since_cmp it.deployments since ≡ Some old)
 
@@ -147,9 +148,11 @@ module _ (t : ℕ) (offers : List Offer) (it : Recorded) where
 
 module _ (told : Told) (was now : Records) (t : ℕ) (stands : Stands told was) (fits : Fits told (recorded was))
     (learns : Learns was (entries.TaskDone t) now) where
+  -- what was recorded, with the room that was made
   abbrev it : Recorded
   it = recorded learns.roomy
 
+  -- .. once its deployment is settled
   abbrev done : Recorded
   done = deployment_done t (offers_after was t) it
 

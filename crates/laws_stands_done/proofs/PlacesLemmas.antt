@@ -30,6 +30,7 @@ use Rattle.laws_stands_on.proofs.LinkLemmas.{WasWork}
 
 -- ---- what is told
 
+-- a task is open, by what is known of tasks
 abbrev going_by : ℕ → (ℕ → Task) → ℕ → Bool
 going_by tasks task t = nat_le 1 t && (nat_le t tasks && not (is_some (task t).end))
 
@@ -49,13 +50,14 @@ fits_told told new it tasks task fits = record {
 
 -- ---- what is recorded
 
--- a machine, and a disk, was recorded with the same place
+-- a machine was recorded with the same row and place
 pub record WasMachine (it : Recorded) (name : MachineName) (machine : Machine) : Type 0 where
   pub old : Machine
   pub is : machine_of it name ≡ Some old
   pub row : old.row ≡ machine.row
   pub sweep : old.sweep ≡ machine.sweep
 
+-- .. so was a disk
 pub record WasDisk (it : Recorded) (d : ℕ) (loose : LooseDisk) : Type 0 where
   pub old : LooseDisk
   pub is : orphan_of it d ≡ Some old

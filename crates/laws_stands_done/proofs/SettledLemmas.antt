@@ -39,9 +39,11 @@ pub record SameInstances (was now : List (Inst × Instance)) : Type 0 where
 
 module _ (deployments : List (List ℕ)) (goal : List ℕ → Option Goal) (shared : List ℕ → List Offer) (told : Told)
     (it : Recorded) (instances : List (Inst × Instance)) (rows : List (Since × Option DepRow)) where
+  -- what is told then
   abbrev new : Told
   new = settled deployments goal shared told
 
+  -- what is recorded then
   abbrev now : Recorded
   now = record it { instances = instances; deployments = rows }
 

@@ -31,9 +31,11 @@ module _ (dep : List ℕ) (offers : List Offer) (told : Told) (it : Recorded) (s
   abbrev k : Known
   k = told.known
 
+  -- what is told once the deployment offers these
   abbrev pub offered : Told
   offered = settled k.deployments k.goal (at bytes_eq dep offers k.shared) told
 
+  -- what is recorded of deployments then
   abbrev rows : List (Since × Option DepRow)
   rows = changed since_cmp since (with_shared offers) it.deployments
 

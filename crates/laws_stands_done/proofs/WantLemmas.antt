@@ -33,9 +33,11 @@ use Rattle.laws_stands_on.proofs.CallLemmas.{inst_flip}
 use Rattle.laws_stands_on.proofs.KeyLemmas.{inst_at, inst_keys}
 use Rattle.laws_stands_on.proofs.TableLemmas.{TellsKeys, found_altered}
 
+-- the instances of the rows of a goal
 abbrev pub insts : List GoalRow → List Inst
 insts rows = map (λ want. want.inst) rows
 
+-- the same changes at each of several keys
 abbrev each : {K X : Type 0} → (K → K → Ordering) → (X → X) → List (K × X) → List K → List (K × X)
 each cmp change es keys = fold (λ es key. altered cmp key change es) es keys
 

@@ -112,6 +112,7 @@ module _ (t : ℕ) (it : Recorded) where
 
 module _ (told : Told) (was now : Records) (e : TaskError) (stands : Stands told was) (fits : Fits told (recorded was))
     (learns : Learns was (entries.TaskError e) now) where
+  -- what was recorded, with the room that was made
   abbrev it : Recorded
   it = recorded learns.roomy
 
@@ -119,6 +120,7 @@ module _ (told : Told) (was now : Records) (e : TaskError) (stands : Stands told
   abbrev planned : TaskEnd
   planned = end_after was e
 
+  -- .. once no call of an interrupted task is open
   abbrev left : Recorded
   left = interrupted_in e.task planned it
 

@@ -140,6 +140,7 @@ module _ (t : ℕ) where
 
   -- ---- the calls of others stay
 
+  -- the calls of other tasks
   abbrev others : List (ℕ × Option Begin) → List (ℕ × Option Begin)
   others places = filter (λ place. not (is_call_of t place.1)) places
 

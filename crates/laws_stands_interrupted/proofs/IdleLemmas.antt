@@ -52,6 +52,7 @@ module _ (t : ℕ) (told : Told) (own : TellsOwn told) (apart : IsAlone told t) 
   abbrev k : Known
   k = told.known
 
+  -- what is told once no call of the task is open
   abbrev new : Told
   new = told_without t told
 

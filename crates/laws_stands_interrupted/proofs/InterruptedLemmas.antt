@@ -58,9 +58,11 @@ module _ (t : ℕ) (told : Told) (it : Recorded) (own : TellsOwn told) (apart : 
     abbrev k : Known
     k = told.known
 
+    -- what is told once no call of the task is open
     abbrev new : Told
     new = told_without t told
 
+    -- what is recorded then
     abbrev left : Recorded
     left = forgotten_in t it
 
@@ -92,6 +94,7 @@ module _ (t : ℕ) (told : Told) (it : Recorded) (own : TellsOwn told) (apart : 
         by true is = sym (none (one_is_open t (is_of owner) it.calls (once_of stands.ordered).calls is))
         by false is = sym (same_found t told (is_of owner) (none_passes (is_of owner) is))
 
+    -- an open call compiles the key
     abbrev compiling_in : Told → Key → Bool
     compiling_in all key = list_any (λ n. holds (λ b. compiles key b.call) (all.calls n)) (numbers_to k.last_call)
 

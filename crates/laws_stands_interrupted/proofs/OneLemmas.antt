@@ -35,10 +35,11 @@ use Rattle.laws_stands_slots.proofs.KeyBuiltLemmas.{key_at}
 abbrev pub no_call : Instance → Instance
 no_call known = record known { call = None }
 
--- .. of the place of a machine, or of a disk
+-- .. of the place of a machine
 abbrev pub no_machine_call : Option Machine → Option Machine
 no_machine_call place = option_map (with_machine_call None) place
 
+-- .. or of a disk
 abbrev pub no_disk_call : Option LooseDisk → Option LooseDisk
 no_disk_call place = option_map (with_disk_call None) place
 

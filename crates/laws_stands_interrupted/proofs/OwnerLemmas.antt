@@ -15,6 +15,7 @@ use Rattle.laws_stands_on.proofs.CallLemmas.{same_owner_is}
 use Rattle.laws_stands_on.proofs.FindLemmas.{any_within, find_within}
 
 module _ (t : ℕ) (told : Told) where
+  -- what is told once no call of the task is open
   abbrev new : Told
   new = told_without t told
 

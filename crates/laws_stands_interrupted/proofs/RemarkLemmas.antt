@@ -67,6 +67,7 @@ module _ (t : ℕ) (told : Told) where
   abbrev k : Known
   k = told.known
 
+  -- what is told once no call of the task is open
   abbrev new : Told
   new = told_without t told
 
