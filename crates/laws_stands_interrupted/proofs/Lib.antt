@@ -1,0 +1,10 @@
+pub mod FitsLemmas
+pub mod FoldedLemmas
+pub mod ForgottenLemmas
+pub mod IdleLemmas
+pub mod InterruptedLemmas
+pub mod NotedLemmas
+pub mod OneLemmas
+pub mod OrderedLemmas
+pub mod OwnerLemmas
+pub mod RemarkLemmas
