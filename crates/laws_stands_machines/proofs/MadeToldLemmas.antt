@@ -65,7 +65,7 @@ module _ (told : Told) (it : Recorded) (t s : ℕ) (slot : Slot) (allows : Allow
       && holds (λ (slot : Slot). option_eq bytes_eq (Some slot.dep) (k.task u).dep) (slot_other x other j)
 
   -- no open task has it left over
-  never_left : (u : ℕ) → is_going k u ≡ true → is_leftover new.known u (named t s) ≡ false
+  pub never_left : (u : ℕ) → is_going k u ≡ true → is_leftover new.known u (named t s) ≡ false
   never_left u going =
       (λ j. not (t == u) && holds (λ (slot : Slot). option_eq bytes_eq (Some slot.dep) (k.task u).dep) (own_slot j))
       ∙ by (eqb t u) refl (option_eq bytes_eq (Some slot.dep) (k.task u).dep) refl

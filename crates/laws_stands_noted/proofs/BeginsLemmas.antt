@@ -41,7 +41,7 @@ use Rattle.laws_stands_on.specs.Allows.{AllowsCall, AllowsNext, HasPlaces}
 
 -- ---- what is planned for a call that begins, with the room that was made for it
 
-begun_by : (was : Records) (b : Begin) (new : Told) (it : Recorded) (subject : Subject) → subject_of was b ≡ subject
+pub begun_by : (was : Records) (b : Begin) (new : Told) (it : Recorded) (subject : Subject) → subject_of was b ≡ subject
     → StandsInOrder new (begun_in (record { begin = b; subject = subject }) it) → (change : Change)
     → IsBeginning b (subject_of was b) change → StandsInOrder new (learned (entries.Begin b) change it)
 begun_by was b new it subject is stands (changes.Begun begun) (begin_is, subject_is) =

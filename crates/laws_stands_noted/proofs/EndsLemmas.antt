@@ -28,7 +28,7 @@ use Rattle.laws_stands_on.proofs.RoomyLemmas.{roomy_stands}
 use Rattle.laws_stands_on.specs.Allows.{AllowsEnd}
 
 -- what is planned for a call that ends is learned
-ended_by : (told : Told) (was now : Records) (e : End) (learns : Learns was (entries.End e) now)
+pub ended_by : (told : Told) (was now : Records) (e : End) (learns : Learns was (entries.End e) now)
     → StandsInOrder (telling told (entries.End e)) (ended_in (ended_of was e) (recorded learns.roomy))
     → Stands (telling told (entries.End e)) now
 ended_by told was now e learns stands =

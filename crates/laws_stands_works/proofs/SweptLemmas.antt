@@ -54,23 +54,23 @@ machine_at : (a b : MachineName) → is_at (machine_cmp a) b ≡ same_machine a 
 machine_at a b = eq_then (nat_cmp a.task b.task) (nat_cmp a.slot b.slot)
     ∙ (λ j. nat_at a.task b.task j && nat_at a.slot b.slot j)
 
-slot_total : IsTotalOrder slot_cmp
+pub slot_total : IsTotalOrder slot_cmp
 slot_total = then_total (on_total (λ (it : SlotName). it.task) nat_cmp_total)
     (on_total (λ (it : SlotName). it.slot) nat_cmp_total)
 
-slot_equal : (a b : SlotName) → slot_cmp a b ≡ Equal → a ≡ b
+pub slot_equal : (a b : SlotName) → slot_cmp a b ≡ Equal → a ≡ b
 slot_equal a b is =
     let parts : (nat_cmp a.task b.task ≡ Equal) × (nat_cmp a.slot b.slot ≡ Equal) =
     then_equal (nat_cmp a.task b.task) (nat_cmp a.slot b.slot) is in
     λ i. record { task = exact_unsigned a.task b.task parts.0 i; slot = exact_unsigned a.slot b.slot parts.1 i }
 
-slot_is : (a b : SlotName) → same_slot a b ≡ true → a ≡ b
+pub slot_is : (a b : SlotName) → same_slot a b ≡ true → a ≡ b
 slot_is a b same =
     let parts : (eqb a.task b.task ≡ true) × (eqb a.slot b.slot ≡ true) =
     and_parts (eqb a.task b.task) (eqb a.slot b.slot) same in
     λ i. record { task = eqb-true a.task b.task parts.0 i; slot = eqb-true a.slot b.slot parts.1 i }
 
-slot_own : (a : SlotName) → same_slot a a ≡ true
+pub slot_own : (a : SlotName) → same_slot a a ≡ true
 slot_own a = λ i. eq-eqb a.task a.task refl i && eq-eqb a.slot a.slot refl i
 
 pub machine_own : (a : MachineName) → same_machine a a ≡ true
