@@ -1,0 +1,9 @@
+pub mod ChangeLemmas
+pub mod DepRowLemmas
+pub mod FirstLemmas
+pub mod FitsLemmas
+pub mod InstLemmas
+pub mod PutLemmas
+pub mod SetLemmas
+pub mod SinceLemmas
+pub mod WantLemmas
