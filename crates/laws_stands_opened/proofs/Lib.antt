@@ -1,7 +1,9 @@
+pub mod AllowsLemmas
 pub mod ChangeLemmas
 pub mod DepRowLemmas
 pub mod FirstLemmas
 pub mod FitsLemmas
+pub mod GoalLemmas
 pub mod InstLemmas
 pub mod PutLemmas
 pub mod SetLemmas

@@ -5,7 +5,7 @@ use Rattle.std.specs.Prelude.{find, is_some, option_map, suc, unwrap_or, ◌+◌
 use Rattle.std.specs.List.{filter_map, list_all}
 use Rattle.std.specs.Option.{option_and_then, option_map_or}
 use Rattle.std.specs.Str.{bytes_eq}
-use Rattle.std.proofs.lemmas.Bool.{and_parts, true≢false}
+use Rattle.std.proofs.lemmas.Bool.{and_parts, false≢true, true≢false}
 use Rattle.bosh_base.specs.Inst.{inst_cmp}
 use Rattle.bosh_base.specs.declared.goal.Goal.{Goal}
 use Rattle.bosh_base.specs.declared.goal.GoalRow.{GoalRow}
@@ -161,6 +161,22 @@ no_want (want ∷ rows) i none = by (same_inst i want.inst) none (no_want rows i
         → first_marked (b ∷ map (λ (want : GoalRow). same_inst i want.inst) rows) ≡ None
     by true none more = absurd (true≢false none)
     by false none more = ap (option_map suc) (more none)
+
+-- .. and one of it has
+pub has_want : (rows : List GoalRow) (i : Inst) → is_among same_inst i (insts rows) ≡ true
+    → is_some (want_place rows i) ≡ true
+has_want [] i is = absurd (false≢true is)
+has_want (want ∷ rows) i is = by (same_inst i want.inst) is (has_want rows i)
+  where
+    more_is : (o : Option ℕ) → is_some o ≡ true → is_some (option_map suc o) ≡ true
+    more_is (Some place) is = refl
+    more_is None is = absurd (false≢true is)
+
+    by : (b : Bool) → (b || is_among same_inst i (insts rows)) ≡ true
+        → (is_among same_inst i (insts rows) ≡ true → is_some (want_place rows i) ≡ true)
+        → is_some (first_marked (b ∷ map (λ (want : GoalRow). same_inst i want.inst) rows)) ≡ true
+    by true is more = refl
+    by false is more = more_is (want_place rows i) (more is)
 
 -- a goal whose instances are of its deployment wants none of another one
 pub none_wanted : (dep : List ℕ) (test : GoalRow → Bool) (rows : List GoalRow) (i : Inst)
