@@ -5,6 +5,7 @@ pub mod FirstLemmas
 pub mod FitsLemmas
 pub mod GoalLemmas
 pub mod InstLemmas
+pub mod OpeningLemmas
 pub mod PutLemmas
 pub mod SetLemmas
 pub mod SinceLemmas

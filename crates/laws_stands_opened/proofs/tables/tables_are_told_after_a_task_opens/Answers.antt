@@ -5,6 +5,7 @@ use Rattle.laws_stands_opened.proofs.DepRowLemmas.{changed_rows}
 use Rattle.laws_stands_opened.proofs.PutLemmas.{put_last}
 use Rattle.laws_stands_opened.proofs.WantLemmas.{goal_known}
 use Rattle.laws_stands_opened.proofs.GoalLemmas.{wants_set}
+use Rattle.laws_stands_opened.proofs.OpeningLemmas.{part_other}
 use Rattle.std.proofs.Common.{refl}
 use Rattle.laws_stands_opened.proofs.tables.tables_are_told_after_a_task_opens.Goals as goal
 
