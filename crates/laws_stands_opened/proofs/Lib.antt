@@ -9,4 +9,5 @@ pub mod OpeningLemmas
 pub mod PutLemmas
 pub mod SetLemmas
 pub mod SinceLemmas
+pub mod TableLemmas
 pub mod WantLemmas
