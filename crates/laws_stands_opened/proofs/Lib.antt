@@ -9,5 +9,6 @@ pub mod OpeningLemmas
 pub mod PutLemmas
 pub mod SetLemmas
 pub mod SinceLemmas
+pub mod StandsLemmas
 pub mod TableLemmas
 pub mod WantLemmas

@@ -7,6 +7,7 @@ use Rattle.laws_stands_opened.proofs.WantLemmas.{goal_known}
 use Rattle.laws_stands_opened.proofs.GoalLemmas.{wants_set}
 use Rattle.laws_stands_opened.proofs.OpeningLemmas.{part_other}
 use Rattle.laws_stands_opened.proofs.TableLemmas.{tasks_now}
+use Rattle.laws_stands_opened.proofs.StandsLemmas.{opened_stands}
 use Rattle.std.proofs.Common.{refl}
 use Rattle.laws_stands_opened.proofs.tables.tables_are_told_after_a_task_opens.Goals as goal
 
