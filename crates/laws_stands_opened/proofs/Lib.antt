@@ -3,6 +3,7 @@ pub mod ChangeLemmas
 pub mod DepRowLemmas
 pub mod FirstLemmas
 pub mod FitsLemmas
+pub mod FitsOnLemmas
 pub mod GoalLemmas
 pub mod InstLemmas
 pub mod OpeningLemmas

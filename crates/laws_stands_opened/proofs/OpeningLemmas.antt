@@ -242,14 +242,18 @@ module _ (told : Told) (it : Recorded) (o : TaskOpen) (work : Work) (opens : Ope
       by (Some goal) goal_is among = opens.wants_room goal goal_is i among
       by None goal_is among = absurd (false≢true among)
 
+  -- what is recorded of works is of open tasks
+  pub work_going : (t : ℕ) (w : Work) → work_of it t ≡ Some w → is_going k t ≡ true
+  work_going t w is = by (work_of it t) is ((opens.stands).works t)
+    where
+      by : (o : Option Work) → o ≡ Some w → IsWork told t o → is_going k t ≡ true
+      by (Some work) is (open_, rest) = open_
+      by None is gone = absurd cc
+
   -- no open task is of its deployment yet
   pub no_work : HasNoWork it o.dep
-  no_work t w is dep = (opens.allows).alone t (going (work_of it t) is ((opens.stands).works t))
-      (sym (dep_recorded told it t opens.stands (going (work_of it t) is ((opens.stands).works t))) ∙ dep)
-    where
-      going : (o : Option Work) → o ≡ Some w → IsWork told t o → is_going k t ≡ true
-      going (Some work) is (open_, rest) = open_
-      going None is gone = absurd cc
+  no_work t w is dep = (opens.allows).alone t (work_going t w is)
+      (sym (dep_recorded told it t opens.stands (work_going t w is)) ∙ dep)
 
   -- so an instance of it has a place just where the task lists it
   module _ (i : Inst) (dep : o.dep ≡ Some i.dep) where

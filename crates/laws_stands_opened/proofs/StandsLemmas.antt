@@ -167,7 +167,7 @@ module _ (told : Told) (it : Recorded) (o : TaskOpen) (work : Work) (opens : Ope
   -- ---- what is told
 
   -- no task that is open has its number yet
-  past_it : (t : ℕ) → is_going k t ≡ true → o.task ≡ t → ⊥
+  pub past_it : (t : ℕ) → is_going k t ≡ true → o.task ≡ t → ⊥
   past_it t open_ same =
       let (low, rest) = and_parts (nat_le 1 t) (nat_le t k.tasks && is_open k t) open_ in
       let (high, still) = and_parts (nat_le t k.tasks) (is_open k t) rest in

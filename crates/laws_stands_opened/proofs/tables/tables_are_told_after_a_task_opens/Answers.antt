@@ -8,6 +8,7 @@ use Rattle.laws_stands_opened.proofs.GoalLemmas.{wants_set}
 use Rattle.laws_stands_opened.proofs.OpeningLemmas.{part_other}
 use Rattle.laws_stands_opened.proofs.TableLemmas.{tasks_now}
 use Rattle.laws_stands_opened.proofs.StandsLemmas.{opened_stands}
+use Rattle.laws_stands_opened.proofs.FitsOnLemmas.{opened_fits}
 use Rattle.std.proofs.Common.{refl}
 use Rattle.laws_stands_opened.proofs.tables.tables_are_told_after_a_task_opens.Goals as goal
 
