@@ -6,10 +6,13 @@ pub mod FitsLemmas
 pub mod FitsOnLemmas
 pub mod GoalLemmas
 pub mod InstLemmas
+pub mod ListsLemmas
 pub mod OpeningLemmas
 pub mod PutLemmas
+pub mod RoomLemmas
 pub mod SetLemmas
 pub mod SinceLemmas
 pub mod StandsLemmas
 pub mod TableLemmas
+pub mod TaskOpenLemmas
 pub mod WantLemmas
