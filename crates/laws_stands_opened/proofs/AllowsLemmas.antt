@@ -1,5 +1,5 @@
 -- What the opening of a task needs of what was told before it.
-use Rattle.std.specs.Prelude.{◌≡◌, ◌+◌, ℕ, List, None, Option, Some, eqb, false, is_some, true}
+use Rattle.std.specs.Prelude.{◌≡◌, ◌+◌, ℕ, List, None, Some, eqb, false, is_some, true}
 use Rattle.std.specs.Str.{bytes_eq}
 use Rattle.bosh_base.specs.declared.entry.TaskOpen.{TaskOpen}
 use Rattle.bosh_base.specs.declared.goal.Goal.{Goal}
@@ -31,25 +31,32 @@ pub record AllowsOpen (told : Told) (o : TaskOpen) : Type 0 where
   pub alone : (t : ℕ) → is_going told.known t ≡ true → (told.known.task t).dep ≡ o.dep → ⊥
   -- what it lists is of its deployment, or it is of none
   pub own : ListsOwn (task_opened told.known o)
-  -- nothing that it lists stands twice
+  -- no instance is asked twice
   pub pings_apart : are_distinct same_inst (to_ping told.known o) ≡ true
+  -- none goes twice
   pub obsolete_apart : are_distinct same_inst o.obsolete ≡ true
+  -- none changes twice
   pub changed_apart : are_distinct same_inst o.changed ≡ true
+  -- no disk is deleted twice
   pub disks_apart : are_distinct eqb o.disks ≡ true
-  -- those that it asks and those that go are recorded, and those that change are of its goal
+  -- those that it asks are recorded
   pub asked_there : (i : Inst) → is_among same_inst i (to_ping told.known o) ≡ true →
       is_among same_inst i told.known.instances ≡ true
+  -- those that go are recorded
   pub leaving_there : (i : Inst) → is_among same_inst i o.obsolete ≡ true →
       is_among same_inst i told.known.instances ≡ true
+  -- those that change are of its goal
   pub changing_there : (i : Inst) → is_among same_inst i o.changed ≡ true →
       is_among same_inst i (instances_of o.goal) ≡ true
-  -- its goal wants instances of its deployment, each once
+  -- its goal wants instances of its deployment alone
   pub wants_own : (goal : Goal) → o.goal ≡ Some goal → WantsOwn goal.dep goal.rows
+  -- .. each once
   pub wants_apart : (goal : Goal) → o.goal ≡ Some goal → are_distinct same_inst (insts goal.rows) ≡ true
-  -- .. and so did the current goals
+  -- so did the current goal of each deployment
   pub current_own : (dep : List ℕ) (goal : Goal) → told.known.goal dep ≡ Some goal → WantsOwn dep goal.rows
-  -- a deployment is listed once, where it has a goal
+  -- no deployment is listed twice
   pub deployments_apart : are_distinct bytes_eq told.known.deployments ≡ true
+  -- a deployment is listed where it has a goal
   pub deployment_listed : (dep : List ℕ) →
       same_truth (is_among bytes_eq dep told.known.deployments) (is_some (told.known.goal dep)) ≡ true
   -- it has no compile machine yet

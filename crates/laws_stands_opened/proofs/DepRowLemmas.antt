@@ -1,5 +1,5 @@
 -- The rows of deployments, of which one changes.
-use Rattle.std.proofs.Common.{◌≡◌, ◌∙◌, ℕ, Bool, true, false, ◌&&◌, ◌||◌, not, List, [], ◌∷◌, Option, Some, None}
+use Rattle.std.proofs.Common.{◌≡◌, ◌∙◌, ℕ, Bool, true, false, ◌||◌, not, List, [], ◌∷◌, Option, Some, None}
 use Rattle.std.proofs.Common.{ap, refl, sym}
 use Rattle.std.specs.Prelude.{option_map, if◌then◌else◌}
 use Rattle.std.specs.List.{cons_option, filter_map}
@@ -19,6 +19,7 @@ not_false true is = absurd (false≢true is)
 module _ (was now : List ℕ → Option DepRow) (dep : List ℕ)
     (named : (d : List ℕ) (row : DepRow) → was d ≡ Some row → row.dep ≡ d)
     (others : (d : List ℕ) → bytes_eq dep d ≡ false → now d ≡ was d) where
+  -- the row is of the deployment
   abbrev test : DepRow → Bool
   test row = bytes_eq row.dep dep
 

@@ -105,8 +105,11 @@ module _ {K V : Type 0} (cmp : K → K → Ordering) (tells : TellsKeys cmp) (ow
 
   -- its key, and that it stands there
   pub record Stood (es : List (K × Option V)) (v : V) : Type 0 where
+    -- the key
     pub key : K
+    -- it is the first at which one passes
     pub first : first_key es ≡ Some key
+    -- the thing stands there
     pub there : thing_in cmp es key ≡ Some v
 
   pub first_stood : (es : List (K × Option V)) → IsOnce cmp es → (v : V) → find test (things es) ≡ Some v → Stood es v

@@ -69,8 +69,11 @@ none_is (Some x) is = absurd (false≢true is)
 
 -- an instance that is not known stands nowhere
 record StandsNowhere (it : Instance) : Type 0 where
+  -- among those that are asked
   pub ping : it.part.ping ≡ None
+  -- among those that go
   pub leaving : it.part.leaving ≡ None
+  -- among those that change
   pub change : it.part.change ≡ None
 
 unknown_stands : (it : Instance) → not (is_unknown it) ≡ false → StandsNowhere it

@@ -4,7 +4,6 @@ use Rattle.std.proofs.Common.{sym}
 use Rattle.std.specs.Prelude.{eqb, is_some, nat_le, if◌then◌else◌}
 use Rattle.std.proofs.lemmas.Bool.{and_parts, eqb-true, leb-true, ne_eqb}
 use Rattle.bosh_base.specs.declared.entry.TaskOpen.{TaskOpen}
-use Rattle.bosh_base.specs.declared.inst.Inst.{Inst}
 use Rattle.bosh_history.specs.Held.{is_open}
 use Rattle.bosh_history.specs.Known.{Known}
 use Rattle.bosh_history.specs.Words.{is_among}
@@ -15,7 +14,7 @@ use Rattle.bosh_work.specs.declared.part.MachineName.{MachineName}
 use Rattle.bosh_work.specs.declared.work.Work.{Work}
 use Rattle.laws_stands.specs.Linked.{same_machine}
 use Rattle.laws_stands.specs.Reading.{dep_of, machine_of, orphan_of, work_of}
-use Rattle.laws_stands.specs.Told.{Told, is_going}
+use Rattle.laws_stands.specs.Told.{Told}
 use Rattle.laws_stands_fits.specs.Fits.{Fits, HasNoWork, SweepsEnded}
 use Rattle.laws_stands_opened.proofs.OpeningLemmas.{Opens, new, now, own_number, part_other, work_going}
 use Rattle.laws_stands_opened.proofs.StandsLemmas.{past_it}
@@ -23,12 +22,15 @@ use Rattle.laws_stands_opened.proofs.TableLemmas.{deleting, deleting_at, deletin
 use Rattle.laws_stands_opened.proofs.TableLemmas.{machine_now, orphan_now, sweep, swept_at, work_now}
 
 module _ (told : Told) (it : Recorded) (o : TaskOpen) (work : Work) (opens : Opens told it o work) where
+  -- what was known
   abbrev k : Known
   k = told.known
 
+  -- what is told once the task opens
   abbrev told_now : Told
   told_now = new told it o work opens
 
+  -- what is recorded once the task opens
   abbrev it_now : Recorded
   it_now = now told it o work opens
 

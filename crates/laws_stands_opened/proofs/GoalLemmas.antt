@@ -1,13 +1,11 @@
 -- The goal of a task that opens takes the place of the current one of its deployment, or is the first one.
 use Rattle.std.proofs.Common.{◌≡◌, ◌∙◌, ◌+◌, ℕ, Bool, true, false, ◌||◌, List, [], ◌∷◌, ◌++◌, Option, Some, None, ap}
-use Rattle.std.proofs.Common.{arith, refl, sym, subst}
+use Rattle.std.proofs.Common.{refl, sym}
 use Rattle.std.specs.Prelude.{cond, find, is_some, option_map, if◌then◌else◌}
 use Rattle.std.specs.BTreeMap.{is_at}
-use Rattle.std.specs.List.{AllByRecursion, cons_option, filter_map, list_any}
+use Rattle.std.specs.List.{cons_option, filter_map}
 use Rattle.std.specs.Option.{option_and_then, option_map_or}
-use Rattle.std.specs.Ordering.{is_eq, nat_cmp}
 use Rattle.std.specs.Str.{bytes_eq}
-use Rattle.std.specs.declared.cmp.Ordering.{Ordering}
 use Rattle.std.specs.declared.cmp.Ordering.TheVariants.{Less}
 use Rattle.std.proofs.lemmas.Bool.{false≢true, true≢false}
 use Rattle.std.proofs.lemmas.List.Elements.{filter_map-append}
@@ -15,10 +13,9 @@ use Rattle.std.proofs.lemmas.List.Folds.{list_any-append}
 use Rattle.bosh_base.specs.Inst.{inst_cmp}
 use Rattle.bosh_base.specs.declared.entry.TaskOpen.{TaskOpen}
 use Rattle.bosh_base.specs.declared.goal.Goal.{Goal}
-use Rattle.bosh_base.specs.declared.goal.GoalRow.{GoalRow}
 use Rattle.bosh_base.specs.declared.inst.Inst.{Inst}
 use Rattle.bosh_base.specs.declared.snapshot.DepRow.{DepRow}
-use Rattle.bosh_fold.specs.Tasks.{goal_set, goal_set_at, wants_cleared, wants_forgotten, wants_noted, with_want}
+use Rattle.bosh_fold.specs.Tasks.{goal_set, goal_set_at, wants_forgotten, wants_noted, with_want}
 use Rattle.bosh_history.specs.Known.{Known}
 use Rattle.bosh_history.specs.Snapshots.{dep_row}
 use Rattle.bosh_history.specs.Tasks as history
@@ -41,7 +38,7 @@ use Rattle.laws_stands.specs.Once.{IsOnce}
 use Rattle.laws_stands.specs.Stands.{StandsIn}
 use Rattle.laws_stands.specs.Told.{Told}
 use Rattle.laws_stands_on.proofs.TableLemmas.{found_altered, thing_changed}
-use Rattle.laws_stands_opened.proofs.AllowsLemmas.{AllowsOpen, WantsOwn}
+use Rattle.laws_stands_opened.proofs.AllowsLemmas.{AllowsOpen}
 use Rattle.laws_stands_opened.proofs.DepRowLemmas.{changed_rows, others_same}
 use Rattle.laws_stands_opened.proofs.FirstLemmas.{Stood, changed_first, first_changed, first_stood, none_first}
 use Rattle.laws_stands_opened.proofs.SinceLemmas.{once_in, since_keys, since_more, since_never, since_next, since_own}
@@ -53,26 +50,36 @@ use Rattle.laws_stands_opened.proofs.WantLemmas.{has_want, insts, no_want, none_
 abbrev read : Option Instance → Option ℕ
 read = option_and_then (λ known. known.want)
 
+-- where a goal wants an instance
 abbrev wanted : Inst → Option Goal → Option ℕ
 wanted i = option_and_then (λ (goal : Goal). want_place goal.rows i)
 
+-- the goal that is recorded of a deployment
 abbrev goal_in : List (Since × Option DepRow) → List ℕ → Option Goal
 goal_in rows dep = option_map (λ (row : DepRow). row.goal) (deployment_in rows dep)
 
 -- what is recorded of deployments, and how goals want instances, once the goal of a task is set: it is what is told once the
 -- task opens
 pub record GoalSet (k : Known) (o : TaskOpen) (it : Recorded) : Type 0 where
+  -- what is known of instances then
   pub instances : List (Inst × Instance)
+  -- what is recorded of deployments then
   pub rows : List (Since × Option DepRow)
+  -- nothing else changes
   pub is : goal_set o.task (dep_row_of o) it ≡ record it { instances = instances; deployments = rows }
+  -- the deployments are those that are told, in their order
   pub deployments : things rows ≡ filter_map (dep_row (history.opened o k)) (history.opened o k).deployments
+  -- none is recorded since a later task
   pub since : (since : Since) (row : DepRow) → thing_in since_cmp rows since ≡ Some row →
       since_cmp since (sinces.Task (o.task + 1)) ≡ Less
+  -- each instance is told its place in the goal of its deployment
   pub wants : (i : Inst) → read (found inst_cmp instances i) ≡ wanted i (goal_in rows i.dep)
+  -- all else that is known of instances is as before
   pub same : SameInstances it.instances instances
 
 module _ (told : Told) (it : Recorded) (o : TaskOpen) (goal : Goal) (goal_is : o.goal ≡ Some goal)
     (dep_is : o.dep ≡ Some goal.dep) (stands : StandsIn told it) (allows : AllowsOpen told o) where
+  -- what was known
   abbrev k : Known
   k = told.known
 
@@ -80,9 +87,11 @@ module _ (told : Told) (it : Recorded) (o : TaskOpen) (goal : Goal) (goal_is : o
   abbrev pub goal_now : List ℕ → Option Goal
   goal_now = at bytes_eq goal.dep (Some goal) k.goal
 
+  -- .. and so is recorded of one
   abbrev pub row_now : List ℕ → Option DepRow
   row_now d = option_map (λ goal. record { dep = d; goal = goal; shared = k.shared d }) (goal_now d)
 
+  -- .. and which there are
   abbrev pub deps_now : List (List ℕ)
   deps_now = history.listed goal.dep k.deployments
 
@@ -166,6 +175,7 @@ module _ (told : Told) (it : Recorded) (o : TaskOpen) (goal : Goal) (goal_is : o
 
   -- ---- a goal that takes the place of another one
 
+  -- the row is of the deployment
   abbrev test : DepRow → Bool
   test row = bytes_eq row.dep goal.dep
 
@@ -194,6 +204,7 @@ module _ (told : Told) (it : Recorded) (o : TaskOpen) (goal : Goal) (goal_is : o
       → since_cmp since (sinces.Task o.task) ≡ Less) where
     module _ (old : Goal) (was : k.goal goal.dep ≡ Some old) (is_listed : is_among bytes_eq goal.dep k.deployments ≡ true)
       where
+        -- what was recorded of the deployment
         abbrev old_row : DepRow
         old_row = record { dep = goal.dep; goal = old; shared = k.shared goal.dep }
 
@@ -214,9 +225,11 @@ module _ (told : Told) (it : Recorded) (o : TaskOpen) (goal : Goal) (goal_is : o
               shared = k.shared d;
             }) o)) (ap k.goal (sym (bytes_is goal.dep d same)) ∙ was))
 
+        -- no instance is wanted by the old goal any more
         abbrev base : List (Inst × Instance)
         base = wants_forgotten old.rows it.instances
 
+        -- the row has the new goal
         abbrev rows : List (Since × Option DepRow)
         rows = changed since_cmp stood.key (with_goal goal) it.deployments
 
@@ -290,9 +303,11 @@ module _ (told : Told) (it : Recorded) (o : TaskOpen) (goal : Goal) (goal_is : o
 
     module _ (none : is_among bytes_eq goal.dep k.deployments ≡ false) (unshared : k.shared goal.dep ≡ [])
         (room : is_some (found since_cmp it.deployments (sinces.Task o.task)) ≡ true) where
+      -- what is recorded of the deployment
       abbrev row : DepRow
       row = record { dep = goal.dep; goal = goal; shared = [] }
 
+      -- .. at the place of the task
       abbrev added_rows : List (Since × Option DepRow)
       added_rows = put_at since_cmp (sinces.Task o.task) row it.deployments
 

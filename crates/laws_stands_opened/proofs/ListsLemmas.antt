@@ -1,5 +1,5 @@
 -- What a task lists that may open: each once, of its deployment, and there.
-use Rattle.std.proofs.Common.{◌≡◌, ◌∙◌, ℕ, Bool, true, false, ◌&&◌, ◌||◌, not, List, [], ◌∷◌, filter, map, Option, Some}
+use Rattle.std.proofs.Common.{◌≡◌, ◌∙◌, Bool, true, false, ◌&&◌, ◌||◌, not, List, [], ◌∷◌, filter, map, Option, Some}
 use Rattle.std.proofs.Common.{None, ap, refl, sym}
 use Rattle.std.specs.Prelude.{eqb, if◌then◌else◌}
 use Rattle.std.specs.List.{list_all, list_any}
@@ -15,11 +15,11 @@ use Rattle.bosh_history.specs.Goals.{does_not_stand, inst_of, instances_of, is_i
 use Rattle.bosh_history.specs.Known.{Known}
 use Rattle.bosh_history.specs.Openings.{MayOpen, OpensBy, OpensDisks, OpensFor, OpensOn, OpensWith}
 use Rattle.bosh_history.specs.Sound.{are_rows_kept, has_addresses, has_instances, has_keys, has_offers, is_alike}
-use Rattle.bosh_history.specs.Sound.{is_kept_row, is_of_kind, is_renewed, is_row_of, is_sound_goal, is_tie_kept}
+use Rattle.bosh_history.specs.Sound.{is_kept_row, is_of_kind, is_renewed, is_sound_goal, is_tie_kept}
 use Rattle.bosh_history.specs.Sound.{IsSound}
 use Rattle.bosh_history.specs.Tasks.{asks_of, has_machine, task_opened, to_ping}
 use Rattle.bosh_history.specs.Words.{is_among}
-use Rattle.bosh_rows.proofs.SameLemmas.{itself, same_inst_decides}
+use Rattle.bosh_rows.proofs.SameLemmas.{same_inst_decides}
 use Rattle.bosh_rows.specs.Same.{same_inst}
 use Rattle.bosh_rows.specs.SoundSnapshot.{are_distinct}
 use Rattle.laws_facts.proofs.GoalLemmas.{sound_of}
@@ -117,11 +117,17 @@ one_among i one is = by (same_inst i one) refl is
 
 -- what it lists is of its deployment, each once, those that go are recorded, and those that change are of its goal
 pub record ListsThere (k : Known) (o : TaskOpen) : Type 0 where
+  -- it is of its deployment, or the task is of none
   pub own : ListsOwn (task_opened k o)
+  -- none goes twice
   pub obsolete_apart : are_distinct same_inst o.obsolete ≡ true
+  -- none changes twice
   pub changed_apart : are_distinct same_inst o.changed ≡ true
+  -- no disk is deleted twice
   pub disks_apart : are_distinct eqb o.disks ≡ true
+  -- those that go are recorded
   pub leaving_there : (i : Inst) → is_among same_inst i o.obsolete ≡ true → is_among same_inst i k.instances ≡ true
+  -- those that change are of its goal
   pub changing_there : (i : Inst) → is_among same_inst i o.changed ≡ true
       → is_among same_inst i (instances_of o.goal) ≡ true
 
@@ -197,6 +203,7 @@ module _ (k : Known) (apart : are_distinct same_inst k.instances ≡ true) (o : 
   changing_apart kinds.CleanUp = apart_of_some (does_not_stand k) goal.rows (goal_apart k o.kind goal sound)
   changing_apart (kinds.DeleteDisk d) = apart_of_some (does_not_stand k) goal.rows (goal_apart k o.kind goal sound)
 
+  -- an instance of the deployment that is not of the goal
   abbrev goes : Inst → Bool
   goes i = bytes_eq i.dep goal.dep && not (is_in (Some goal) i)
 

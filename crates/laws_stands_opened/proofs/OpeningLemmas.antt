@@ -1,7 +1,7 @@
 -- What is recorded once a task opens, and what is read of instances then.
-use Rattle.std.proofs.Common.{◌≡◌, ◌∙◌, ℕ, Bool, true, false, List, [], ◌∷◌, map, filter, Option, Some, None, ap, refl}
+use Rattle.std.proofs.Common.{◌≡◌, ◌∙◌, ℕ, Bool, true, false, List, filter, Option, Some, None, ap, refl}
 use Rattle.std.proofs.Common.{subst, sym}
-use Rattle.std.specs.Prelude.{eqb, is_some, option_map, if◌then◌else◌}
+use Rattle.std.specs.Prelude.{eqb, is_some, if◌then◌else◌}
 use Rattle.std.specs.Option.{option_and_then, option_map_or}
 use Rattle.std.specs.Ordering.{nat_cmp}
 use Rattle.std.specs.Str.{bytes_eq}
@@ -11,7 +11,6 @@ use Rattle.bosh_base.specs.declared.entry.Entry.TheVariants as entries
 use Rattle.bosh_base.specs.declared.entry.TaskOpen.{TaskOpen}
 use Rattle.bosh_base.specs.declared.goal.Goal.{Goal}
 use Rattle.bosh_base.specs.declared.inst.Inst.{Inst}
-use Rattle.bosh_base.specs.declared.row.Row.{Row}
 use Rattle.bosh_fold.specs.Tasks.{changes_set, leavings_set, parts_set, pings_set, task_noted}
 use Rattle.bosh_history.specs.Goals.{instances_of}
 use Rattle.bosh_history.specs.Known.{Known, Task}
@@ -25,7 +24,6 @@ use Rattle.bosh_records.specs.Recorded.{Recorded}
 use Rattle.bosh_records.specs.Table.{found}
 use Rattle.bosh_records.specs.declared.instances.Instance.{Instance}
 use Rattle.bosh_rows.specs.Same.{same_inst}
-use Rattle.bosh_rows.specs.SoundSnapshot.{are_distinct}
 use Rattle.bosh_work.specs.Part.{no_part}
 use Rattle.bosh_work.specs.declared.part.GroupPlace.{GroupPlace}
 use Rattle.bosh_work.specs.declared.part.MachineName.{MachineName}
@@ -50,21 +48,31 @@ use Rattle.laws_stands_opened.proofs.WantLemmas.{insts}
 
 -- a task opens: there is room for what it brings, its goal is set, and its work stands for what it is to do
 pub record Opens (told : Told) (it : Recorded) (o : TaskOpen) (work : Work) : Type 0 where
+  -- what was recorded stands for what was told
   pub stands : StandsIn told it
+  -- .. and fits
   pub fits : Fits told it
+  -- the task may open
   pub allows : AllowsOpen told o
+  -- its goal is set
   pub set : GoalSet told.known o it
+  -- there is room for its row
   pub tasks_room : is_some (found nat_cmp it.tasks o.task) ≡ true
+  -- .. for its work
   pub works_room : is_some (found nat_cmp it.works o.task) ≡ true
+  -- .. and for each instance that its goal wants
   pub wants_room : (goal : Goal) → o.goal ≡ Some goal → (i : Inst) → is_among same_inst i (insts goal.rows) ≡ true →
       is_some (found inst_cmp it.instances i) ≡ true
+  -- it sweeps the compile machines of its deployment that are recorded
   pub swept_are : work.sweep.items ≡ swept_in o.dep it.machines
+  -- its work stands for what it is to do
   pub is_work : IsWork (telling told (entries.TaskOpen o)) o.task (Some work)
 
--- an instance is told its place among those that are asked, or that go
+-- an instance is told its place among those that are asked
 abbrev pub pinged_at : Option ℕ → Option Instance → Option Instance
 pinged_at place o = placed inst_cmp inst_keys same_inst inst_as (λ (i : Inst). i) (λ p. with_ping (Some p)) place o
 
+-- .. or among those that go
 abbrev pub leaving_at : Option ℕ → Option Instance → Option Instance
 leaving_at place o = placed inst_cmp inst_keys same_inst inst_as (λ (i : Inst). i) (λ p. with_leaving (Some p)) place o
 
@@ -145,9 +153,11 @@ group_among changed i is = by (is_among same_inst i changed) refl
     by false none = absurd (false≢true (sym (ap is_some (no_group changed i none)) ∙ is))
 
 module _ (told : Told) (it : Recorded) (o : TaskOpen) (work : Work) (opens : Opens told it o work) where
+  -- what was known
   abbrev k : Known
   k = told.known
 
+  -- what is told once it opens
   abbrev pub new : Told
   new = telling told (entries.TaskOpen o)
 
@@ -155,6 +165,7 @@ module _ (told : Told) (it : Recorded) (o : TaskOpen) (work : Work) (opens : Ope
   abbrev pub with_goal : Recorded
   with_goal = record it { instances = (opens.set).instances; deployments = (opens.set).rows }
 
+  -- what is recorded once it opens
   abbrev pub now : Recorded
   now = task_noted (task_row_of o) work (parts_set work with_goal)
 
@@ -172,12 +183,15 @@ module _ (told : Told) (it : Recorded) (o : TaskOpen) (work : Work) (opens : Ope
 
   -- ---- instances
 
+  -- where an instance stands among those that are asked
   abbrev ping : Inst → Option ℕ
   ping i = place_of same_inst i (to_ping k o)
 
+  -- .. among those that go
   abbrev leaving : Inst → Option ℕ
   leaving i = place_of same_inst i o.obsolete
 
+  -- .. and among those that change, in their groups
   abbrev change : Inst → Option GroupPlace
   change i = change_place o.changed i
 

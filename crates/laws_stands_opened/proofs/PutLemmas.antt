@@ -14,6 +14,7 @@ use Rattle.bosh_records.specs.Ordered.{AreInOrder}
 use Rattle.bosh_records.specs.Table.{found, put_at, things}
 use Rattle.laws_stands_on.proofs.TableLemmas.{TellsKeys}
 
+-- there is a place, and it is not free
 abbrev is_filled : {V : Type 0} → Option (Option V) → Bool
 is_filled (Some (Some v)) = true
 is_filled o = false

@@ -67,6 +67,7 @@ module _ {A K X : Type 0} (cmp : K → K → Ordering) (tells : TellsKeys cmp) (
   placed None o = o
   placed (Some p) o = option_map (change p) o
 
+  -- the first place of a key
   abbrev pub place_in : K → List A → Option ℕ
   place_in k items = first_marked (map (λ item. test k (key item)) items)
 
@@ -134,9 +135,11 @@ module _ {K X : Type 0} (cmp : K → K → Ordering) (tells : TellsKeys cmp) (te
 -- .. in a table whose places may be free
 module _ {K V : Type 0} (cmp : K → K → Ordering) (tells : TellsKeys cmp) (test : K → K → Bool)
     (same_as : (a b : K) → is_at (cmp a) b ≡ test b a) (change : ℕ → V → V) where
+  -- each item is told its place, where its place is not free
   abbrev pub things_set : List K → List (K × Option V) → List (K × Option V)
   things_set items places = sets cmp tells test same_as (λ key. key) (λ p. option_map (change p)) 0 items places
 
+  -- something is said of a thing, where it has a place
   abbrev pub thing_placed : Option ℕ → Option V → Option V
   thing_placed None o = o
   thing_placed (Some p) o = option_map (change p) o
@@ -167,6 +170,7 @@ module _ {K V : Type 0} (cmp : K → K → Ordering) (tells : TellsKeys cmp) (te
 
 module _ {K V : Type 0} (cmp : K → K → Ordering) (test : K → K → Bool) (same_at : (a b : K) → is_at (cmp a) b ≡ test a b)
     (passes : Option V → Bool) where
+  -- the keys at which something stands that passes
   abbrev pub keys_passing : List (K × Option V) → List K
   keys_passing places = map (λ place. place.0) (filter (λ place. passes place.1) places)
 

@@ -1,12 +1,10 @@
 -- What is recorded once a task opens stands for what is told then.
-use Rattle.std.proofs.Common.{◌≡◌, ◌∙◌, ◌+◌, ◌≤◌, ℕ, Bool, true, false, ◌&&◌, not, List, map, Option, Some, None, ap, refl}
+use Rattle.std.proofs.Common.{◌≡◌, ◌∙◌, ◌+◌, ◌≤◌, ℕ, Bool, true, false, ◌&&◌, not, map, Option, Some, None, ap, refl}
 use Rattle.std.proofs.Common.{arith, subst, sym}
-use Rattle.std.specs.Prelude.{eqb, is_some, nat_le, option_map, if◌then◌else◌}
+use Rattle.std.specs.Prelude.{eqb, is_some, nat_le, if◌then◌else◌}
 use Rattle.std.specs.Option.{option_and_then}
 use Rattle.std.proofs.lemmas.Bool.{and_parts, eqb-true, leb-true}
-use Rattle.bosh_base.specs.declared.entry.Entry.TheVariants as entries
 use Rattle.bosh_base.specs.declared.entry.TaskOpen.{TaskOpen}
-use Rattle.bosh_base.specs.declared.failure.Failure.{Failure}
 use Rattle.bosh_base.specs.declared.inst.Inst.{Inst}
 use Rattle.bosh_compile.specs.Readiness.{same_key}
 use Rattle.bosh_history.specs.Calls.{number_of}
@@ -32,23 +30,24 @@ use Rattle.laws_stands.specs.Linked.{IsLinked, same_machine}
 use Rattle.laws_stands.specs.LineStands.{place_of}
 use Rattle.laws_stands.specs.Reading.{dep_of, machine_of, orphan_of, work_of}
 use Rattle.laws_stands.specs.Stands.{IsWork, StandsInOrder, key_of_slot, key_place}
-use Rattle.laws_stands.specs.Told.{TellsWell, Told, is_going, telling}
-use Rattle.laws_stands_fits.specs.Fits.{HasNoWork}
-use Rattle.laws_stands_on.proofs.TaskLemmas.{dep_recorded}
+use Rattle.laws_stands.specs.Told.{TellsWell, Told, is_going}
 use Rattle.laws_stands_opened.proofs.InstLemmas.{mapped}
 use Rattle.laws_stands_opened.proofs.OpeningLemmas.{Opens, change_now, instance_kept, leaving_now, new, no_work, now}
 use Rattle.laws_stands_opened.proofs.OpeningLemmas.{part_other, ping_now, work_stands}
-use Rattle.laws_stands_opened.proofs.TableLemmas.{deleting, deleting_at, deleting_dep, dep_now, going_other, leftover}
+use Rattle.laws_stands_opened.proofs.TableLemmas.{deleting, deleting_at, deleting_dep, dep_now, going_other}
 use Rattle.laws_stands_opened.proofs.TableLemmas.{leftover_dep, machine_kept, machine_now, orphan_kept, orphan_now, sweep}
-use Rattle.laws_stands_opened.proofs.TableLemmas.{swept_at, task_own, task_same, tasks_now, work_now}
+use Rattle.laws_stands_opened.proofs.TableLemmas.{swept_at, task_same, tasks_now, work_now}
 
 module _ (told : Told) (it : Recorded) (o : TaskOpen) (work : Work) (opens : Opens told it o work) where
+  -- what was known
   abbrev k : Known
   k = told.known
 
+  -- what is told once the task opens
   abbrev told_now : Told
   told_now = new told it o work opens
 
+  -- what is recorded once the task opens
   abbrev it_now : Recorded
   it_now = now told it o work opens
 

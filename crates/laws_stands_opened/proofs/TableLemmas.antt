@@ -1,9 +1,8 @@
 -- What is read of compile machines, disks, tasks and works once a task opens.
-use Rattle.std.proofs.Common.{◌≡◌, ◌∙◌, ◌+◌, ℕ, Bool, true, false, ◌&&◌, List, Option, Some, None, ap, arith, refl, sym}
-use Rattle.std.specs.Prelude.{eqb, is_some, nat_le, not, option_map, if◌then◌else◌}
-use Rattle.std.specs.Option.{option_and_then, option_map_or}
+use Rattle.std.proofs.Common.{◌≡◌, ◌∙◌, ℕ, Bool, true, false, ◌&&◌, List, Option, Some, None, ap, arith, refl, sym}
+use Rattle.std.specs.Prelude.{eqb, is_some, nat_le, not, if◌then◌else◌}
+use Rattle.std.specs.Option.{option_and_then}
 use Rattle.std.specs.Ordering.{nat_cmp}
-use Rattle.std.specs.Str.{bytes_eq}
 use Rattle.std.proofs.lemmas.Bool.{eqb-true, false≢true}
 use Rattle.std.proofs.lemmas.Bool.Decides.{nat_tests}
 use Rattle.bosh_base.specs.declared.entry.TaskOpen.{TaskOpen}
@@ -11,7 +10,6 @@ use Rattle.bosh_base.specs.declared.task.TaskRow.{TaskRow}
 use Rattle.bosh_fold.specs.Tasks.{deletings_set, sweeps_set}
 use Rattle.bosh_history.specs.Known.{Known, Task}
 use Rattle.bosh_history.specs.Tasks.{task_opened}
-use Rattle.bosh_history.specs.Words.{is_among}
 use Rattle.bosh_plan.specs.Opened.{task_row_of}
 use Rattle.bosh_plan.specs.WorkBy.{is_of, is_swept, swept_in}
 use Rattle.bosh_records.specs.Changes.{with_deleting, with_sweep}
@@ -33,14 +31,15 @@ use Rattle.laws_stands_on.proofs.KeyLemmas.{machine_keys}
 use Rattle.laws_stands_on.proofs.NextCallLemmas.{row_by}
 use Rattle.laws_stands_on.proofs.TableLemmas.{nat_keys}
 use Rattle.laws_stands_opened.proofs.InstLemmas.{machine_as, nat_as}
-use Rattle.laws_stands_opened.proofs.OpeningLemmas.{Opens, new, now, own_number, work_stands}
-use Rattle.laws_stands_opened.proofs.SetLemmas.{keys_passing, passes_there, passing_apart, place_among, thing_found}
+use Rattle.laws_stands_opened.proofs.OpeningLemmas.{Opens, new, now, work_stands}
+use Rattle.laws_stands_opened.proofs.SetLemmas.{passes_there, passing_apart, place_among, thing_found}
 use Rattle.laws_stands_opened.proofs.SetLemmas.{thing_kept, thing_placed, thing_put}
 
--- a compile machine is told its place among those that are swept, and a disk among those that are deleted
+-- a compile machine is told its place among those that are swept
 abbrev pub swept_at : Option ℕ → Option Machine → Option Machine
 swept_at place o = thing_placed machine_cmp machine_keys same_machine machine_as (λ p. with_sweep (Some p)) place o
 
+-- .. and a disk among those that are deleted
 abbrev pub deleting_at : Option ℕ → Option LooseDisk → Option LooseDisk
 deleting_at place o = thing_placed nat_cmp nat_keys eqb nat_as (λ p. with_deleting (Some p)) place o
 
@@ -49,12 +48,15 @@ is_dep (Some dep) own is = ap Some (bytes_is dep own is)
 is_dep None own is = absurd (false≢true is)
 
 module _ (told : Told) (it : Recorded) (o : TaskOpen) (work : Work) (opens : Opens told it o work) where
+  -- what was known
   abbrev k : Known
   k = told.known
 
+  -- what is told once the task opens
   abbrev told_now : Told
   told_now = new told it o work opens
 
+  -- what is recorded once the task opens
   abbrev it_now : Recorded
   it_now = now told it o work opens
 
@@ -64,6 +66,7 @@ module _ (told : Told) (it : Recorded) (o : TaskOpen) (work : Work) (opens : Ope
   abbrev pub leftover : List MachineName
   leftover = swept_in o.dep it.machines
 
+  -- where a compile machine stands among them
   abbrev pub sweep : MachineName → Option ℕ
   sweep name = place_of same_machine name leftover
 
@@ -95,6 +98,7 @@ module _ (told : Told) (it : Recorded) (o : TaskOpen) (work : Work) (opens : Ope
 
   -- ---- disks
 
+  -- where a disk stands among those that are deleted
   abbrev pub deleting : ℕ → Option ℕ
   deleting d = place_of eqb d o.disks
 
@@ -141,11 +145,6 @@ module _ (told : Told) (it : Recorded) (o : TaskOpen) (work : Work) (opens : Ope
   -- what is told of another task is as before
   pub task_same : {X : Type 0} (f : Task → X) → (t : ℕ) → eqb o.task t ≡ false → f (told_now.known.task t) ≡ f (k.task t)
   task_same f t other = λ j. f (if other j then task_opened k o else k.task t)
-
-  -- .. and this one opened
-  pub task_own : {X : Type 0} (f : Task → X) → (t : ℕ) → eqb o.task t ≡ true
-      → f (told_now.known.task t) ≡ f (task_opened k o)
-  task_own f t own = λ j. f (if own j then task_opened k o else k.task t)
 
   pub tasks_now : (t : ℕ) → task_of it_now t
       ≡ (if nat_le 1 t && nat_le t told_now.known.tasks then Some (row_by t (told_now.known.task t)) else None)

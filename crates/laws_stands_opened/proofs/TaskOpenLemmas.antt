@@ -1,5 +1,5 @@
 -- A task opens that may be noted: what is recorded then stands for what is told, and fits.
-use Rattle.std.proofs.Common.{◌≡◌, ◌∙◌, ◌+◌, ◌≤◌, ℕ, Bool, true, false, ◌&&◌, List, Option, Some, None, ap, arith, refl, subst}
+use Rattle.std.proofs.Common.{◌≡◌, ◌∙◌, ◌+◌, ◌≤◌, ℕ, true, false, ◌&&◌, List, Option, Some, None, ap, arith, refl, subst}
 use Rattle.std.proofs.Common.{sym}
 use Rattle.std.specs.Prelude.{eqb, is_some, nat_le}
 use Rattle.std.specs.Option.{option_eq}
@@ -65,6 +65,7 @@ use Rattle.laws_stands_opened.proofs.WantLemmas.{insts, none_wanted}
 
 module _ (m : Moment) (told : Told) (o : TaskOpen) (agrees : Agrees m told) (facts : KnownFacts m)
     (may : MayOpen m.known o) (sound : IsSound m.known o) where
+  -- what was known
   abbrev k : Known
   k = m.known
 
@@ -130,9 +131,11 @@ module _ (m : Moment) (told : Told) (was later : Records) (o : TaskOpen) (stands
     (agrees : Agrees m told) (facts : KnownFacts m) (own : TellsOwn told) (fits : Fits told (recorded was))
     (may : MayOpen m.known o) (sound : IsSound m.known o) (learns : Learns was (entries.TaskOpen o) later)
     (opened : IsWork (telling told (entries.TaskOpen o)) o.task (Some (work_by learns.roomy o))) where
+  -- what is recorded with the room that was made
   abbrev it : Recorded
   it = recorded learns.roomy
 
+  -- what is left of the task
   abbrev work : Work
   work = work_by learns.roomy o
 

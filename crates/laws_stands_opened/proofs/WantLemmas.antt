@@ -31,17 +31,22 @@ use Rattle.laws_stands_on.proofs.TableLemmas.{found_altered}
 use Rattle.laws_stands_opened.proofs.InstLemmas.{inst_as, part_read}
 use Rattle.laws_stands_opened.proofs.SetLemmas.{found_set, from_zero, placed}
 
+-- the instances of the rows of a goal
 abbrev pub insts : List GoalRow → List Inst
 insts rows = map (λ want. want.inst) rows
 
 -- the same is said of instances, but for how goals want them
 pub record SameInstances (was now : List (Inst × Instance)) : Type 0 where
+  -- their rows
   pub rows : (i : Inst) → option_and_then (λ known. known.row) (found inst_cmp now i)
       ≡ option_and_then (λ known. known.row) (found inst_cmp was i)
+  -- their open calls
   pub calls : (i : Inst) → option_and_then (λ known. known.call) (found inst_cmp now i)
       ≡ option_and_then (λ known. known.call) (found inst_cmp was i)
+  -- where they stand in tasks
   pub parts : (i : Inst) → option_map_or (λ known. known.part) (found inst_cmp now i) no_part
       ≡ option_map_or (λ known. known.part) (found inst_cmp was i) no_part
+  -- of which something is known
   pub there : (i : Inst) → is_some (found inst_cmp now i) ≡ is_some (found inst_cmp was i)
 
 -- where nothing that is read, but how goals want instances, changes

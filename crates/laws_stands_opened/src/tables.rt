@@ -31,9 +31,9 @@ pub fn what_is_recorded_stands_after_a_task_that_may_open()
         → (learns : Learns was (entries.TaskOpen o) now)
         → IsWork (telling told (entries.TaskOpen o)) o.task (Some (work_by learns.roomy o))
         → ((t : ℕ) (work : Option Work) → eqb o.task t ≡ false → IsWork told t work
-            → IsWork (telling told (entries.TaskOpen o)) t work)
+        → IsWork (telling told (entries.TaskOpen o)) t work)
         → ((name : MachineName) → is_among same_machine name (work_by learns.roomy o).sweep.items ≡ true
-            → SweepsEnded (telling told (entries.TaskOpen o)) o.task name)
+        → SweepsEnded (telling told (entries.TaskOpen o)) o.task name)
         → Stands (telling told (entries.TaskOpen o)) now × Fits (telling told (entries.TaskOpen o)) (recorded now) }
 {}
 
