@@ -292,3 +292,10 @@ module _ (m : Moment) (facts : KnownFacts m) where
       dep = λ open_. machine_dep u s row there;
       alone = λ key is open_. none_takes u s row there key is open_;
     }
+
+    -- both of a machine of which a call ends
+    pub allows_ending : (snapped u s : ℕ) (row : Slot) → k.slot u s ≡ Some row → is_item k n (Compile u s) ≡ true
+        → (allows : AllowsSlot (told_at m snapped) n u s) × AllowsGoing (told_at m snapped) u s allows.row
+    unfolding allows_slot
+    allows_ending snapped u s row there item =
+        (allows_slot snapped u s row there item, allows_going snapped u s row there)

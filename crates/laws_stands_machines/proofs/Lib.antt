@@ -1,5 +1,7 @@
+pub mod CallsLemmas
 pub mod FactLemmas
 pub mod InsertedLemmas
+pub mod KindLemmas
 pub mod MadeToldLemmas
 pub mod MakesLemmas
 pub mod NextKeyLemmas

@@ -70,8 +70,7 @@ module _ (told : Told) (it : Recorded) (t s : ℕ) (slot : Slot) (allows : Allow
   other_work : (u : ℕ) → eqb t u ≡ false → (o : Option Work) → work_of it u ≡ o → IsWork told u o → IsWork new u o
   other_work u other (Some work) is (going, (swept, work_stands, are)) =
       let away : is_among same_machine name swept ≡ false =
-      unswept u work swept is (work_stands.sweep).items_are in
-      (
+      unswept u work swept is (work_stands.sweep).items_are in (
         going,
         (
           swept,
@@ -124,8 +123,7 @@ module _ (told : Told) (it : Recorded) (t s : ℕ) (slot : Slot) (allows : Allow
   own_work : (o : Option Work) → work_of it t ≡ o → IsWork told t o → IsWork new t (option_map change o)
   own_work (Some work) is (going, (swept, work_stands, are)) =
       let away : is_among same_machine name swept ≡ false =
-      unswept t work swept is (work_stands.sweep).items_are in
-      (
+      unswept t work swept is (work_stands.sweep).items_are in (
         going,
         (
           swept,

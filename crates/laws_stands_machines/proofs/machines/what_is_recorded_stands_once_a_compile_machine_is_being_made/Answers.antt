@@ -1,6 +1,3 @@
-use Rattle.laws_stands_machines.proofs.MakesLemmas.{machine_begins}
-use Rattle.laws_stands_machines.proofs.NextKeyLemmas.{next_placed}
-use Rattle.laws_stands_machines.proofs.FactLemmas.{allows_going}
 use Rattle.laws_stands_machines.proofs.SlotMadeLemmas.{slot_made}
 use Rattle.laws_stands_machines.proofs.machines.what_is_recorded_stands_once_a_compile_machine_is_being_made.Goals as goal
 
