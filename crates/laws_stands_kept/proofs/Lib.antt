@@ -1,0 +1,4 @@
+pub mod CountLemmas
+pub mod KeptLemmas
+pub mod OwnLemmas
+pub mod SharedLemmas
