@@ -8,7 +8,6 @@ use Rattle.bosh_base.specs.declared.call.Call.TheVariants as calls
 use Rattle.bosh_base.specs.declared.entry.Begin.{Begin}
 use Rattle.bosh_base.specs.declared.entry.Entry.{Entry}
 use Rattle.bosh_base.specs.declared.entry.Entry.TheVariants as entries
-use Rattle.bosh_base.specs.declared.inst.Inst.{Inst}
 use Rattle.bosh_base.specs.declared.make.Make.{Make}
 use Rattle.bosh_base.specs.declared.owner.Owner.{Owner}
 use Rattle.bosh_base.specs.declared.owner.Owner.TheVariants as owners
@@ -30,7 +29,6 @@ use Rattle.bosh_plan.specs.declared.updating.Updated.{Updated}
 use Rattle.bosh_plan.specs.declared.beginning.Subject.TheVariants as subjects
 use Rattle.bosh_records.specs.Changes.{since_cmp}
 use Rattle.bosh_records.specs.Ordered.{AreOrdered}
-use Rattle.bosh_records.specs.Places.{part_of}
 use Rattle.bosh_records.specs.Readers.{dep_of_task}
 use Rattle.bosh_records.specs.Recorded.{Recorded, kept, recorded}
 use Rattle.bosh_records.specs.declared.records.Records.{Records}

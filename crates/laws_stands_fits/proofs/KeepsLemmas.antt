@@ -1,11 +1,8 @@
 -- What fits goes on to fit where no work, place or deployment comes that was not there, and none goes that was.
-use Rattle.std.proofs.Common.{◌≡◌, ◌∙◌, ◌<◌, ◌⊎◌, ◌+◌, ℕ, Bool, true, false, List, Option, Some, None, ap, inl, inr, refl, subst, sym}
+use Rattle.std.proofs.Common.{◌≡◌, ◌∙◌, ◌⊎◌, ◌+◌, ℕ, true, false, List, Option, Some, None, ap, inl, inr, refl, subst, sym}
 use Rattle.std.specs.Prelude.{is_some}
-use Rattle.std.specs.Option.{option_and_then}
-use Rattle.std.specs.declared.cmp.Ordering.TheVariants.{Less}
 use Rattle.std.proofs.lemmas.Bool.{false≢true}
 use Rattle.bosh_base.specs.declared.inst.Inst.{Inst}
-use Rattle.bosh_base.specs.declared.snapshot.DepRow.{DepRow}
 use Rattle.bosh_history.specs.Words.{is_among}
 use Rattle.bosh_records.specs.Changes.{since_cmp}
 use Rattle.bosh_records.specs.Places.{part_of}

@@ -1,14 +1,12 @@
 -- What changes in one table keeps works, places and deployments: one thing changed, put, or taken out.
-use Rattle.std.proofs.Common.{◌≡◌, ◌∙◌, ◌⊎◌, ℕ, Bool, true, false, List, Option, Some, None, ap, inl, inr, refl, subst, sym}
+use Rattle.std.proofs.Common.{◌≡◌, ◌∙◌, ◌⊎◌, ℕ, Bool, true, false, List, Option, Some, None, ap, inl, inr, refl, sym}
 use Rattle.std.specs.Prelude.{eqb, is_some, option_map, if◌then◌else◌}
 use Rattle.std.specs.BTreeMap.{is_at}
 use Rattle.std.specs.Option.{option_and_then, option_map_or}
 use Rattle.std.specs.Ordering.{nat_cmp}
-use Rattle.std.proofs.lemmas.Bool.{false≢true}
 use Rattle.bosh_base.specs.Inst.{inst_cmp}
 use Rattle.bosh_base.specs.declared.inst.Inst.{Inst}
 use Rattle.bosh_base.specs.declared.task.TaskRow.{TaskRow}
-use Rattle.bosh_records.specs.Places.{part_of}
 use Rattle.bosh_records.specs.Readers.{machine_cmp}
 use Rattle.bosh_records.specs.Recorded.{Recorded}
 use Rattle.bosh_records.specs.Table.{altered, changed, each_thing, found, put_at, thing_in, without}
@@ -17,15 +15,14 @@ use Rattle.bosh_records.specs.declared.machines.Machine.{Machine}
 use Rattle.bosh_records.specs.declared.orphans.LooseDisk.{LooseDisk}
 use Rattle.bosh_work.specs.Part.{no_part}
 use Rattle.bosh_work.specs.declared.part.MachineName.{MachineName}
-use Rattle.bosh_work.specs.declared.part.Part.{Part}
 use Rattle.bosh_work.specs.declared.work.Work.{Work}
 use Rattle.laws_stands.specs.Once.{IsOnce}
-use Rattle.laws_stands.specs.Reading.{dep_of, instance_of, machine_of, orphan_of, work_of}
+use Rattle.laws_stands.specs.Reading.{instance_of, machine_of, orphan_of, work_of}
 use Rattle.laws_stands_fits.proofs.KeepsLemmas.{Keeps, WasLoose, WasMachine, keeps_itself}
 use Rattle.laws_stands_on.proofs.ChangedLemmas.{each_found, some_mapped, thing_at_key}
 use Rattle.laws_stands_on.proofs.KeyLemmas.{inst_keys, machine_keys}
 use Rattle.laws_stands_on.proofs.LinkLemmas.{ListsSame}
-use Rattle.laws_stands_on.proofs.TableLemmas.{TellsKeys, found_altered, found_without, nat_keys, thing_changed}
+use Rattle.laws_stands_on.proofs.TableLemmas.{found_altered, found_without, nat_keys, thing_changed}
 use Rattle.laws_stands_on.proofs.WorksLemmas.{of_task, of_task_is, of_task_same, works_were}
 
 -- ---- works

@@ -1,5 +1,5 @@
 -- The order of deployments tells them apart.
-use Rattle.std.proofs.Common.{◌≡◌, ◌∙◌, true, ap, refl, sym}
+use Rattle.std.proofs.Common.{◌≡◌, ◌∙◌, true, ap, refl}
 use Rattle.std.specs.BTreeMap.{is_at}
 use Rattle.std.proofs.lemmas.Bool.{eq-eqb}
 use Rattle.bosh_records.specs.Changes.{since_cmp}

@@ -1,6 +1,6 @@
 -- Calls and updates, as they are learned, keep works, places and deployments.
-use Rattle.std.proofs.Common.{◌≡◌, ◌∙◌, ℕ, Bool, true, false, List, [], ◌∷◌, Option, Some, None, ap, refl, subst, sym}
-use Rattle.std.specs.Prelude.{fold, option_map, ◌==◌, if◌then◌else◌}
+use Rattle.std.proofs.Common.{◌≡◌, ℕ, Bool, true, false, List, [], ◌∷◌, Option, Some, None, refl, subst, sym}
+use Rattle.std.specs.Prelude.{option_map, ◌==◌, if◌then◌else◌}
 use Rattle.std.specs.List.Sorted.{IsStrictlySortedBy}
 use Rattle.std.specs.Option.{option_and_then}
 use Rattle.std.specs.Ordering.{nat_cmp}
@@ -40,7 +40,7 @@ use Rattle.bosh_records.specs.Table.{changed, each_thing, thing_in, without}
 use Rattle.bosh_records.specs.declared.keys.KeyState.{KeyState}
 use Rattle.bosh_records.specs.declared.machines.Machine.{Machine}
 use Rattle.bosh_work.specs.Finished as finished
-use Rattle.bosh_work.specs.Line.{finished_line, given_line, taken_line}
+use Rattle.bosh_work.specs.Line.{finished_line, given_line}
 use Rattle.bosh_work.specs.Work as works
 use Rattle.bosh_work.specs.declared.line.Line.{Line}
 use Rattle.bosh_work.specs.declared.part.MachineName.{MachineName}

@@ -1,15 +1,14 @@
 -- Compile machines that are recorded are no more than calls began, after each entry that may be noted.
-use Rattle.std.proofs.Common.{◌≡◌, ◌∙◌, ◌+◌, ◌≤◌, ℕ, Bool, true, false, List, [], ◌∷◌, Option, Some, None, ap, arith, refl, sym}
+use Rattle.std.proofs.Common.{◌≡◌, ◌+◌, ◌≤◌, ℕ, Bool, true, false, List, [], ◌∷◌, Option, Some, None, ap, arith}
 use Rattle.std.specs.Prelude.{length, if◌then◌else◌}
 use Rattle.bosh_base.specs.declared.answer.Answer.{Answer}
 use Rattle.bosh_base.specs.declared.call.Call.{Call}
 use Rattle.bosh_base.specs.declared.entry.Begin.{Begin}
-use Rattle.bosh_base.specs.declared.entry.End.{End}
 use Rattle.bosh_base.specs.declared.entry.Entry.{Entry}
 use Rattle.bosh_base.specs.declared.entry.Entry.TheVariants as entries
 use Rattle.bosh_base.specs.declared.owner.Owner.{Owner}
 use Rattle.bosh_base.specs.declared.owner.Owner.TheVariants.{Compile, Disk, Instance}
-use Rattle.bosh_history.specs.Calls.{begins, call_ended, ends_of, orphan_after, shows_gone, slot_answered}
+use Rattle.bosh_history.specs.Calls.{begins, call_ended, ends_of, orphan_after, slot_answered}
 use Rattle.bosh_history.specs.Known.{Known, Slot, SlotName}
 use Rattle.bosh_history.specs.Learn.{learn}
 use Rattle.bosh_history.specs.Moments.{Moment}

@@ -6,10 +6,8 @@ use Rattle.std.proofs.lemmas.Bool.{and_from, and_parts, eq-eqb, eqb-true, falseâ
 use Rattle.std.proofs.lemmas.Bool.Decides.{nat_tests}
 use Rattle.bosh_base.specs.declared.answer.Answer.{Answer}
 use Rattle.bosh_base.specs.declared.entry.Begin.{Begin}
-use Rattle.bosh_base.specs.declared.entry.End.{End}
 use Rattle.bosh_base.specs.declared.entry.Entry.{Entry}
 use Rattle.bosh_base.specs.declared.entry.Entry.TheVariants as entries
-use Rattle.bosh_base.specs.declared.entry.TaskError.{TaskError}
 use Rattle.bosh_base.specs.declared.entry.TaskOpen.{TaskOpen}
 use Rattle.bosh_base.specs.declared.failure.Failure.{Failure}
 use Rattle.bosh_base.specs.declared.failure.Failure.TheVariants as failures
@@ -31,8 +29,6 @@ use Rattle.bosh_history.specs.Words.{is_among}
 use Rattle.bosh_plan.specs.WorkBy.{work_by}
 use Rattle.bosh_records.specs.Recorded.{recorded}
 use Rattle.bosh_records.specs.declared.records.Records.{Records}
-use Rattle.bosh_work.specs.declared.part.MachineName.{MachineName}
-use Rattle.bosh_work.specs.declared.work.Work.{Work}
 use Rattle.laws_facts.proofs.LockLemmas.{is_opening, note_stays}
 use Rattle.laws_facts.proofs.WorkLemmas.{opens_next}
 use Rattle.laws_facts.specs.KnownFacts.{KnownFacts}

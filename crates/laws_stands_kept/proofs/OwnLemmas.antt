@@ -1,49 +1,29 @@
 -- What is told of tasks that have not ended goes on to be of their deployments, after each entry that is permitted.
-use Rattle.std.proofs.Common.{◌≡◌, ◌∙◌, ◌+◌, ◌<◌, ◌≤◌, ℕ, Bool, true, false, ◌&&◌, ◌||◌, List, [], ◌∷◌, not, Option, Some, None, ap, arith, refl, subst, sym}
-use Rattle.std.specs.Prelude.{eqb, is_some, length, nat_le, nat_lt, if◌then◌else◌, ◌==◌}
-use Rattle.std.specs.List.{list_any}
-use Rattle.std.specs.Str.{bytes_eq}
-use Rattle.std.proofs.lemmas.Bool.{and_from, and_parts, eq-eqb, eqb-true, false≢true, le-leb, leb-true, lt-ltb, ltb-true, or_parts, true≢false}
+use Rattle.std.proofs.Common.{◌≡◌, ◌∙◌, ◌<◌, ◌≤◌, ℕ, Bool, true, false, ◌&&◌, Option, Some, None, ap, arith, refl, subst, sym}
+use Rattle.std.specs.Prelude.{eqb, is_some, nat_le, nat_lt, if◌then◌else◌, ◌==◌}
+use Rattle.std.proofs.lemmas.Bool.{and_from, and_parts, eqb-true, false≢true, leb-true, ltb-true, true≢false}
 use Rattle.std.proofs.lemmas.Bool.Decides.{nat_tests}
-use Rattle.std.proofs.lemmas.Slice.Eq.{bytes_eq-Decides}
 use Rattle.bosh_base.specs.Cloud.{numbers_to}
-use Rattle.bosh_base.specs.declared.answer.Answer.{Answer}
 use Rattle.bosh_base.specs.declared.entry.Begin.{Begin}
-use Rattle.bosh_base.specs.declared.entry.Entry.{Entry}
 use Rattle.bosh_base.specs.declared.entry.Entry.TheVariants as entries
 use Rattle.bosh_base.specs.declared.entry.TaskError.{TaskError}
-use Rattle.bosh_base.specs.declared.entry.TaskOpen.{TaskOpen}
-use Rattle.bosh_base.specs.declared.failure.Failure.{Failure}
-use Rattle.bosh_base.specs.declared.goal.Goal.{Goal}
-use Rattle.bosh_base.specs.declared.goal.GoalRow.{GoalRow}
-use Rattle.bosh_base.specs.declared.inst.Inst.{Inst}
 use Rattle.bosh_base.specs.declared.owner.Owner.{Owner}
 use Rattle.bosh_base.specs.declared.owner.Owner.TheVariants.{Compile, Disk, Instance}
 use Rattle.bosh_base.specs.declared.task.TaskEnd.{TaskEnd}
-use Rattle.bosh_base.specs.declared.task.TaskKind.{TaskKind}
-use Rattle.bosh_base.specs.declared.task.TaskKind.TheVariants as kinds
 use Rattle.bosh_history.specs.Calls as history
 use Rattle.bosh_history.specs.Held.{is_open}
 use Rattle.bosh_history.specs.Items.{is_item}
-use Rattle.bosh_history.specs.Known.{Known, Slot, SlotName, Task, dep_named, dep_of_task, offers_in, with_task}
-use Rattle.bosh_history.specs.Learn.{learn}
-use Rattle.bosh_history.specs.Moments.{Moment, OpenCall, noting}
-use Rattle.bosh_history.specs.Notes.{MayNote, Outside}
-use Rattle.bosh_history.specs.Openings.{MayOpen}
-use Rattle.bosh_history.specs.Orders.{same_slot, slot_cmp}
-use Rattle.bosh_history.specs.Recovered.{is_interruption, is_recovering, may_follow}
-use Rattle.bosh_history.specs.Slots.{slot_after}
+use Rattle.bosh_history.specs.Known.{Known, Slot, Task}
+use Rattle.bosh_history.specs.Moments.{Moment, OpenCall}
+use Rattle.bosh_history.specs.Recovered.{is_recovering}
 use Rattle.bosh_history.specs.Tasks.{end_by}
-use Rattle.bosh_history.specs.Words.{at, holds, inserted, is_among, without}
+use Rattle.bosh_history.specs.Words.{holds, is_among}
 use Rattle.bosh_rows.specs.Same.{same_inst}
 use Rattle.laws_claims.proofs.FactLemmas.{calls_own}
 use Rattle.laws_claims.proofs.OwnLemmas.{dep_of_instance}
-use Rattle.laws_facts.proofs.FrameLemmas.{begun_tasks, goals_begin, goals_end, goals_updated, numbers_done, numbers_end, numbers_updated, slots_done, slots_updated}
-use Rattle.laws_facts.proofs.LockLemmas.{is_opening, note_stays}
-use Rattle.laws_facts.proofs.WorkLemmas.{opens_next}
 use Rattle.laws_facts.specs.CallFacts.{CallFacts}
 use Rattle.laws_facts.specs.KnownFacts.{KnownFacts}
-use Rattle.laws_facts.specs.OpenCalls.{fits_known, fits_slot, is_on_orphan}
+use Rattle.laws_facts.specs.OpenCalls.{fits_known, fits_slot}
 use Rattle.laws_facts.specs.Owners.{works}
 use Rattle.laws_items.proofs.ListLemmas.{any_in}
 use Rattle.laws_items.proofs.ListedLemmas.{NamesItsOwn, names_its_own, numbered_in}
@@ -52,7 +32,6 @@ use Rattle.laws_stands.specs.Agrees.{Agrees}
 use Rattle.laws_stands.specs.Told.{TellsWell, Told, is_going, of_others, telling}
 use Rattle.laws_stands_fits.specs.Own.{IsOwn, ListsOwn, TellsOwn}
 use Rattle.laws_stands_machines.proofs.FactLemmas.{item_dep}
-use Rattle.laws_stands_machines.proofs.InsertedLemmas.{length_inserted}
 
 -- ---- where no task is left that a stop interrupted
 

@@ -1,5 +1,5 @@
 -- A deployment that is not recorded offers nothing, after each entry that is permitted.
-use Rattle.std.proofs.Common.{◌≡◌, ◌∙◌, ◌++◌, ℕ, Bool, true, false, ◌||◌, List, [], ◌∷◌, Option, Some, None, ap, refl, subst, sym}
+use Rattle.std.proofs.Common.{◌≡◌, ◌∙◌, ◌++◌, ℕ, Bool, true, false, List, [], ◌∷◌, Option, Some, None, ap, refl, sym}
 use Rattle.std.specs.Prelude.{is_some, if◌then◌else◌}
 use Rattle.std.specs.List.{list_any}
 use Rattle.std.specs.Str.{bytes_eq}
@@ -17,7 +17,7 @@ use Rattle.bosh_history.specs.Learn.{learn}
 use Rattle.bosh_history.specs.Moments.{Moment}
 use Rattle.bosh_history.specs.Notes.{MayNote, Outside}
 use Rattle.bosh_history.specs.Recovered.{may_follow}
-use Rattle.bosh_history.specs.Tasks.{deployment_listed, listed, settles}
+use Rattle.bosh_history.specs.Tasks.{deployment_listed, settles}
 use Rattle.bosh_history.specs.Words.{at, is_among, without}
 use Rattle.bosh_rows.specs.Standing.{same_truth}
 use Rattle.laws_facts.proofs.CurrentLemmas.{done_works}
@@ -25,7 +25,7 @@ use Rattle.laws_facts.proofs.FrameLemmas.{SameGoals, goals_begin, goals_end, goa
 use Rattle.laws_facts.specs.KnownFacts.{KnownFacts}
 use Rattle.laws_facts.specs.Owners.{works}
 use Rattle.bosh_history.specs.Deletions.{is_clean_up}
-use Rattle.laws_items.proofs.ListedLemmas.{Lists, ListsDisks, ListsInstances, disks, instances, lists}
+use Rattle.laws_items.proofs.ListedLemmas.{Lists, disks, instances, lists}
 use Rattle.laws_stands_ends.proofs.WithoutLemmas.{any_without}
 
 abbrev Unshared : Known → Type 0

@@ -1,11 +1,9 @@
 -- Calls of compile machines that may be noted, as they are learned.
-use Rattle.std.proofs.Common.{◌≡◌, ◌∙◌, ◌+◌, ◌<◌, ◌≤◌, ℕ, Bool, true, false, ◌&&◌, ◌==◌, List, [], Option, Some, None, ap, arith, refl, subst, sym}
-use Rattle.std.specs.Prelude.{count_by, eqb, find, is_some, length, if◌then◌else◌}
-use Rattle.std.specs.BTreeMap.{is_at}
+use Rattle.std.proofs.Common.{◌≡◌, ◌∙◌, ◌+◌, ◌<◌, ◌≤◌, ℕ, Bool, true, false, ◌&&◌, ◌==◌, [], Option, Some, None, ap, arith, refl, subst, sym}
+use Rattle.std.specs.Prelude.{count_by, find, is_some, length, if◌then◌else◌}
 use Rattle.std.specs.Option.{option_and_then, option_map, option_map_or}
 use Rattle.std.specs.Ordering.{nat_cmp}
-use Rattle.std.proofs.lemmas.Bool.{and_parts, eq-eqb, eqb-true, false≢true, true≢false}
-use Rattle.bosh_base.specs.Cloud.{numbers_to}
+use Rattle.std.proofs.lemmas.Bool.{and_parts, eq-eqb, false≢true, true≢false}
 use Rattle.bosh_base.specs.declared.answer.Answer.{Answer}
 use Rattle.bosh_base.specs.declared.call.Call.{Call}
 use Rattle.bosh_base.specs.declared.call.Call.TheVariants as calls
@@ -16,17 +14,15 @@ use Rattle.bosh_base.specs.declared.key.Key.{Key}
 use Rattle.bosh_base.specs.declared.make.Make.{Make}
 use Rattle.bosh_base.specs.declared.owner.Owner.TheVariants.{Compile}
 use Rattle.bosh_compile.proofs.KeyLemmas.{same_key_decides}
-use Rattle.bosh_compile.specs.Readiness.{same_key}
 use Rattle.bosh_fold.specs.Calls.{begun_in, ended_in}
 use Rattle.bosh_fold.specs.Learns.{Learns}
 use Rattle.bosh_history.specs.Calls.{key_for}
-use Rattle.bosh_history.specs.Items.{is_item, is_slot_left, slots_of}
+use Rattle.bosh_history.specs.Items.{is_item, slots_of}
 use Rattle.bosh_history.specs.Known.{Known, Slot, SlotName, dep_named, dep_of_task}
 use Rattle.bosh_history.specs.Moments.{Moment, OpenCall}
 use Rattle.bosh_history.specs.Notes.{Begins}
-use Rattle.bosh_history.specs.Orders.{same_slot}
 use Rattle.bosh_history.specs.Recovered.{may_follow}
-use Rattle.bosh_history.specs.Slots.{keys_of, may_take, next_key}
+use Rattle.bosh_history.specs.Slots.{keys_of, may_take}
 use Rattle.bosh_history.specs.Steps as steps
 use Rattle.bosh_history.specs.Steps.{call_now, compile_make, compiles, creation, is_compiling, nth, own_slot, sweep_call}
 use Rattle.bosh_history.specs.Words.{holds, is_among}
@@ -34,16 +30,13 @@ use Rattle.bosh_plan.specs.Begun as begun
 use Rattle.bosh_plan.specs.Begun.{subject_of}
 use Rattle.bosh_plan.specs.Ended.{ended_of}
 use Rattle.bosh_plan.specs.Roomy.{roomy_for_call}
-use Rattle.bosh_plan.specs.declared.beginning.Subject.{Subject}
 use Rattle.bosh_plan.specs.declared.beginning.Subject.TheVariants as subjects
 use Rattle.bosh_records.specs.Keys.{asked, key_cmp}
 use Rattle.bosh_records.specs.NextKey as keys
-use Rattle.bosh_records.specs.Readers as readers
-use Rattle.bosh_records.specs.Readers.{machine_cmp, work_at}
+use Rattle.bosh_records.specs.Readers.{machine_cmp}
 use Rattle.bosh_records.specs.Recorded.{Recorded, recorded}
-use Rattle.bosh_records.specs.Table.{found, with_room}
+use Rattle.bosh_records.specs.Table.{found}
 use Rattle.bosh_records.specs.declared.records.Records.{Records}
-use Rattle.bosh_rows.specs.Same.{same_owner}
 use Rattle.bosh_work.specs.declared.part.MachineName.{MachineName}
 use Rattle.bosh_work.specs.declared.work.Work.{Work}
 use Rattle.laws_allowed.proofs.WorkingLemmas.{IsAtWork, at_work}
@@ -56,21 +49,19 @@ use Rattle.laws_facts.specs.CallFacts.{CallFacts}
 use Rattle.laws_facts.specs.KnownFacts.{KnownFacts}
 use Rattle.laws_facts.specs.OpenCalls.{fits_known, fits_slot}
 use Rattle.laws_facts.specs.Owners.{works}
-use Rattle.laws_items.proofs.ListedLemmas.{Lists, ListsDisks, ListsInstances, WorksAt, disks, instances, lists, works_at}
+use Rattle.laws_items.proofs.ListedLemmas.{Lists, WorksAt, disks, instances, lists, works_at}
 use Rattle.laws_stands.specs.Agrees.{Agrees}
 use Rattle.laws_stands.specs.Linked.{same_machine}
 use Rattle.laws_stands.specs.Reading.{state_of, work_of}
-use Rattle.laws_stands.specs.Stands.{Stands, StandsIn, StandsInOrder, key_place}
-use Rattle.laws_stands.specs.Told.{Told, is_going, telling}
+use Rattle.laws_stands.specs.Stands.{Stands, StandsInOrder, key_place}
+use Rattle.laws_stands.specs.Told.{Told, telling}
 use Rattle.laws_stands_begun.proofs.SlotBegunLemmas.{after_slot_begin}
 use Rattle.laws_stands_begun.specs.Beginning.{HasRoom}
 use Rattle.laws_stands_ends.specs.Dropping.{AllowsGoing}
 use Rattle.laws_stands_ends.proofs.SlotEndedLemmas.{after_slot_end}
 use Rattle.laws_stands_fits.proofs.EntriesLemmas.{whole_with_room}
-use Rattle.laws_stands_fits.specs.Fits.{Fits}
-use Rattle.laws_stands_fits.specs.Own.{TellsOwn}
 use Rattle.laws_stands_fits.specs.Whole.{StandsWhole}
-use Rattle.laws_stands_machines.proofs.FactLemmas.{allows_ending, allows_slot, item_dep, keys_apart, listed_as, own_item, stays_listed}
+use Rattle.laws_stands_machines.proofs.FactLemmas.{allows_ending, allows_slot, keys_apart, listed_as, own_item, stays_listed}
 use Rattle.laws_stands_machines.proofs.InsertedLemmas.{count_most}
 use Rattle.laws_stands_machines.proofs.KindLemmas.{IsCallOfMachine, makes, of_its_own, sweeps}
 use Rattle.laws_stands_machines.proofs.MakesLemmas.{machine_begins, slot_to_make}
@@ -85,7 +76,7 @@ use Rattle.laws_stands_on.proofs.TableLemmas.{there_roomy}
 use Rattle.laws_stands_on.specs.Allows.{AllowsNext}
 use Rattle.laws_stands_slots.proofs.KeyBuiltLemmas.{key_at}
 use Rattle.laws_stands_slots.proofs.SlotTableLemmas.{machine_at}
-use Rattle.laws_stands_slots.specs.Slots.{AllowsSlot, named}
+use Rattle.laws_stands_slots.specs.Slots.{AllowsSlot}
 
 none_is : (o : Option Failure) → is_some o ≡ false → o ≡ None
 none_is (Some failure) is = absurd (true≢false is)

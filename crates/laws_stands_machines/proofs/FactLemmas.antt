@@ -1,5 +1,5 @@
 -- What the facts at a moment say of a compile machine of which a task that works makes calls.
-use Rattle.std.proofs.Common.{◌≡◌, ◌∙◌, ℕ, ◌+◌, ◌≤◌, Bool, true, false, ◌&&◌, ◌||◌, ◌==◌, List, [], ◌∷◌, map, not, Option, Some, None, ap, arith, refl, subst, sym}
+use Rattle.std.proofs.Common.{◌≡◌, ◌∙◌, ℕ, ◌+◌, Bool, true, false, ◌&&◌, ◌||◌, ◌==◌, List, [], ◌∷◌, map, not, Option, Some, None, ap, arith, refl, sym}
 use Rattle.std.specs.Prelude.{cond, count_by, eqb, is_some, if◌then◌else◌}
 use Rattle.std.specs.List.{list_all, list_any}
 use Rattle.std.specs.Option.{option_eq}
@@ -7,16 +7,15 @@ use Rattle.std.specs.Str.{bytes_eq}
 use Rattle.std.proofs.lemmas.Bool.{and_from, and_parts, eq-eqb, eqb-true, false≢true, or_parts, true≢false}
 use Rattle.std.proofs.lemmas.List.Sums.{sum_by-cons}
 use Rattle.std.proofs.lemmas.Slice.Eq.{bytes_eq-Decides}
-use Rattle.bosh_base.specs.declared.goal.Goal.{Goal}
 use Rattle.bosh_base.specs.declared.key.Key.{Key}
 use Rattle.bosh_base.specs.declared.key.KeyWork.{KeyWork}
 use Rattle.bosh_base.specs.declared.owner.Owner.TheVariants.{Compile}
 use Rattle.bosh_compile.proofs.KeyLemmas.{same_key_decides}
 use Rattle.bosh_compile.specs.Readiness as readiness
 use Rattle.bosh_compile.specs.Readiness.{same_key}
-use Rattle.bosh_history.specs.Items.{is_item, is_leftover, is_slot_left, phase_of}
+use Rattle.bosh_history.specs.Items.{is_item, is_leftover, is_slot_left}
 use Rattle.bosh_history.specs.Keys.{stand_after_needs}
-use Rattle.bosh_history.specs.Known.{Known, Slot, SlotName, Task}
+use Rattle.bosh_history.specs.Known.{Known, Slot, SlotName}
 use Rattle.bosh_history.specs.Moments.{Moment}
 use Rattle.bosh_history.specs.Orders.{same_slot, slot_cmp}
 use Rattle.bosh_history.specs.Slots.{is_compiled, is_taken, takes, works_for}
@@ -27,19 +26,15 @@ use Rattle.laws_choices.proofs.SameCallLemmas.{told_at}
 use Rattle.laws_claims.proofs.FactLemmas.{calls_own}
 use Rattle.laws_facts.proofs.MachineLemmas.{slot_tells}
 use Rattle.laws_facts.proofs.OrderLemmas.{among_inserted, ascending_inserted, distinct_ascending}
-use Rattle.laws_facts.specs.CompileMachines.{is_for, is_slot_alone}
+use Rattle.laws_facts.specs.CompileMachines.{is_for}
 use Rattle.laws_facts.specs.KnownFacts.{KnownFacts}
-use Rattle.laws_facts.specs.Lists.{is_machine_listed}
 use Rattle.laws_facts.specs.Owners.{works}
-use Rattle.laws_items.proofs.ListedLemmas.{Lists, ListsInstances, at_some, disks, goal_facts, implied, instances, lists}
+use Rattle.laws_items.proofs.ListedLemmas.{Lists, at_some, disks, goal_facts, implied, instances, lists}
 use Rattle.laws_items.proofs.PhaseLemmas.{IsLeft, of_item}
-use Rattle.laws_row_facts.specs.Words.{implies, where_any}
-use Rattle.laws_stands.specs.Stands.{key_of_slot}
 use Rattle.laws_stands.specs.Told.{is_going}
 use Rattle.laws_stands.specs.WorkStands.{keys_in}
-use Rattle.laws_stands_begun.specs.Beginning.{IsListed}
 use Rattle.laws_stands_ends.specs.Dropping.{AllowsGoing}
-use Rattle.laws_stands_noted.proofs.TaskLemmas.{going, other_dep, works_too}
+use Rattle.laws_stands_noted.proofs.TaskLemmas.{other_dep, works_too}
 use Rattle.laws_stands_slots.specs.Slots.{AllowsSlot, AreKeysApart, named}
 use Rattle.laws_stands_works.proofs.InOrderLemmas.{same_in_order}
 use Rattle.laws_stands_works.proofs.SweptLemmas.{slot_equal, slot_is, slot_own, slot_total}

@@ -1,7 +1,7 @@
 -- Which call is to be made for a compile machine: none that makes one, where it is recorded, and none that compiles a key
 -- that is being compiled.
-use Rattle.std.proofs.Common.{◌≡◌, ◌∙◌, ℕ, Bool, true, false, List, [], Option, Some, None, ap, refl, subst, sym}
-use Rattle.std.specs.Prelude.{find, if◌then◌else◌}
+use Rattle.std.proofs.Common.{◌≡◌, ◌∙◌, ℕ, Bool, true, false, [], Option, Some, None, ap, refl, subst, sym}
+use Rattle.std.specs.Prelude.{if◌then◌else◌}
 use Rattle.std.specs.Option.{option_and_then, option_map}
 use Rattle.std.proofs.lemmas.Bool.{false≢true}
 use Rattle.bosh_base.specs.declared.call.Call.{Call}

@@ -1,12 +1,11 @@
 -- What is told once a compile machine is recorded that is being made.
-use Rattle.std.proofs.Common.{◌≡◌, ◌∙◌, ℕ, Bool, true, false, ◌&&◌, ◌==◌, List, [], ◌∷◌, map, not, Option, Some, None, ap, refl, sym, subst}
-use Rattle.std.specs.Prelude.{eqb, filter, is_some, if◌then◌else◌, ◌||◌}
-use Rattle.std.specs.List.{list_any}
+use Rattle.std.proofs.Common.{◌≡◌, ◌∙◌, ℕ, Bool, true, false, ◌&&◌, ◌==◌, List, map, not, Option, Some, None, ap, refl, sym, subst}
+use Rattle.std.specs.Prelude.{eqb, is_some, if◌then◌else◌, ◌||◌}
 use Rattle.std.specs.Option.{option_eq}
 use Rattle.std.specs.Ordering.{is_eq}
 use Rattle.std.specs.Str.{bytes_eq}
 use Rattle.std.specs.declared.cmp.Ordering.TheVariants.{Equal}
-use Rattle.std.proofs.lemmas.Bool.{and_parts, eq-eqb, eqb-true, false≢true, true≢false}
+use Rattle.std.proofs.lemmas.Bool.{eq-eqb, eqb-true, false≢true, true≢false}
 use Rattle.std.proofs.lemmas.Slice.Eq.{bytes_eq-Decides}
 use Rattle.bosh_base.specs.declared.key.Key.{Key}
 use Rattle.bosh_compile.proofs.KeyLemmas.{same_key_decides}
@@ -15,7 +14,7 @@ use Rattle.bosh_history.specs.Items.{is_leftover}
 use Rattle.bosh_history.specs.Known.{Known, Slot, SlotName}
 use Rattle.bosh_history.specs.Orders.{same_slot, slot_cmp}
 use Rattle.bosh_history.specs.Slots.{is_compiled, works_for}
-use Rattle.bosh_history.specs.Words.{at, holds, inserted, is_among}
+use Rattle.bosh_history.specs.Words.{holds, is_among}
 use Rattle.bosh_records.specs.Recorded.{Recorded}
 use Rattle.bosh_work.specs.Line.{taken_line}
 use Rattle.bosh_work.specs.declared.line.Line.{Line}
@@ -31,7 +30,6 @@ use Rattle.laws_stands.specs.WorkStands.{is_worked_for, keys_in}
 use Rattle.laws_stands_ends.proofs.DroppedToldLemmas.{key_placed, same_slot_is}
 use Rattle.laws_stands_machines.proofs.InsertedLemmas.{any_but, filter_but, filter_inserted}
 use Rattle.laws_stands_machines.specs.Making.{AllowsMake, told_made}
-use Rattle.laws_stands_on.proofs.ChangedLemmas.{eqb_flip}
 use Rattle.laws_stands_slots.proofs.SlotTableLemmas.{machine_at, with_slot_is}
 use Rattle.laws_stands_slots.specs.Slots.{named}
 

@@ -1,31 +1,28 @@
 -- The works once a compile machine is recorded that is being made.
-use Rattle.std.proofs.Common.{◌≡◌, ◌∙◌, ◌+◌, ◌≤◌, ℕ, Bool, true, false, ◌==◌, List, not, Option, Some, None, ap, arith, refl, sym, subst}
+use Rattle.std.proofs.Common.{◌≡◌, ◌∙◌, ◌+◌, ◌≤◌, ℕ, Bool, true, false, ◌==◌, List, Option, Some, None, ap, arith, refl, sym, subst}
 use Rattle.std.specs.Prelude.{cond, count_by, eqb, is_some, min, option_map, slice_get, if◌then◌else◌}
 use Rattle.std.specs.Ordering.{nat_cmp}
-use Rattle.std.proofs.lemmas.Bool.{eq-eqb, eqb-true, true≢false}
+use Rattle.std.proofs.lemmas.Bool.{eq-eqb, eqb-true}
 use Rattle.bosh_base.specs.declared.owner.Owner.TheVariants.{Compile}
-use Rattle.bosh_history.specs.Known.{Known, Slot, SlotName, Task}
+use Rattle.bosh_history.specs.Known.{Known, Slot, SlotName}
 use Rattle.bosh_history.specs.Orders.{same_slot, slot_cmp}
-use Rattle.bosh_history.specs.Slots.{is_compiled}
 use Rattle.bosh_history.specs.Words.{is_among}
 use Rattle.bosh_records.specs.Recorded.{Recorded}
 use Rattle.bosh_records.specs.Table.{changed}
-use Rattle.bosh_work.specs.Line.{taken_line}
 use Rattle.bosh_work.specs.Work.{with_machine}
 use Rattle.bosh_work.specs.declared.part.MachineName.{MachineName}
 use Rattle.bosh_work.specs.declared.work.Work.{Work}
 use Rattle.laws_stands.proofs.PremiseLemmas.{none_at}
-use Rattle.laws_stands.specs.LineStands.{LineStands}
 use Rattle.laws_stands.specs.Linked.{same_machine}
 use Rattle.laws_stands.specs.Reading.{work_of}
-use Rattle.laws_stands.specs.Stands.{AreSwept, IsWork, StandsIn, key_place}
-use Rattle.laws_stands.specs.Told.{Told, is_going, is_idle}
-use Rattle.laws_stands.specs.WorkStands.{StandsFor, is_worked_for, keys_in}
+use Rattle.laws_stands.specs.Stands.{IsWork, StandsIn, key_place}
+use Rattle.laws_stands.specs.Told.{Told, is_idle}
+use Rattle.laws_stands.specs.WorkStands.{StandsFor}
 use Rattle.laws_stands_machines.proofs.InsertedLemmas.{count_inserted}
 use Rattle.laws_stands_machines.proofs.MadeToldLemmas.{keys_taken, slot_equal, slot_other, swept_now, worked_other}
 use Rattle.laws_stands_machines.specs.Making.{AllowsMake, told_made}
 use Rattle.laws_stands_on.proofs.ChangedLemmas.{thing_at_key}
-use Rattle.laws_stands_on.proofs.ListedLemmas.{SameListed, line_on, listed_goes_on}
+use Rattle.laws_stands_on.proofs.ListedLemmas.{line_on, listed_goes_on}
 use Rattle.laws_stands_slots.specs.Slots.{named}
 
 module _ (told : Told) (it : Recorded) (t s : ℕ) (slot : Slot) (allows : AllowsMake told it t s slot)

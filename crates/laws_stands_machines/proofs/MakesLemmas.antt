@@ -1,5 +1,5 @@
 -- A call that makes a compile machine begins.
-use Rattle.std.proofs.Common.{◌≡◌, ◌∙◌, ◌+◌, ◌&&◌, ℕ, true, [], Option, Some, None, ap, arith, refl, subst, sym}
+use Rattle.std.proofs.Common.{◌≡◌, ◌∙◌, ◌+◌, ◌&&◌, ℕ, true, [], Some, None, refl, subst, sym}
 use Rattle.std.specs.Prelude.{cond, count_by, is_some, option_map}
 use Rattle.std.specs.List.Sorted.{IsStrictlySortedBy}
 use Rattle.std.specs.Ordering.{nat_cmp}
@@ -12,9 +12,8 @@ use Rattle.bosh_base.specs.declared.make.Make.{Make}
 use Rattle.bosh_base.specs.declared.owner.Owner.TheVariants.{Compile}
 use Rattle.bosh_fold.specs.Calls.{begun_in, with_machine_of}
 use Rattle.bosh_history.specs.Calls.{key_for}
-use Rattle.bosh_history.specs.Known.{Known, Slot, SlotName, dep_of_task}
+use Rattle.bosh_history.specs.Known.{Known, Slot, dep_of_task}
 use Rattle.bosh_history.specs.Orders.{same_slot, slot_cmp}
-use Rattle.bosh_history.specs.Words.{inserted, is_among}
 use Rattle.bosh_plan.specs.Begun.{subject_of}
 use Rattle.bosh_plan.specs.declared.beginning.Subject.{Subject}
 use Rattle.bosh_plan.specs.declared.beginning.Subject.TheVariants as subjects
@@ -22,7 +21,6 @@ use Rattle.bosh_records.specs.Ordered.{AreOrdered}
 use Rattle.bosh_records.specs.Readers.{machine_cmp}
 use Rattle.bosh_records.specs.Recorded.{Recorded}
 use Rattle.bosh_records.specs.Table.{found}
-use Rattle.bosh_records.specs.declared.machines.Machine.{Machine}
 use Rattle.bosh_records.specs.declared.records.Records.{Records}
 use Rattle.bosh_work.specs.Work.{with_machine}
 use Rattle.bosh_work.specs.declared.part.MachineName.{MachineName}

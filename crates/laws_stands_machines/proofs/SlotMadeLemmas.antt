@@ -1,10 +1,9 @@
 -- A compile machine is recorded that is being made.
-use Rattle.std.proofs.Common.{◌≡◌, ◌∙◌, ℕ, Bool, true, false, Option, Some, None, ap, refl, sym, subst}
-use Rattle.std.specs.Prelude.{eqb, is_some, option_map, if◌then◌else◌}
-use Rattle.std.specs.BTreeMap.{is_at}
+use Rattle.std.proofs.Common.{◌≡◌, ◌∙◌, ℕ, Bool, true, false, Option, Some, None, ap, refl, sym}
+use Rattle.std.specs.Prelude.{is_some, option_map, if◌then◌else◌}
 use Rattle.std.specs.Option.{option_and_then}
 use Rattle.std.specs.Ordering.{nat_cmp}
-use Rattle.std.proofs.lemmas.Bool.{eq-eqb, eqb-true, false≢true}
+use Rattle.std.proofs.lemmas.Bool.{false≢true}
 use Rattle.bosh_base.specs.Cloud.{numbers_to}
 use Rattle.bosh_base.specs.declared.entry.Begin.{Begin}
 use Rattle.bosh_base.specs.declared.owner.Owner.TheVariants.{Compile}
@@ -12,7 +11,7 @@ use Rattle.bosh_history.specs.Known.{Known, Slot}
 use Rattle.bosh_history.specs.Words.{holds, is_among}
 use Rattle.bosh_records.specs.Readers.{machine_cmp}
 use Rattle.bosh_records.specs.Recorded.{Recorded}
-use Rattle.bosh_records.specs.Table.{changed, found, put_at, thing_in}
+use Rattle.bosh_records.specs.Table.{changed, found, put_at}
 use Rattle.bosh_records.specs.declared.machines.Machine.{Machine}
 use Rattle.bosh_rows.specs.Same.{same_owner}
 use Rattle.bosh_work.specs.Work.{with_machine}

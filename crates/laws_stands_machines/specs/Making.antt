@@ -1,5 +1,5 @@
 -- What a compile machine needs to be recorded that is being made, and what is told once it is.
-use Rattle.std.specs.Prelude.{◌≡◌, ◌≤◌, ◌+◌, ◌==◌, ℕ, List, None, Some, count_by, eqb, false, is_some, true}
+use Rattle.std.specs.Prelude.{◌≡◌, ◌≤◌, ◌+◌, ◌==◌, ℕ, None, Some, count_by, eqb, false, is_some, true}
 use Rattle.bosh_base.specs.declared.owner.Owner.TheVariants.{Compile}
 use Rattle.bosh_compile.specs.Readiness.{same_key}
 use Rattle.bosh_history.specs.Known.{Slot, SlotName}
@@ -10,7 +10,6 @@ use Rattle.bosh_records.specs.Recorded.{Recorded}
 use Rattle.bosh_records.specs.Table.{found}
 use Rattle.bosh_records.specs.declared.machines.Machine.{Machine}
 use Rattle.bosh_rows.specs.SoundSnapshot.{are_distinct}
-use Rattle.bosh_work.specs.declared.part.MachineName.{MachineName}
 use Rattle.bosh_work.specs.declared.work.Work.{Work}
 use Rattle.laws_stands.specs.Linked.{same_machine}
 use Rattle.laws_stands.specs.Reading.{work_of}
