@@ -1,0 +1,4 @@
+pub mod HeldLemmas
+pub mod ListedLemmas
+pub mod TableLemmas
+pub mod ViewLemmas
