@@ -366,7 +366,8 @@ module _ (m : Moment) (calls : ℕ → Option Begin) (snapped : ℕ) (records : 
                 ≡ (if not ended then (if b then [] else slots goal) else [])
             of_dep true other b is goal low = refl
             of_dep false other true is goal low = refl
-            of_dep false other false is (Some goal) low = numbered_as t 0 goal.slots (let few : length goal.slots ≤ 4294967296 = low in omega arith)
+            of_dep false other false is (Some goal) low =
+                numbered_as t 0 goal.slots (let few : length goal.slots ≤ 4294967296 = low in omega arith)
             of_dep false other false is None low = refl
 
             whole : (other : List ℕ) → dep_of_task k t ≡ other

@@ -1,4 +1,5 @@
 pub mod HeldLemmas
 pub mod ListedLemmas
+pub mod ReadLemmas
 pub mod TableLemmas
 pub mod ViewLemmas

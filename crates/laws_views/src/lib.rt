@@ -1,6 +1,8 @@
 //! What is read from the records is what is known, and what opens by them may be noted.
 #![tactic(auto)]
 
+mod reading;
 mod views;
 
+pub use reading::what_is_known_is_read;
 pub use views::views_are_of_what_is_known;
