@@ -1,0 +1,18 @@
+//! What a goal depends on beside its manifest.
+ghost use Rattle.std.specs.Prelude.{◌≡◌, List, ℕ};
+ghost use Rattle.bosh_history.specs.Held.{view};
+ghost use Rattle.bosh_history.specs.Moments.{Moment};
+ghost use Rattle.bosh_records.specs.declared.records.Records.{Records};
+ghost use Rattle.bosh_views.specs.View.{view_of};
+ghost use Rattle.laws_facts.specs.KnownFacts.{KnownFacts};
+ghost use Rattle.laws_stands.specs.Agrees.{Agrees};
+ghost use Rattle.laws_stands.specs.Stands.{Stands};
+ghost use Rattle.laws_stands.specs.Told.{Told};
+ghost use Rattle.laws_views.specs.Viewed.{CanBeViewed};
+
+/// Where the records stand for what is told at a moment, the view of them is that of what is known: the goal, the rows and
+/// the compiled keys in order, the addresses that others hold or that are left over, and the links that are offered.
+pub fn views_are_of_what_is_known()
+    ensures { (m : Moment) (told : Told) (records : Records) (dep : List ℕ) → Stands told records → Agrees m told
+        → KnownFacts m → CanBeViewed m.known → view_of records dep ≡ view m.known dep }
+{}
