@@ -1,15 +1,15 @@
 mod BeginLemmas
-mod CallLemmas
+pub mod CallLemmas
 mod DiskLemmas
-mod DoneLemmas
-mod FailureLemmas
-mod GoneLemmas
+pub mod DoneLemmas
+pub mod FailureLemmas
+pub mod GoneLemmas
 mod ListedLemmas
 mod PlaceLemmas
 mod PresentLemmas
-mod SlotLemmas
+pub mod SlotLemmas
 mod SweepLemmas
-mod TaskDoneLemmas
+pub mod TaskDoneLemmas
 pub mod UpdateLemmas
-mod UploadLemmas
+pub mod UploadLemmas
 pub mod WorkingLemmas
