@@ -1,0 +1,6 @@
+use Rattle.laws_stands_snapshots.proofs.ReadLemmas.{snapshot_is}
+use Rattle.laws_stands_snapshots.proofs.snapshots.snapshot_of_the_records_is_that_of_what_is_known.Goals as goal
+
+pub returns : goal.returns
+returns c = λ m told records s stands agrees facts is built.
+    snapshot_is m told records s stands agrees.known_is facts.lists is built

@@ -1,0 +1,17 @@
+//! Snapshots of what is recorded, and what is recorded once one was read.
+ghost use Rattle.std.specs.Prelude.{◌≡◌};
+ghost use Rattle.bosh_base.specs.declared.snapshot.Snapshot.{Snapshot};
+ghost use Rattle.bosh_history.specs.Moments.{Moment};
+ghost use Rattle.bosh_history.specs.Snapshots.{snapshot_of};
+ghost use Rattle.bosh_records.specs.declared.records.Records.{Records};
+ghost use Rattle.bosh_views.specs.Snapshot.{IsSnapshot};
+ghost use Rattle.laws_facts.specs.KnownFacts.{KnownFacts};
+ghost use Rattle.laws_stands.specs.Agrees.{Agrees};
+ghost use Rattle.laws_stands.specs.Stands.{Stands};
+ghost use Rattle.laws_stands.specs.Told.{Told};
+
+/// Where the records stand for what is told at a moment, a snapshot of them tells just what is known.
+pub fn snapshot_of_the_records_is_that_of_what_is_known()
+    ensures { (m : Moment) (told : Told) (records : Records) (s : Snapshot) → Stands told records → Agrees m told
+        → KnownFacts m → IsSnapshot records s → s.built_keys ≡ m.known.built → s ≡ snapshot_of m.known }
+{}
