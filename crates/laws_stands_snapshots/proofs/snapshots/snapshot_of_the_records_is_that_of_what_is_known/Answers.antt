@@ -1,3 +1,4 @@
+use Rattle.laws_stands_snapshots.proofs.WantLemmas.{wants_are}
 use Rattle.laws_stands_snapshots.proofs.ReadLemmas.{snapshot_is}
 use Rattle.laws_stands_snapshots.proofs.snapshots.snapshot_of_the_records_is_that_of_what_is_known.Goals as goal
 
