@@ -1,7 +1,9 @@
+pub mod AnewLemmas
 pub mod FoldLemmas
 pub mod KeysLemmas
 pub mod NumberedLemmas
 pub mod OrderLemmas
 pub mod PlacesLemmas
 pub mod ReadLemmas
+pub mod TellsLemmas
 pub mod WantLemmas

@@ -4,17 +4,23 @@ use Rattle.std.proofs.Common.{ap, arith, refl, sym}
 use Rattle.std.specs.Prelude.{eqb, nat_le, nat_lt}
 use Rattle.std.specs.BTreeMap.{is_at}
 use Rattle.std.specs.List.{list_all, list_any}
-use Rattle.std.specs.Ordering.{nat_cmp}
+use Rattle.std.specs.Cmp.Lexicographic.{slice_cmp}
+use Rattle.std.specs.Ordering.{is_eq, nat_cmp, ordering_then}
 use Rattle.std.proofs.lemmas.Bool.{and_from, and_parts, eq-eqb}
 use Rattle.std.proofs.lemmas.Bool.Decides.{nat_tests}
-use Rattle.std.proofs.lemmas.Cmp.{nat_cmp_total, on_total, then_total}
+use Rattle.std.proofs.lemmas.Cmp.{nat_cmp_total, nat_list_cmp_total, on_total, then_total}
 use Rattle.std.proofs.lemmas.List.Folds.{list_all-append, list_any-append}
+use Rattle.std.proofs.lemmas.Map.Text.{is_eq-slice_cmp}
 use Rattle.bosh_base.specs.Cloud.{numbers_to}
 use Rattle.bosh_base.specs.Inst.{inst_cmp}
 use Rattle.bosh_base.specs.declared.inst.Inst.{Inst}
+use Rattle.bosh_base.specs.declared.key.Key.{Key}
+use Rattle.bosh_compile.proofs.KeyLemmas.{same_key_decides}
+use Rattle.bosh_compile.specs.Readiness.{same_key}
 use Rattle.bosh_history.specs.Known.{SlotName}
 use Rattle.bosh_history.specs.Orders.{same_slot, slot_cmp}
 use Rattle.bosh_history.specs.Words.{is_among}
+use Rattle.bosh_records.specs.Keys.{key_cmp}
 use Rattle.bosh_records.specs.Readers.{machine_cmp}
 use Rattle.bosh_rows.proofs.SameLemmas.{same_inst_decides}
 use Rattle.bosh_rows.specs.Same.{same_inst}
@@ -22,7 +28,7 @@ use Rattle.bosh_work.specs.declared.part.MachineName.{MachineName}
 use Rattle.laws_facts.proofs.InstanceLemmas.{inst_total}
 use Rattle.laws_row_facts.specs.Words.{are_ascending, is_before, is_below}
 use Rattle.laws_stands.specs.Linked.{same_machine}
-use Rattle.laws_stands_on.proofs.KeyLemmas.{eq_then, inst_at, inst_keys, machine_keys}
+use Rattle.laws_stands_on.proofs.KeyLemmas.{eq_then, inst_at, inst_keys, key_keys, machine_keys}
 use Rattle.laws_stands_on.proofs.TableLemmas.{nat_at, nat_keys}
 use Rattle.laws_stands_snapshots.proofs.KeysLemmas.{TellsApart}
 
@@ -113,3 +119,24 @@ all_low (suc n) d less =
 pub numbers_rise : (n : ℕ) → are_ascending nat_cmp (numbers_to n) ≡ true
 numbers_rise zero = refl
 numbers_rise (suc n) = one_above (numbers_to n) (suc n) (numbers_rise n) (all_low n (suc n) (grind (arith, nat_tests)))
+
+-- ---- keys
+
+key_at : (a b : Key) → is_at (key_cmp a) b ≡ same_key a b
+key_at a b =
+    eq_then (slice_cmp nat_cmp a.fingerprint.0 b.fingerprint.0)
+    (ordering_then (slice_cmp nat_cmp a.os b.os) (slice_cmp nat_cmp a.version b.version))
+    ∙ ap (λ (t : Bool). is_eq (slice_cmp nat_cmp a.fingerprint.0 b.fingerprint.0) && t)
+    (eq_then (slice_cmp nat_cmp a.os b.os) (slice_cmp nat_cmp a.version b.version))
+    ∙ (λ i. is_eq-slice_cmp a.fingerprint.0 b.fingerprint.0 i
+    && (is_eq-slice_cmp a.os b.os i && is_eq-slice_cmp a.version b.version i))
+
+pub key_order : TellsApart key_cmp same_key
+key_order = record {
+  total = then_total (on_total (λ (it : Key). it.fingerprint.0) nat_list_cmp_total)
+      (then_total (on_total (λ (it : Key). it.os) nat_list_cmp_total)
+      (on_total (λ (it : Key). it.version) nat_list_cmp_total));
+  keys = key_keys;
+  at_is = key_at;
+  own = λ a. (same_key_decides a a).1 refl;
+}

@@ -1,6 +1,9 @@
 //! Snapshots of what is recorded, and what is recorded once one was read.
 #![tactic(auto)]
 
+mod anew;
 mod snapshots;
 
+pub use anew::{records_read_anew_fit, records_read_anew_stand, snapshot_that_is_learned_stands};
+pub use anew::{snapshot_tells_nothing_of_others};
 pub use snapshots::{snapshot_of_the_records_is_that_of_what_is_known};

@@ -1,6 +1,3 @@
-use Rattle.laws_stands_snapshots.proofs.PlacesLemmas.{put_last}
-use Rattle.laws_stands_snapshots.proofs.NumberedLemmas.{one_more}
-use Rattle.laws_stands_snapshots.proofs.WantLemmas.{wants_are}
 use Rattle.laws_stands_snapshots.proofs.ReadLemmas.{snapshot_is}
 use Rattle.laws_stands_snapshots.proofs.snapshots.snapshot_of_the_records_is_that_of_what_is_known.Goals as goal
 
