@@ -12,8 +12,10 @@ use Rattle.std.specs.declared.cmp.Ordering.TheVariants.{Equal}
 use Rattle.std.proofs.lemmas.Bool.{true≢false}
 use Rattle.bosh_history.specs.Words.{is_among}
 use Rattle.bosh_records.specs.Ordered.{AreInOrder}
-use Rattle.bosh_records.specs.Table.{found, things}
+use Rattle.bosh_records.specs.Table.{found}
+use Rattle.bosh_rows.specs.SoundSnapshot.{are_distinct}
 use Rattle.laws_facts.proofs.ListLemmas.{Tells}
+use Rattle.laws_facts.proofs.OrderLemmas.{distinct_ascending}
 use Rattle.laws_row_facts.specs.Words.{are_ascending}
 use Rattle.laws_stands.proofs.OrderLemmas.{once_in}
 use Rattle.laws_stands.specs.Once.{IsOnce}
@@ -48,23 +50,29 @@ pub filter_mapped : {X Y A : Type 0} (f : Y → Option A) (g : X → Y) (xs : Li
 filter_mapped f g [] = refl
 filter_mapped f g (x ∷ xs) = ap (cons_option (f (g x))) (filter_mapped f g xs)
 
--- ---- tables
+-- ---- lists in order
 
-module _ {K X R : Type 0} (cmp : K → K → Ordering) (same : K → K → Bool) (order : TellsApart cmp same)
-    (f : X → Option R) where
-  is_same : (a b : K) → same a b ≡ true → a ≡ b
+module _ {K : Type 0} {cmp : K → K → Ordering} {same : K → K → Bool} (order : TellsApart cmp same) where
+  pub is_same : (a b : K) → same a b ≡ true → a ≡ b
   is_same a b is = order.keys a b (order.at_is a b ∙ is)
 
-  equal : (a b : K) → cmp a b ≡ Equal → a ≡ b
+  pub equal : (a b : K) → cmp a b ≡ Equal → a ≡ b
   equal a b is = order.keys a b (ap is_eq is)
 
-  tells : (a b : K) → Tells same a b
+  pub tells : (a b : K) → Tells same a b
   tells a b = by (same a b) refl
     where
       by : (c : Bool) → same a b ≡ c → Tells same a b
       by true is = inl (is, is_same a b is)
       by false is = inr (is, λ one. true≢false (sym (ap (same a) (sym one) ∙ order.own a) ∙ is))
 
+  pub ascending_apart : (xs : List K) → are_ascending cmp xs ≡ true → are_distinct same xs ≡ true
+  ascending_apart = distinct_ascending cmp order.total same tells equal
+
+-- ---- tables
+
+module _ {K X R : Type 0} (cmp : K → K → Ordering) (same : K → K → Bool) (order : TellsApart cmp same)
+    (f : X → Option R) where
   -- each entry is found at its key
   all_found : (es : List (K × X)) → IsOnce cmp es → AllByRecursion (λ (e : K × X). found cmp es e.0 ≡ Some e.1) es
   all_found [] once = tt
@@ -149,6 +157,6 @@ module _ {K X R : Type 0} (cmp : K → K → Ordering) (same : K → K → Bool)
           by false none = refl
 
       kept_are : kept_keys cmp order.keys same order.at_is keep es ≡ ks
-      kept_are = same_in_order cmp order.total same tells equal is_same order.own
+      kept_are = same_in_order cmp order.total same (tells order) (equal order) (is_same order) order.own
           (kept_keys cmp order.keys same order.at_is keep es) ks
           (kept_in_order cmp order.keys same order.at_is keep es ordered) rise members

@@ -8,10 +8,19 @@ ghost use Rattle.bosh_views.specs.Snapshot.{IsSnapshot};
 ghost use Rattle.laws_facts.specs.KnownFacts.{KnownFacts};
 ghost use Rattle.laws_stands.specs.Agrees.{Agrees};
 ghost use Rattle.laws_stands.specs.Stands.{Stands};
-ghost use Rattle.laws_stands.specs.Told.{Told};
+ghost use Rattle.laws_stands.specs.Told.{TellsWell, Told};
+ghost use Rattle.laws_stands_fits.specs.Own.{TellsOwn};
+ghost use Rattle.laws_stands_snapshots.specs.Built.{AreBuiltInOrder};
+ghost use Rattle.laws_stands_snapshots.specs.Readable.{IsReadable};
 
 /// Where the records stand for what is told at a moment, a snapshot of them tells just what is known.
 pub fn snapshot_of_the_records_is_that_of_what_is_known()
     ensures { (m : Moment) (told : Told) (records : Records) (s : Snapshot) → Stands told records → Agrees m told
         → KnownFacts m → IsSnapshot records s → s.built_keys ≡ m.known.built → s ≡ snapshot_of m.known }
+{}
+
+/// A snapshot of what is known at a moment can be read, where the compiled keys stand in their order, each once.
+pub fn snapshot_of_what_is_known_can_be_read()
+    ensures { (m : Moment) (told : Told) → KnownFacts m → Agrees m told → TellsWell told → TellsOwn told
+        → AreBuiltInOrder m.known.built → IsReadable (snapshot_of m.known) }
 {}
