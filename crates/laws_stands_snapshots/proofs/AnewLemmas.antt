@@ -1,15 +1,14 @@
 -- What is recorded once a snapshot was read, table by table.
-use Rattle.std.proofs.Common.{◌≡◌, ◌∙◌, ◌≤◌, ◌<◌, ℕ, ◌+◌, Bool, true, false, ◌&&◌, ◌||◌, ◌==◌, List, [], ◌∷◌, map}
+use Rattle.std.proofs.Common.{◌≡◌, ◌∙◌, ◌≤◌, ℕ, ◌+◌, Bool, true, false, ◌&&◌, ◌||◌, List, [], ◌∷◌, map}
 use Rattle.std.proofs.Common.{Option, Some, None, ap, arith, refl, subst, sym}
 use Rattle.std.specs.Prelude.{eqb, find, fold, is_some, length, nat_le, nat_lt, not, unwrap_or, if◌then◌else◌}
 use Rattle.std.specs.List.{AllByRecursion, cons_option, enumerate_from, filter_map, list_any}
 use Rattle.std.specs.Option.{option_and_then, option_map, option_map_or, option_or}
 use Rattle.std.specs.Ordering.{nat_cmp}
 use Rattle.std.specs.Str.{bytes_eq}
-use Rattle.std.proofs.lemmas.Bool.{and_parts, eqb-true, not-true, true≢false}
+use Rattle.std.proofs.lemmas.Bool.{and_parts, not-true, true≢false}
 use Rattle.std.proofs.lemmas.Bool.Decides.{nat_tests}
 use Rattle.bosh_base.specs.Inst.{inst_cmp}
-use Rattle.bosh_base.specs.declared.digest.Digest.{Digest}
 use Rattle.bosh_base.specs.declared.inst.Inst.{Inst}
 use Rattle.bosh_base.specs.declared.key.Key.{Key}
 use Rattle.bosh_base.specs.declared.row.Row.{Row}
@@ -112,9 +111,10 @@ rows_found : (rows : List DepRow) → are_distinct same_deployment rows ≡ true
     → AllByRecursion (λ (row : DepRow). find (λ (it : DepRow). bytes_eq it.dep row.dep) rows ≡ Some row) rows
 rows_found [] apart = tt
 rows_found (row ∷ rows) apart =
-    let (alone, rest) = and_parts (not (list_any (same_deployment row) rows)) (are_distinct same_deployment rows) apart in
-    ((λ i. if bytes_same row.dep i then Some row else find (λ (it : DepRow). bytes_eq it.dep row.dep) rows),
-    each_found rows rows (rows_found rows rest) row (not-true (list_any (same_deployment row) rows) alone))
+    let (alone, rest) = and_parts (not (list_any (same_deployment row) rows)) (are_distinct same_deployment rows) apart in (
+      (λ i. if bytes_same row.dep i then Some row else find (λ (it : DepRow). bytes_eq it.dep row.dep) rows),
+      each_found rows rows (rows_found rows rest) row (not-true (list_any (same_deployment row) rows) alone),
+    )
 
 filter_own : {A : Type 0} (f : A → Option A) (xs : List A) → AllByRecursion (λ (x : A). f x ≡ Some x) xs → filter_map f xs ≡ xs
 filter_own f [] all = refl

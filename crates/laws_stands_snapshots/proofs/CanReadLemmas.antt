@@ -2,19 +2,14 @@
 use Rattle.std.proofs.Common.{◌≡◌, ◌∙◌, ◌≤◌, ℕ, ◌+◌, zero, suc, Bool, true, false, ◌&&◌, ◌||◌, ◌==◌, List, [], ◌∷◌, ◌++◌}
 use Rattle.std.proofs.Common.{map, Option, Some, None, ap, arith, refl, subst, sym}
 use Rattle.std.specs.Prelude.{eqb, is_some, length, nat_le, not}
-use Rattle.std.specs.Cmp.{IsTotalOrder}
 use Rattle.std.specs.List.{cons_option, filter_map, list_all, list_any}
 use Rattle.std.specs.Option.{option_map}
-use Rattle.std.specs.Ordering.{nat_cmp}
 use Rattle.std.specs.Str.{bytes_eq}
-use Rattle.std.proofs.lemmas.Bool.{and_from, and_parts, eq-eqb, eqb-true, false≢true, le-leb, not-true, true≢false}
-use Rattle.std.proofs.lemmas.Bool.Decides.{nat_tests}
+use Rattle.std.proofs.lemmas.Bool.{and_from, and_parts, eq-eqb, eqb-true, le-leb, not-true, true≢false}
 use Rattle.std.proofs.lemmas.List.{length-append, length-map, map-append}
-use Rattle.std.proofs.lemmas.List.Folds.{list_all-append}
 use Rattle.bosh_base.specs.Cloud.{numbers_to}
 use Rattle.bosh_base.specs.declared.goal.Goal.{Goal}
 use Rattle.bosh_base.specs.declared.goal.GoalRow.{GoalRow}
-use Rattle.bosh_base.specs.declared.inst.Inst.{Inst}
 use Rattle.bosh_base.specs.declared.row.Row.{Row}
 use Rattle.bosh_base.specs.declared.snapshot.CompileRow.{CompileRow}
 use Rattle.bosh_base.specs.declared.snapshot.DepRow.{DepRow}
@@ -22,9 +17,8 @@ use Rattle.bosh_base.specs.declared.snapshot.Orphan.{Orphan}
 use Rattle.bosh_base.specs.declared.task.TaskRow.{TaskRow}
 use Rattle.bosh_fold.specs.Calls.{machine_name}
 use Rattle.bosh_history.specs.Goals.{inst_of}
-use Rattle.bosh_history.specs.Known.{Known, Slot, SlotName}
+use Rattle.bosh_history.specs.Known.{Known, Slot}
 use Rattle.bosh_history.specs.Moments.{Moment}
-use Rattle.bosh_history.specs.Orders.{slot_cmp}
 use Rattle.bosh_history.specs.Snapshots.{compile_row, dep_row, snapshot_of, task_row}
 use Rattle.bosh_history.specs.Sound.{has_plan}
 use Rattle.bosh_history.specs.Words.{is_among}
@@ -33,17 +27,15 @@ use Rattle.bosh_rows.specs.SoundSnapshot.{are_distinct, are_numbered, same_deplo
 use Rattle.bosh_rows.specs.Standing.{same_truth}
 use Rattle.bosh_work.specs.declared.part.MachineName.{MachineName}
 use Rattle.laws_facts.proofs.InstanceLemmas.{instances_apart}
-use Rattle.laws_facts.proofs.OrderLemmas.{distinct_ascending}
 use Rattle.laws_facts.specs.Goals.{GoalFacts}
 use Rattle.laws_facts.specs.KnownFacts.{KnownFacts}
-use Rattle.laws_row_facts.specs.Words.{are_ascending, where_any}
-use Rattle.laws_stands.proofs.DeploymentLemmas.{bytes_is}
+use Rattle.laws_row_facts.specs.Words.{where_any}
 use Rattle.laws_stands.specs.Agrees.{Agrees}
 use Rattle.laws_stands.specs.Linked.{same_machine}
 use Rattle.laws_stands.specs.Stands.{row_of_slot}
 use Rattle.laws_stands.specs.Told.{TellsWell, Told}
 use Rattle.laws_stands_fits.specs.Own.{TellsOwn}
-use Rattle.laws_stands_snapshots.proofs.KeysLemmas.{TellsApart, ascending_apart, filter_all, filter_mapped}
+use Rattle.laws_stands_snapshots.proofs.KeysLemmas.{ascending_apart, filter_all, filter_mapped}
 use Rattle.laws_stands_snapshots.proofs.OrderLemmas as orders
 use Rattle.laws_stands_snapshots.proofs.OrderLemmas.{machine_order, number_order, order_named}
 use Rattle.laws_stands_snapshots.specs.Built.{AreBuiltInOrder}

@@ -1,4 +1,5 @@
 pub mod AnewLemmas
+pub mod BuiltLemmas
 pub mod CanReadLemmas
 pub mod FoldLemmas
 pub mod KeysLemmas

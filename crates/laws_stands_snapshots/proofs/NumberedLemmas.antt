@@ -1,6 +1,6 @@
 -- Tasks that are read from a snapshot: they are counted, and each stands at its number.
 use Rattle.std.proofs.Common.{◌≡◌, ◌∙◌, ◌≤◌, ℕ, ◌+◌, suc, Bool, true, false, ◌&&◌, ◌||◌, ◌==◌, List, [], ◌∷◌, Option}
-use Rattle.std.proofs.Common.{Some, None, ap, arith, refl, sym}
+use Rattle.std.proofs.Common.{Some, None, ap, arith, refl}
 use Rattle.std.specs.Prelude.{eqb, find, fold, is_some, length, min, nat_le, nat_lt, not, if◌then◌else◌}
 use Rattle.std.specs.List.{list_any}
 use Rattle.std.specs.Ordering.{nat_cmp}

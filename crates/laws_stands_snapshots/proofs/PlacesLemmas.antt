@@ -1,5 +1,5 @@
 -- Deployments that are read from a snapshot, each at its place in it.
-use Rattle.std.proofs.Common.{◌≡◌, ◌∙◌, ℕ, ◌+◌, Bool, true, false, List, [], ◌∷◌, ◌++◌, map, Option, Some, None}
+use Rattle.std.proofs.Common.{◌≡◌, ◌∙◌, ℕ, ◌+◌, true, List, [], ◌∷◌, ◌++◌, map, Option, Some, None}
 use Rattle.std.proofs.Common.{ap, arith, refl, sym}
 use Rattle.std.specs.Prelude.{cond, fold, is_some, nat_lt, if◌then◌else◌}
 use Rattle.std.specs.BTreeMap.{insert_entry, is_at}
@@ -15,7 +15,7 @@ use Rattle.std.proofs.lemmas.List.{append-nil, append_assoc}
 use Rattle.bosh_base.specs.declared.snapshot.DepRow.{DepRow}
 use Rattle.bosh_fold.specs.Anew.{deployment_read}
 use Rattle.bosh_records.specs.Changes.{since_cmp}
-use Rattle.bosh_records.specs.Table.{altered, found, put_at, thing_in, things, with_room}
+use Rattle.bosh_records.specs.Table.{found, put_at, thing_in, things, with_room}
 use Rattle.bosh_records.specs.declared.records.Since.{Since}
 use Rattle.bosh_records.specs.declared.records.Since.TheVariants as sinces
 use Rattle.laws_stands_on.proofs.TableLemmas.{nat_at}

@@ -1,6 +1,6 @@
 -- A snapshot of what is recorded is that of what is known.
-use Rattle.std.proofs.Common.{◌≡◌, ◌∙◌, ℕ, Bool, true, false, ◌&&◌, List, [], ◌∷◌, map, Option, Some, None}
-use Rattle.std.proofs.Common.{ap, refl, subst, sym}
+use Rattle.std.proofs.Common.{◌≡◌, ◌∙◌, ℕ, Bool, true, false, ◌&&◌, map, Option, Some, None}
+use Rattle.std.proofs.Common.{ap, refl, sym}
 use Rattle.std.specs.Prelude.{eqb, is_some, nat_le, if◌then◌else◌}
 use Rattle.std.specs.List.{filter_map}
 use Rattle.std.specs.Option.{option_and_then, option_map}
@@ -8,15 +8,11 @@ use Rattle.std.specs.Ordering.{nat_cmp}
 use Rattle.std.proofs.lemmas.Bool.{and_parts, false≢true}
 use Rattle.bosh_base.specs.Cloud.{numbers_to}
 use Rattle.bosh_base.specs.Inst.{inst_cmp}
-use Rattle.bosh_base.specs.declared.inst.Inst.{Inst}
-use Rattle.bosh_base.specs.declared.row.Row.{Row}
 use Rattle.bosh_base.specs.declared.snapshot.CompileRow.{CompileRow}
-use Rattle.bosh_base.specs.declared.snapshot.Orphan.{Orphan}
 use Rattle.bosh_base.specs.declared.snapshot.Snapshot.{Snapshot}
 use Rattle.bosh_base.specs.declared.task.TaskRow.{TaskRow}
-use Rattle.bosh_history.specs.Known.{Known, Slot, SlotName}
+use Rattle.bosh_history.specs.Known.{Known}
 use Rattle.bosh_history.specs.Moments.{Moment}
-use Rattle.bosh_history.specs.Orders.{same_slot}
 use Rattle.bosh_history.specs.Snapshots.{compile_row, dep_row, snapshot_of, task_row}
 use Rattle.bosh_history.specs.Words.{is_among}
 use Rattle.bosh_records.specs.Arrivals.{Arrivals}

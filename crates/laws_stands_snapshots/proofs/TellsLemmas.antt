@@ -6,10 +6,8 @@ use Rattle.std.specs.List.{list_all, list_any}
 use Rattle.std.specs.Option.{option_and_then, option_map, option_map_or, option_or}
 use Rattle.std.specs.Str.{bytes_eq}
 use Rattle.std.proofs.lemmas.Bool.{and_parts, eqb-true, false≢true, leb-true, true≢false}
-use Rattle.std.proofs.lemmas.Bool.Decides.{nat_tests}
 use Rattle.std.proofs.lemmas.List.{length-map}
 use Rattle.bosh_base.specs.Cloud.{numbers_to}
-use Rattle.bosh_base.specs.declared.digest.Digest.{Digest}
 use Rattle.bosh_base.specs.declared.entry.Entry.TheVariants as entries
 use Rattle.bosh_base.specs.declared.failure.Failure.{Failure}
 use Rattle.bosh_base.specs.declared.goal.Goal.{Goal}
@@ -36,7 +34,7 @@ use Rattle.bosh_fold.specs.declared.change.Change.TheVariants as changes
 use Rattle.bosh_history.specs.Goals.{is_waiting}
 use Rattle.bosh_history.specs.Held.{is_open}
 use Rattle.bosh_history.specs.Items.{is_finished}
-use Rattle.bosh_history.specs.Known.{Known, Task, no_task}
+use Rattle.bosh_history.specs.Known.{Task, no_task}
 use Rattle.bosh_history.specs.Snapshots as snapshots
 use Rattle.bosh_history.specs.Snapshots.{known_by, task_of, task_row}
 use Rattle.bosh_history.specs.Words.{is_among}
@@ -52,10 +50,9 @@ use Rattle.bosh_roll.specs.Upd.{is_busy}
 use Rattle.bosh_rows.specs.Same.{same_inst}
 use Rattle.bosh_rows.specs.SoundSnapshot.{are_distinct}
 use Rattle.bosh_work.specs.declared.part.MachineName.{MachineName}
-use Rattle.bosh_work.specs.declared.work.Work.{Work}
 use Rattle.laws_row_facts.specs.Words.{where_any}
 use Rattle.laws_stands.proofs.DeploymentLemmas.{bytes_flip}
-use Rattle.laws_stands.specs.Linked.{IsLinked, same_machine, want_place}
+use Rattle.laws_stands.specs.Linked.{same_machine, want_place}
 use Rattle.laws_stands.specs.Reading as reading
 use Rattle.laws_stands.specs.Stands.{StandsIn, call_of, key_of_slot, key_place, row_of_slot}
 use Rattle.laws_stands.specs.Told.{TellsWell, Told, is_going, telling}
@@ -265,8 +262,10 @@ module _ (told : Told) (s : Snapshot) (r : IsReadable s) where
       by : (row : Option TaskRow) → find (λ (it : TaskRow). eqb it.task t) s.tasks ≡ row
           → row ≡ (if is_some row then Some (task_row new.known t) else None)
       by (Some it) is =
-          (λ j. Some (record it { task = eqb-true it.task t
-          (found_meets (λ (it : TaskRow). eqb it.task t) s.tasks it is) j }))
+          (λ j. Some (record it {
+            task = eqb-true it.task t
+                (found_meets (λ (it : TaskRow). eqb it.task t) s.tasks it is) j;
+          }))
           ∙ ap (λ (task : Task). Some (row_by task)) (sym (task_by s t (Some it) is))
       by None is = refl
 

@@ -1,5 +1,5 @@
 -- How goals want instances once all deployments of a snapshot were read: each instance by the goal of its deployment.
-use Rattle.std.proofs.Common.{◌≡◌, ◌∙◌, ℕ, suc, ◌+◌, Bool, true, false, ◌&&◌, ◌||◌, List, [], ◌∷◌, map, Option, Some}
+use Rattle.std.proofs.Common.{◌≡◌, ◌∙◌, ℕ, suc, ◌+◌, Bool, true, false, ◌||◌, List, [], ◌∷◌, map, Option, Some}
 use Rattle.std.proofs.Common.{None, ap, arith, refl, subst, sym}
 use Rattle.std.specs.Prelude.{find, fold, is_some, not, unwrap_or, if◌then◌else◌}
 use Rattle.std.specs.List.{enumerate_from, list_all, list_any}
@@ -13,7 +13,6 @@ use Rattle.bosh_base.specs.declared.inst.Inst.{Inst}
 use Rattle.bosh_base.specs.declared.snapshot.DepRow.{DepRow}
 use Rattle.bosh_fold.specs.Anew.{goal_read, wants_read}
 use Rattle.bosh_fold.specs.Tasks.{want_noted, with_want}
-use Rattle.bosh_history.specs.Words.{is_among}
 use Rattle.bosh_plan.specs.Roomy.{want_room}
 use Rattle.bosh_progress.specs.Tree.{first_marked}
 use Rattle.bosh_records.specs.Instances.{unknown}
