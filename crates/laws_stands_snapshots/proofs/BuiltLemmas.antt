@@ -38,10 +38,10 @@ use Rattle.laws_stands_snapshots.specs.Built.{BuiltStand}
 use Rattle.laws_stands_snapshots.specs.Readable.{same_built}
 use Rattle.laws_stands_works.proofs.InOrderLemmas.{same_in_order}
 
-key_is : (a b : Key) → same_key a b ≡ true → a ≡ b
+pub key_is : (a b : Key) → same_key a b ≡ true → a ≡ b
 key_is = same_is key_cmp same_key key_order
 
-key_flip : (a b : Key) → same_key a b ≡ same_key b a
+pub key_flip : (a b : Key) → same_key a b ≡ same_key b a
 key_flip = flipped key_cmp same_key key_order
 
 -- what entries say of a compiled key
@@ -183,7 +183,7 @@ most_one key (e ∷ es) (none, once) = by (is_at (key_cmp key) e.0) refl e.1.dig
 
 -- ---- the order by name and key
 
-built_total : IsTotalOrder built_cmp
+pub built_total : IsTotalOrder built_cmp
 built_total =
     then_total (on_total (λ (it : BuiltKey). it.name) nat_list_cmp_total) (on_total (λ (it : BuiltKey). it.key) key_order.total)
 

@@ -1,5 +1,6 @@
 pub mod AnewLemmas
 pub mod BuiltLemmas
+pub mod BuiltOrderLemmas
 pub mod CanReadLemmas
 pub mod FoldLemmas
 pub mod KeysLemmas

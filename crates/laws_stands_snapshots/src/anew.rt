@@ -11,6 +11,7 @@ ghost use Rattle.laws_stands.specs.Told.{Told, telling};
 ghost use Rattle.laws_stands_fits.specs.Fits.{Fits};
 ghost use Rattle.laws_stands_fits.specs.Own.{TellsOwn};
 ghost use Rattle.laws_stands_fits.specs.Whole.{StandsWhole};
+ghost use Rattle.laws_stands_snapshots.specs.Built.{AreBuiltInOrder, BuiltStand};
 ghost use Rattle.laws_stands_snapshots.specs.Readable.{IsReadable};
 
 /// What is recorded once a snapshot that can be read took the place of all stands for what it tells. It has no more tasks
@@ -35,4 +36,10 @@ pub fn snapshot_that_is_learned_stands()
     ensures { (told : Told) (was : Records) (s : Snapshot) (now : Records) → IsReadable s
         → length s.tasks ≤ 18446744073709551615 → Learns was (entries.Snapshot s) now
         → StandsWhole (telling told (entries.Snapshot s)) now }
+{}
+
+/// What is recorded of compiled keys once a snapshot was read is what the snapshot lists of them, where it lists them in their
+/// order, each once.
+pub fn compiled_keys_read_anew_stand()
+    ensures { (s : Snapshot) → IsReadable s → AreBuiltInOrder s.built_keys → BuiltStand s.built_keys (anew s) }
 {}
