@@ -41,7 +41,7 @@ use Rattle.laws_stands.proofs.MemberLemmas.{bytes_same}
 use Rattle.laws_stands.specs.Linked.{same_machine}
 use Rattle.laws_stands.specs.Reading as reading
 use Rattle.laws_stands_snapshots.proofs.FoldLemmas.{flipped, read_all, things_read}
-use Rattle.laws_stands_snapshots.proofs.KeysLemmas.{filter_mapped}
+use Rattle.laws_stands_snapshots.proofs.TableListLemmas.{filter_mapped}
 use Rattle.laws_stands_snapshots.proofs.NumberedLemmas as numbers
 use Rattle.laws_stands_snapshots.proofs.NumberedLemmas.{numbered_apart, numbered_found, one_more, opened_are, task_placed}
 use Rattle.laws_stands_snapshots.proofs.OrderLemmas.{inst_order, key_order, machine_order, number_order}

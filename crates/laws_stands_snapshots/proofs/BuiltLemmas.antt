@@ -32,7 +32,7 @@ use Rattle.laws_row_facts.specs.Words.{are_ascending, is_before, is_below}
 use Rattle.laws_stands.proofs.OrderLemmas.{once_in}
 use Rattle.laws_stands.specs.Once.{IsOnce}
 use Rattle.laws_stands_snapshots.proofs.FoldLemmas.{flipped, same_is}
-use Rattle.laws_stands_snapshots.proofs.KeysLemmas.{TellsApart, equal, is_same, tells}
+use Rattle.laws_stands_snapshots.proofs.TableListLemmas.{TellsApart, equal, is_same, tells}
 use Rattle.laws_stands_snapshots.proofs.OrderLemmas.{key_order}
 use Rattle.laws_stands_snapshots.specs.Built.{BuiltStand}
 use Rattle.laws_stands_snapshots.specs.Readable.{same_built}

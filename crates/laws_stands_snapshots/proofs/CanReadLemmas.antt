@@ -35,7 +35,7 @@ use Rattle.laws_stands.specs.Linked.{same_machine}
 use Rattle.laws_stands.specs.Stands.{row_of_slot}
 use Rattle.laws_stands.specs.Told.{TellsWell, Told}
 use Rattle.laws_stands_fits.specs.Own.{TellsOwn}
-use Rattle.laws_stands_snapshots.proofs.KeysLemmas.{ascending_apart, filter_all, filter_mapped}
+use Rattle.laws_stands_snapshots.proofs.TableListLemmas.{ascending_apart, filter_all, filter_mapped}
 use Rattle.laws_stands_snapshots.proofs.OrderLemmas as orders
 use Rattle.laws_stands_snapshots.proofs.OrderLemmas.{machine_order, number_order, order_named}
 use Rattle.laws_stands_snapshots.specs.Built.{AreBuiltInOrder}

@@ -10,7 +10,7 @@ use Rattle.std.proofs.lemmas.Bool.{and_parts, not-true, true≢false}
 use Rattle.bosh_records.specs.Table.{altered, found, thing_in, with_room}
 use Rattle.bosh_rows.specs.SoundSnapshot.{are_distinct}
 use Rattle.laws_stands_on.proofs.TableLemmas.{found_altered, found_inserted}
-use Rattle.laws_stands_snapshots.proofs.KeysLemmas.{TellsApart}
+use Rattle.laws_stands_snapshots.proofs.TableListLemmas.{TellsApart}
 
 module _ {K : Type 0} (cmp : K → K → Ordering) (same : K → K → Bool) (order : TellsApart cmp same) where
   pub same_is : (a b : K) → same a b ≡ true → a ≡ b

@@ -29,7 +29,7 @@ use Rattle.laws_row_facts.specs.Words.{are_ascending, is_before, is_below}
 use Rattle.laws_stands.specs.Linked.{same_machine}
 use Rattle.laws_stands_on.proofs.KeyLemmas.{eq_then, inst_at, inst_keys, key_keys, machine_keys}
 use Rattle.laws_stands_on.proofs.TableLemmas.{nat_at, nat_keys}
-use Rattle.laws_stands_snapshots.proofs.KeysLemmas.{TellsApart}
+use Rattle.laws_stands_snapshots.proofs.TableListLemmas.{TellsApart}
 
 -- ---- orders
 

@@ -31,7 +31,7 @@ use Rattle.laws_facts.specs.Lists.{ListFacts}
 use Rattle.laws_stands.specs.Linked.{same_machine}
 use Rattle.laws_stands.specs.Stands.{StandsIn, arrivals_of, row_of_slot}
 use Rattle.laws_stands.specs.Told.{Told}
-use Rattle.laws_stands_snapshots.proofs.KeysLemmas.{filter_all, filter_mapped, mapped_filter, table_lists}
+use Rattle.laws_stands_snapshots.proofs.TableListLemmas.{filter_all, filter_mapped, mapped_filter, table_lists}
 use Rattle.laws_stands_snapshots.proofs.OrderLemmas.{among_named, among_numbers, inst_order, machine_name, machine_order}
 use Rattle.laws_stands_snapshots.proofs.OrderLemmas.{number_order, numbers_rise, order_named}
 

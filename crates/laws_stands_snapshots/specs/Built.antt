@@ -25,5 +25,7 @@ built_in it key = option_and_then (λ state. option_map (built_key key state) st
 
 -- what is recorded of compiled keys stands for what is listed of them
 pub record BuiltStand (built : List BuiltKey) (it : Recorded) : Type 0 where
+  -- these stand in their order, each once
   pub in_order : AreBuiltInOrder built
+  -- at each key the same is said, with the name that it was compiled under
   pub same : (key : Key) → built_in it key ≡ find (λ each. same_key each.key key) built

@@ -44,16 +44,21 @@ is_counted last row = where_any (λ calls. nat_le calls last) row.calls
 
 -- a snapshot that can be read
 pub record IsReadable (s : Snapshot) : Type 0 where
-  -- nothing stands twice
+  -- no deployment stands twice
   pub deployments_apart : are_distinct same_deployment s.deployments ≡ true
+  -- .. and no instance
   pub rows_apart : are_distinct same_row s.rows ≡ true
+  -- .. no compile machine
   pub machines_apart : are_distinct same_slot s.compile_rows ≡ true
+  -- .. no orphaned disk
   pub orphans_apart : are_distinct same_disk s.orphans ≡ true
+  -- .. and no compiled key
   pub keys_apart : are_distinct same_built s.built_keys ≡ true
   -- each deployment wants instances of its own
   pub own_rows : list_all has_own_rows s.deployments ≡ true
   -- tasks are numbered from 1 on
   pub numbered : are_numbered 0 s.tasks ≡ true
-  -- no more calls are counted of a task than there were, and no more compile machines are recorded
+  -- no more calls are counted of a task than there were
   pub counted : list_all (is_counted s.last_call) s.tasks ≡ true
+  -- .. and no more compile machines are recorded
   pub few : length s.compile_rows ≤ s.last_call
