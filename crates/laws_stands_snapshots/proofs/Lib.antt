@@ -1,0 +1,14 @@
+pub mod AnewLemmas
+pub mod BuiltGoOnLemmas
+pub mod BuiltLemmas
+pub mod BuiltOrderLemmas
+pub mod CanReadLemmas
+pub mod FoldLemmas
+pub mod KeysKeptLemmas
+pub mod NumberedLemmas
+pub mod OrderLemmas
+pub mod PlacesLemmas
+pub mod ReadLemmas
+pub mod TableListLemmas
+pub mod TellsLemmas
+pub mod WantLemmas
