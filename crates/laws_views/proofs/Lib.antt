@@ -1,6 +1,9 @@
 pub mod HeldLemmas
+pub mod HoldersLemmas
 pub mod ListedLemmas
 pub mod OpenLemmas
+pub mod OrderlyLemmas
 pub mod ReadLemmas
+pub mod SoundLemmas
 pub mod TableLemmas
 pub mod ViewLemmas
