@@ -1,11 +1,11 @@
 -- Who holds the addresses of what is held, and that those of the rows of a current goal are free.
-use Rattle.std.proofs.Common.{◌≡◌, ◌∙◌, ℕ, suc, zero, ◌+◌, ◌<◌, ◌≤◌, Bool, true, false, ◌&&◌, ◌||◌, ◌==◌, not, List, [], ◌∷◌, ◌++◌}
+use Rattle.std.proofs.Common.{◌≡◌, ◌∙◌, ℕ, suc, zero, ◌+◌, ◌≤◌, Bool, true, false, ◌&&◌, ◌==◌, not, List, [], ◌∷◌, ◌++◌}
 use Rattle.std.proofs.Common.{Option, Some, None, ap, arith, filter, map, refl, subst, sym}
-use Rattle.std.specs.Prelude.{eqb, find, is_some, nat_le, nat_lt, if◌then◌else◌}
-use Rattle.std.specs.List.{AllByRecursion, flat_map, list_all, list_any}
+use Rattle.std.specs.Prelude.{find, nat_lt, if◌then◌else◌}
+use Rattle.std.specs.List.{AllByRecursion, list_all, list_any}
 use Rattle.std.specs.Option.{option_map}
 use Rattle.std.specs.Str.{bytes_eq}
-use Rattle.std.proofs.lemmas.Bool.{and_from, and_parts, eqb-true, false≢true, not-true, true≢false}
+use Rattle.std.proofs.lemmas.Bool.{and_parts, eqb-true, not-true, true≢false}
 use Rattle.std.proofs.lemmas.Bool.Decides.{nat_tests}
 use Rattle.bosh_base.specs.Cloud.{numbers_to}
 use Rattle.bosh_base.specs.declared.addr.NetAddr.{NetAddr}
@@ -15,16 +15,15 @@ use Rattle.bosh_base.specs.declared.inst.Inst.{Inst}
 use Rattle.bosh_base.specs.declared.make.Make.{Make}
 use Rattle.bosh_base.specs.declared.owner.Owner.{Owner}
 use Rattle.bosh_base.specs.declared.owner.Owner.TheVariants.{Compile, Instance}
-use Rattle.bosh_base.specs.declared.row.Row.{Row}
 use Rattle.bosh_base.specs.declared.view.Held.{Held}
-use Rattle.bosh_history.specs.Goals.{inst_of, is_in}
+use Rattle.bosh_history.specs.Goals.{inst_of}
 use Rattle.bosh_history.specs.Held as held
 use Rattle.bosh_history.specs.Held.{addresses_of, is_open, numbered, of_make, view}
 use Rattle.bosh_history.specs.Items.{slots_of}
 use Rattle.bosh_history.specs.Known.{Known, Slot, SlotName, dep_named, dep_of_task, want_in}
 use Rattle.bosh_history.specs.Moments.{Moment, dep_of}
 use Rattle.bosh_history.specs.Recovered.{is_recovering}
-use Rattle.bosh_history.specs.Sound.{addrs, has_addr, has_plan, is_held, row_addrs}
+use Rattle.bosh_history.specs.Sound.{has_addr, has_plan, is_held}
 use Rattle.bosh_history.specs.Steps.{nth}
 use Rattle.bosh_rows.specs.Same.{same_inst}
 use Rattle.bosh_rows.specs.SoundSnapshot.{are_distinct}
@@ -35,11 +34,10 @@ use Rattle.laws_facts.specs.Addresses.Holder.{Free, Machine, Recorded, Wanted}
 use Rattle.laws_facts.specs.Goals.{GoalFacts}
 use Rattle.laws_facts.specs.KnownFacts.{KnownFacts}
 use Rattle.laws_facts.specs.Owners.{works}
-use Rattle.laws_goals.proofs.ListLemmas.{all_append, all_everywhere, all_flat, all_map, all_mapped, all_pass, all_unmapped}
-use Rattle.laws_goals.proofs.ListLemmas.{distinct_from, none_pass, none_passes, pairs_flat, pairs_of_distinct, pairs_unmapped, passes}
+use Rattle.laws_goals.proofs.ListLemmas.{all_append, all_everywhere, all_flat, all_map, all_mapped, all_unmapped}
+use Rattle.laws_goals.proofs.ListLemmas.{none_pass, none_passes, passes}
 use Rattle.bosh_pool.proofs.ListLemmas.{Pairs, recursion_with}
-use Rattle.laws_row_facts.specs.Words.{where_any}
-use Rattle.laws_stands.proofs.DeploymentLemmas.{bytes_flip, bytes_is}
+use Rattle.laws_stands.proofs.DeploymentLemmas.{bytes_is}
 use Rattle.laws_stands_on.proofs.CallLemmas.{inst_flip}
 use Rattle.laws_views.proofs.OrderlyLemmas.{each_addr}
 use Rattle.laws_views.specs.Viewed.{CanBeViewed}
@@ -48,7 +46,7 @@ use Rattle.bosh_rows.proofs.SameLemmas.{itself}
 -- ---- lists
 
 -- what is true of each that passes
-all_passing : {A : Type 0} (P : A → Type 0) (p : A → Bool) (xs : List A) → ((x : A) → p x ≡ true → P x)
+pub all_passing : {A : Type 0} (P : A → Type 0) (p : A → Bool) (xs : List A) → ((x : A) → p x ≡ true → P x)
     → AllByRecursion P (filter p xs)
 all_passing P p [] each = tt
 all_passing {A} P p (x ∷ xs) each = by (p x) refl (all_passing P p xs each)
@@ -68,7 +66,7 @@ none_passing {A} p q (x ∷ xs) (here, rest) = by (q x) refl (none_passing p q x
     by false is more = more
 
 -- pairs of items of each of which something is true
-pairs_both : {A : Type 0} (W : A → Type 0) (R : A → A → Type 0) (xs : List A) → AllByRecursion W xs → Pairs R xs
+pub pairs_both : {A : Type 0} (W : A → Type 0) (R : A → A → Type 0) (xs : List A) → AllByRecursion W xs → Pairs R xs
     → Pairs (λ x y. W x × W y × R x y) xs
 pairs_both W R [] all pairs = tt
 pairs_both W R (x ∷ xs) (here, all) (first, pairs) =
@@ -80,16 +78,17 @@ found_self : (rows : List GoalRow) → are_distinct same_inst (map inst_of rows)
 found_self [] distinct = tt
 found_self (want ∷ rows) distinct =
     let (apart, rest) = and_parts (not (list_any (same_inst want.inst) (map inst_of rows)))
-    (are_distinct same_inst (map inst_of rows)) distinct in
-    ((λ i. if itself want.inst i then Some want else find (λ (it : GoalRow). same_inst want.inst it.inst) rows),
-    recursion_with (λ (other : GoalRow). same_inst want.inst other.inst ≡ false)
-    (λ (other : GoalRow). find (λ (it : GoalRow). same_inst other.inst it.inst) rows ≡ Some other)
-    (λ (other : GoalRow). find (λ (it : GoalRow). same_inst other.inst it.inst) (want ∷ rows) ≡ Some other) rows
-    (λ other differ there. (λ i. if (inst_flip want.inst other.inst ∙ differ) i then Some want
-    else find (λ (it : GoalRow). same_inst other.inst it.inst) rows) ∙ there)
-    (all_unmapped (λ i. same_inst want.inst i ≡ false) inst_of rows
-    (none_passes (same_inst want.inst) (map inst_of rows) (not-true (list_any (same_inst want.inst) (map inst_of rows)) apart)))
-    (found_self rows rest))
+    (are_distinct same_inst (map inst_of rows)) distinct in (
+      (λ i. if itself want.inst i then Some want else find (λ (it : GoalRow). same_inst want.inst it.inst) rows),
+      recursion_with (λ (other : GoalRow). same_inst want.inst other.inst ≡ false)
+          (λ (other : GoalRow). find (λ (it : GoalRow). same_inst other.inst it.inst) rows ≡ Some other)
+          (λ (other : GoalRow). find (λ (it : GoalRow). same_inst other.inst it.inst) (want ∷ rows) ≡ Some other) rows
+          (λ other differ there. (λ i. if (inst_flip want.inst other.inst ∙ differ) i then Some want
+          else find (λ (it : GoalRow). same_inst other.inst it.inst) rows) ∙ there)
+          (all_unmapped (λ i. same_inst want.inst i ≡ false) inst_of rows
+          (none_passes (same_inst want.inst) (map inst_of rows) (not-true (list_any (same_inst want.inst) (map inst_of rows)) apart)))
+          (found_self rows rest),
+    )
 
 -- ---- at a moment at which no interrupted task is left
 

@@ -1,3 +1,4 @@
+pub mod CurrentLemmas
 pub mod HeldLemmas
 pub mod HoldersLemmas
 pub mod ListedLemmas

@@ -1,5 +1,5 @@
 -- What is known at a moment is in such an order as the laws of goals ask for.
-use Rattle.std.proofs.Common.{◌≡◌, ◌∙◌, ℕ, Bool, true, false, ◌&&◌, ◌||◌, ◌==◌, not, List, [], ◌∷◌, Option, Some, None}
+use Rattle.std.proofs.Common.{◌≡◌, ◌∙◌, ℕ, Bool, true, false, ◌&&◌, ◌||◌, ◌==◌, List, [], ◌∷◌, Option, Some, None}
 use Rattle.std.proofs.Common.{ap, filter, map, refl, subst, sym}
 use Rattle.std.specs.Prelude.{eqb}
 use Rattle.std.specs.List.{AllByRecursion, flat_map, list_all, list_any}
@@ -13,12 +13,10 @@ use Rattle.bosh_base.specs.declared.key.Key.{Key}
 use Rattle.bosh_base.specs.declared.link.Joint.{Joint}
 use Rattle.bosh_base.specs.declared.make.Make.{Make}
 use Rattle.bosh_base.specs.declared.offer.Offer.{Offer}
-use Rattle.bosh_base.specs.declared.row.Row.{Row}
 use Rattle.bosh_base.specs.declared.snapshot.BuiltKey.{BuiltKey}
 use Rattle.bosh_base.specs.declared.view.Held.{Held}
-use Rattle.bosh_compile.specs.Readiness as readiness
 use Rattle.bosh_compile.specs.Readiness.{same_key}
-use Rattle.bosh_history.specs.Held.{compiled_keys, is_offered, known_offers, same_bytes_joint}
+use Rattle.bosh_history.specs.Held.{is_offered, known_offers, same_bytes_joint}
 use Rattle.bosh_history.specs.Known.{Known, offers_in}
 use Rattle.bosh_history.specs.Moments.{Moment}
 use Rattle.bosh_history.specs.Slots.{is_compiled}
@@ -33,7 +31,6 @@ use Rattle.bosh_rows.specs.Standing.{same_truth}
 use Rattle.bosh_wants.specs.Wants.{held_by, held_of, row_holds}
 use Rattle.laws_facts.proofs.InstanceLemmas.{inst_equal, inst_total}
 use Rattle.laws_facts.proofs.OrderLemmas.{any_all_inserted, distinct_ascending}
-use Rattle.laws_facts.specs.Addresses.{Holder, holds_address}
 use Rattle.laws_facts.specs.Addresses.Holder.{Recorded}
 use Rattle.laws_facts.specs.KnownFacts.{KnownFacts}
 use Rattle.laws_facts.specs.Lists.{is_built_for}
@@ -43,7 +40,7 @@ use Rattle.laws_goals.specs.Free.{HoldOnce}
 use Rattle.laws_goals.specs.Records.{AreKeysListed, AreRecordsInOrder}
 use Rattle.laws_goals.specs.Ties.{OffersAreOwn}
 use Rattle.laws_row_facts.specs.Words.{where_any}
-use Rattle.laws_stands.proofs.DeploymentLemmas.{bytes_flip, bytes_is}
+use Rattle.laws_stands.proofs.DeploymentLemmas.{bytes_is}
 use Rattle.laws_stands_works.proofs.KeptLemmas.{all_filtered, all_true}
 use Rattle.laws_views.proofs.HeldLemmas.{flat_mapped}
 use Rattle.laws_views.proofs.ViewLemmas.{key_equal}
@@ -55,9 +52,10 @@ pub each_addr : (P : ℕ → Type 0) (nets : List NetAddr)
     → ((a : ℕ) → list_any (λ b. b == a) (map (λ (it : NetAddr). it.addr.0) nets) ≡ true → P a)
     → AllByRecursion (λ (it : NetAddr). P it.addr.0) nets
 each_addr P [] each = tt
-each_addr P (net ∷ nets) each =
-    (each net.addr.0 (λ i. own net.addr.0 i || list_any (λ b. b == net.addr.0) (map (λ (it : NetAddr). it.addr.0) nets)),
-    each_addr P nets (λ a there. each a (later (net.addr.0 == a) there)))
+each_addr P (net ∷ nets) each = (
+  each net.addr.0 (λ i. own net.addr.0 i || list_any (λ b. b == net.addr.0) (map (λ (it : NetAddr). it.addr.0) nets)),
+  each_addr P nets (λ a there. each a (later (net.addr.0 == a) there)),
+)
   where
     own : (a : ℕ) → (a == a) ≡ true
     own a = eq-eqb a a refl

@@ -1,12 +1,11 @@
 -- The goal of a task that is planned over records that stand may be worked on.
 use Rattle.std.proofs.Common.{◌≡◌, ◌∙◌, ℕ, Bool, true, false, List, Option, Some, None, Result, Ok, Err, ap, refl, subst, sym}
 use Rattle.std.specs.Prelude.{if◌then◌else◌}
-use Rattle.std.specs.Option.{option_and_then}
 use Rattle.bosh_asks.specs.Asked.{halting}
-use Rattle.bosh_asks.specs.Goals.{config_in, if_checked, if_read, nothing, recorded_config}
-use Rattle.bosh_asks.specs.Opened.{Deletes, Deploys, disks_alone, plan_of}
+use Rattle.bosh_asks.specs.Goals.{if_checked, if_read, nothing, recorded_config}
+use Rattle.bosh_asks.specs.Opened.{plan_of}
 use Rattle.bosh_asks.specs.Known.{is_wanted}
-use Rattle.bosh_asks.specs.Over.{AltersOver, DeploysOver, GivesOver, RenewsOver}
+use Rattle.bosh_asks.specs.Over.{DeploysOver, GivesOver, RenewsOver}
 use Rattle.bosh_asks.specs.declared.ask.Ask.{Ask}
 use Rattle.bosh_asks.specs.declared.ask.Ask.TheVariants as asks
 use Rattle.bosh_asks.specs.declared.ask.Deploy.{Deploy}

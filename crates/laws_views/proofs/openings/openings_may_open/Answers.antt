@@ -1,6 +1,3 @@
-use Rattle.laws_views.proofs.HoldersLemmas.{none_elsewhere}
-use Rattle.laws_views.proofs.SoundLemmas.{sound_planned}
-use Rattle.laws_views.proofs.OrderlyLemmas.{in_order}
 use Rattle.laws_views.proofs.OpenLemmas.{may_open}
 use Rattle.laws_views.proofs.ReadLemmas.{next_known, reads_known}
 use Rattle.laws_views.proofs.ViewLemmas.{stands_at}
