@@ -1,4 +1,5 @@
 pub mod CurrentLemmas
+pub mod FewLemmas
 pub mod HeldLemmas
 pub mod HoldersLemmas
 pub mod ListedLemmas
@@ -8,3 +9,4 @@ pub mod ReadLemmas
 pub mod SoundLemmas
 pub mod TableLemmas
 pub mod ViewLemmas
+pub mod ViewedLemmas

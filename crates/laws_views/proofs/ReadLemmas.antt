@@ -248,7 +248,8 @@ module _ (m : Moment) (calls : ℕ → Option Begin) (snapped : ℕ) (records : 
       ≡ map inst_of (filter (λ want. every || goals.does_not_stand k want) wants)
   changed_known every [] = refl
   changed_known every (want ∷ wants) =
-      (λ i. if every || (ap (changed.does_not_stand want) (stands.rows want.inst) ∙ differs (is_among same_inst want.inst k.instances) refl) i
+      (λ i. if every || (ap (changed.does_not_stand want) (stands.rows want.inst)
+      ∙ differs (is_among same_inst want.inst k.instances) refl) i
       then want.inst ∷ changed_of every wants (rows_at records wants) else changed_of every wants (rows_at records wants))
       ∙ by (every || goals.does_not_stand k want) (changed_known every wants)
     where
