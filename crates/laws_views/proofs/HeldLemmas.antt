@@ -80,7 +80,7 @@ flat_found {A} {B} {C} f g (x ∷ xs) = by (f x) (flat_found f g xs)
     by (Some y) more = ap (λ ys. g y ++ ys) more
     by None more = more
 
-flat_mapped : {A B C : Type 0} (f : A → B) (g : B → List C) (xs : List A) → flat_map g (map f xs) ≡ flat_map (λ x. g (f x)) xs
+pub flat_mapped : {A B C : Type 0} (f : A → B) (g : B → List C) (xs : List A) → flat_map g (map f xs) ≡ flat_map (λ x. g (f x)) xs
 flat_mapped f g [] = refl
 flat_mapped f g (x ∷ xs) = ap (λ ys. g (f x) ++ ys) (flat_mapped f g xs)
 

@@ -1,6 +1,12 @@
+pub mod CurrentLemmas
+pub mod FewLemmas
 pub mod HeldLemmas
+pub mod HoldersLemmas
 pub mod ListedLemmas
 pub mod OpenLemmas
+pub mod OrderlyLemmas
 pub mod ReadLemmas
+pub mod SoundLemmas
 pub mod TableLemmas
 pub mod ViewLemmas
+pub mod ViewedLemmas

@@ -1,18 +1,18 @@
 -- A task that is planned over records that stand may open.
 use Rattle.std.proofs.Common.{◌≡◌, ◌∙◌, ℕ, ◌+◌, Bool, true, false, ◌&&◌, ◌||◌, not, List, [], ◌∷◌, Option, Some, None}
-use Rattle.std.proofs.Common.{Result, Ok, ap, filter, map, refl, subst, sym}
-use Rattle.std.specs.Prelude.{eqb, find, is_none, is_some, if◌then◌else◌}
+use Rattle.std.proofs.Common.{Ok, ap, filter, map, refl, subst, sym}
+use Rattle.std.specs.Prelude.{eqb, is_none, is_some, if◌then◌else◌}
 use Rattle.std.specs.List.{list_all}
 use Rattle.std.specs.Option.{option_eq}
 use Rattle.std.specs.Str.{bytes_eq}
 use Rattle.std.proofs.lemmas.Bool.{and_from, and_parts, false≢true, true≢false}
 use Rattle.std.proofs.lemmas.Slice.Eq.{bytes_eq-Decides}
-use Rattle.bosh_asks.specs.Asked.{dep_of, halting, kind_of}
+use Rattle.bosh_asks.specs.Asked.{dep_of, halting}
 use Rattle.bosh_asks.specs.Goals.{nothing, recorded_config}
 use Rattle.bosh_asks.specs.Known as asked
 use Rattle.bosh_asks.specs.Known.{lock_holder, next_task}
-use Rattle.bosh_asks.specs.Opened.{Alters, CleansUp, Deletes, Deploys, Does, Opens, disks_alone, plan_of}
-use Rattle.bosh_asks.specs.Over.{AltersOver, DeletesOver, DeploysOver, DoesOver, IsNamed, RenewsOver}
+use Rattle.bosh_asks.specs.Opened.{Alters, CleansUp, Deletes, Deploys, disks_alone, plan_of}
+use Rattle.bosh_asks.specs.Over.{AltersOver, DeletesOver, DeploysOver, RenewsOver}
 use Rattle.bosh_asks.specs.Recorded.{loose}
 use Rattle.bosh_asks.specs.declared.ask.Ask.{Ask}
 use Rattle.bosh_asks.specs.declared.ask.Ask.TheVariants as asks
@@ -30,15 +30,13 @@ use Rattle.bosh_cloudcfg.specs.declared.config.Config.{Config}
 use Rattle.bosh_goal.specs.Anew.{anew}
 use Rattle.bosh_goal.specs.declared.change.Change.{Change}
 use Rattle.bosh_goal.specs.declared.change.Change.TheVariants as changes
-use Rattle.bosh_history.specs.Goals.{does_not_stand, inst_of, is_in, named_instance, out_of_goal, to_change, to_delete}
+use Rattle.bosh_history.specs.Goals.{does_not_stand, inst_of, is_in, out_of_goal, to_change, to_delete}
 use Rattle.bosh_history.specs.Held.{is_offered}
 use Rattle.bosh_history.specs.Known.{Known, offers_in}
 use Rattle.bosh_history.specs.Moments.{Moment}
-use Rattle.bosh_history.specs.Openings.{MayOpen, OpensBy, OpensDisks, OpensFor, OpensOn, OpensWith, deploys, is_free}
+use Rattle.bosh_history.specs.Openings.{MayOpen, OpensBy, OpensDisks, OpensFor, OpensOn, deploys, is_free}
 use Rattle.bosh_history.specs.Openings.{is_offered_still, is_recorded, keeps_ties, names_what_is_there, ties_of, withdraws_nothing}
 use Rattle.bosh_history.specs.Words.{is_among}
-use Rattle.bosh_manifest_names.specs.Answer.{IsAnswer}
-use Rattle.bosh_manifest_names.specs.declared.fault.GoalFault.{GoalFault}
 use Rattle.bosh_records.specs.declared.records.Records.{Records}
 use Rattle.bosh_rows.specs.Standing.{same_truth}
 use Rattle.bosh_views.specs.View.{view_of}
@@ -287,17 +285,20 @@ may_open m records facts read next (asks.DeleteDeployment dep) o planned =
 may_open m records facts read next (asks.DeleteDisk disk) o planned =
     subst (OpensBy m.known o) (sym planned.opens.kind)
     (subst (λ goal. OpensDisks m.known o goal × (o.disks ≡ disk ∷ []) × (is_among eqb disk m.known.orphans ≡ true))
-    (sym (λ i. (does i).goal))
-    (on_disks m records facts read next (asks.DeleteDisk disk) o planned (disk ∷ []) refl planned.opens.source does,
-    (λ i. (does i).disks), sym (read.orphaned disk) ∙ planned.named))
+    (sym (λ i. (does i).goal)) (
+      on_disks m records facts read next (asks.DeleteDisk disk) o planned (disk ∷ []) refl planned.opens.source does,
+      (λ i. (does i).disks),
+      sym (read.orphaned disk) ∙ planned.named,
+    ))
   where
     does : plan_of o ≡ disks_alone (disk ∷ [])
     does = planned.opens.does
 may_open m records facts read next asks.CleanUp o planned =
     subst (OpensBy m.known o) (sym planned.opens.kind)
-    (subst (λ goal. OpensDisks m.known o goal × (o.disks ≡ m.known.orphans)) (sym (λ i. (does.1 i).goal))
-    (on_disks m records facts read next asks.CleanUp o planned (loose does.0) refl planned.opens.source does.1,
-    planned.over ∙ read.loose))
+    (subst (λ goal. OpensDisks m.known o goal × (o.disks ≡ m.known.orphans)) (sym (λ i. (does.1 i).goal)) (
+      on_disks m records facts read next asks.CleanUp o planned (loose does.0) refl planned.opens.source does.1,
+      planned.over ∙ read.loose,
+    ))
   where
     does : CleansUp (plan_of o)
     does = planned.opens.does

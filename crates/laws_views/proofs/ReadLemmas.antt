@@ -3,7 +3,7 @@ use Rattle.std.proofs.Common.{◌≡◌, ◌∙◌, ℕ, ◌+◌, ◌<◌, Bool,
 use Rattle.std.proofs.Common.{ap, arith, filter, map, refl, sym}
 use Rattle.std.specs.Prelude.{eqb, find, is_none, is_some, min, if◌then◌else◌}
 use Rattle.std.specs.List.{cons_option, filter_map, list_all, list_any}
-use Rattle.std.specs.Option.{option_and_then, option_eq, option_map, option_map_or, option_or}
+use Rattle.std.specs.Option.{option_and_then, option_map, option_map_or, option_or}
 use Rattle.std.specs.Str.{bytes_eq}
 use Rattle.std.proofs.lemmas.Bool.{and_parts, false≢true}
 use Rattle.bosh_asks.specs.Changed as changed
@@ -24,7 +24,6 @@ use Rattle.bosh_base.specs.declared.snapshot.Orphan.{Orphan}
 use Rattle.bosh_base.specs.declared.task.TaskRow.{TaskRow}
 use Rattle.bosh_history.specs.Goals as goals
 use Rattle.bosh_history.specs.Goals.{inst_of, out_of_goal}
-use Rattle.bosh_history.specs.Held.{is_open}
 use Rattle.bosh_history.specs.Known.{Known}
 use Rattle.bosh_history.specs.Moments.{Moment}
 use Rattle.bosh_history.specs.Openings as openings
@@ -32,12 +31,11 @@ use Rattle.bosh_history.specs.Openings.{is_free, is_offered_still, keeps_ties, t
 use Rattle.bosh_history.specs.Snapshots.{dep_row, task_row}
 use Rattle.bosh_history.specs.Words.{is_among}
 use Rattle.bosh_records.specs.Arrivals.{Arrivals}
-use Rattle.bosh_records.specs.Readers.{goal_of, orphan_at, row_at}
+use Rattle.bosh_records.specs.Readers.{orphan_at}
 use Rattle.bosh_records.specs.Table.{things}
 use Rattle.bosh_records.specs.declared.instances.Instance.{Instance}
 use Rattle.bosh_records.specs.declared.orphans.LooseDisk.{LooseDisk}
 use Rattle.bosh_records.specs.declared.records.Records.{Records}
-use Rattle.bosh_records.specs.declared.records.Since.{Since}
 use Rattle.bosh_rows.specs.After.{bare}
 use Rattle.bosh_rows.specs.Disks.{is_detached}
 use Rattle.bosh_rows.specs.Same.{same_inst}
@@ -250,7 +248,8 @@ module _ (m : Moment) (calls : ℕ → Option Begin) (snapped : ℕ) (records : 
       ≡ map inst_of (filter (λ want. every || goals.does_not_stand k want) wants)
   changed_known every [] = refl
   changed_known every (want ∷ wants) =
-      (λ i. if every || (ap (changed.does_not_stand want) (stands.rows want.inst) ∙ differs (is_among same_inst want.inst k.instances) refl) i
+      (λ i. if every || (ap (changed.does_not_stand want) (stands.rows want.inst)
+      ∙ differs (is_among same_inst want.inst k.instances) refl) i
       then want.inst ∷ changed_of every wants (rows_at records wants) else changed_of every wants (rows_at records wants))
       ∙ by (every || goals.does_not_stand k want) (changed_known every wants)
     where

@@ -74,7 +74,7 @@ key_total =
 key_own : (a : Key) → same_key a a ≡ true
 key_own a = (same_key_decides a a).1 refl
 
-key_equal : (a b : Key) → key_cmp a b ≡ Equal → a ≡ b
+pub key_equal : (a b : Key) → key_cmp a b ≡ Equal → a ≡ b
 key_equal a b one = key_keys a b (ap is_eq one)
 
 key_tells : (a b : Key) → Tells same_key a b

@@ -5,7 +5,9 @@ use Rattle.bosh_asks.specs.Known.{lock_holder, next_task}
 use Rattle.bosh_asks.specs.Opened.{Opens, plan_of}
 use Rattle.bosh_asks.specs.Over.{DoesOver, IsNamed}
 use Rattle.bosh_asks.specs.declared.ask.Ask.{Ask}
+use Rattle.bosh_asks.specs.declared.ask.Ask.TheVariants as asks
 use Rattle.bosh_base.specs.declared.entry.TaskOpen.{TaskOpen}
+use Rattle.bosh_manifest.specs.Sound.{IsSound}
 use Rattle.bosh_records.specs.declared.records.Records.{Records}
 
 pub record IsPlanned (records : Records) (ask : Ask) (o : TaskOpen) : Type 0 where
@@ -19,3 +21,8 @@ pub record IsPlanned (records : Records) (ask : Ask) (o : TaskOpen) : Type 0 whe
   pub over : DoesOver records ask (plan_of o)
   -- .. and tells so
   pub opens : Opens ask o
+
+-- the manifest of a deploy is a checked one
+abbrev pub IsChecked : Ask → Type 0
+IsChecked (asks.Deploy it) = IsSound it.manifest
+IsChecked ask = Unit {0}
