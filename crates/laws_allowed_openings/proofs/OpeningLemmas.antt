@@ -285,14 +285,15 @@ module _ (k : Known) (records : Records) (known : AreReadAsKnown k records) wher
     deletes (kinds.Stop i) of is = ap is_empty is
     deletes (kinds.Resolve i) of is = ap is_empty is
 
-    opens_with : (kind : TaskKind) → is_of_deployment kind ≡ true → OpensWith k (record o { kind = kind }) goal
-        → claim.opens_with records (record o { kind = kind }) goal ≡ true
+    opens_with : (kind : TaskKind) → is_of_deployment kind ≡ true
+        → OpensWith k (record o { kind = kind; goal = Some goal }) goal
+        → claim.opens_with records (record o { kind = kind; goal = Some goal }) goal ≡ true
     opens_with kind of may =
         and_from (claim.same_dep o.dep (Some goal.dep)) _ may.of_the_deployment
         (and_from (is_empty o.disks) _ (ap is_empty may.no_disks)
         (and_from (claim.names_what_is_there records kind goal) _ (named kind may.is_there)
-        (and_from (claim.changes records (record o { kind = kind }) goal) _ (changes kind may.changes)
-        (and_from (claim.deletes records (record o { kind = kind }) goal) _ (deletes kind of may.deletes)
+        (and_from (claim.changes records (record o { kind = kind; goal = Some goal }) goal) _ (changes kind may.changes)
+        (and_from (claim.deletes records (record o { kind = kind; goal = Some goal }) goal) _ (deletes kind of may.deletes)
         (none_withdrawn goal records.deployments.places.entries (known.consumers goal ∙ may.keeps_links))))))
 
   -- ---- of any kind
@@ -315,15 +316,15 @@ module _ (k : Known) (records : Records) (known : AreReadAsKnown k records) wher
       (and_from (pointwise nat_eq o.disks (d ∷ [])) _ (pointwise_same nat_eq number_itself o.disks (d ∷ []) disks)
       (known.orphaned d ∙ orphaned))
   does o (kinds.DeleteDisk d) (Some goal) (may, disks, orphaned) = absurd may
-  does o kinds.Deploy (Some goal) may = opens_with (record o { goal = Some goal }) goal kinds.Deploy refl may
-  does o kinds.Fix (Some goal) may = opens_with (record o { goal = Some goal }) goal kinds.Fix refl may
+  does o kinds.Deploy (Some goal) may = opens_with o goal kinds.Deploy refl may
+  does o kinds.Fix (Some goal) may = opens_with o goal kinds.Fix refl may
   does o kinds.DeleteDeployment (Some goal) may =
-      opens_with (record o { goal = Some goal }) goal kinds.DeleteDeployment refl may
+      opens_with o goal kinds.DeleteDeployment refl may
   does o (kinds.Recreate i) (Some goal) may =
-      opens_with (record o { goal = Some goal }) goal (kinds.Recreate i) refl may
-  does o (kinds.Start i) (Some goal) may = opens_with (record o { goal = Some goal }) goal (kinds.Start i) refl may
-  does o (kinds.Stop i) (Some goal) may = opens_with (record o { goal = Some goal }) goal (kinds.Stop i) refl may
-  does o (kinds.Resolve i) (Some goal) may = opens_with (record o { goal = Some goal }) goal (kinds.Resolve i) refl may
+      opens_with o goal (kinds.Recreate i) refl may
+  does o (kinds.Start i) (Some goal) may = opens_with o goal (kinds.Start i) refl may
+  does o (kinds.Stop i) (Some goal) may = opens_with o goal (kinds.Stop i) refl may
+  does o (kinds.Resolve i) (Some goal) may = opens_with o goal (kinds.Resolve i) refl may
   does o kind None may = absurd may
 
   -- what every task that may open has
