@@ -30,7 +30,7 @@ use Rattle.laws_sites.proofs.StepLemmas.{book_goes_on, good_on, halted_good, sto
 use Rattle.laws_sites.proofs.StopLemmas.{HasTaken, MayTakeMore, effects_stopped, take_stopped}
 use Rattle.laws_sites.specs.Calls.{AreCalls, AreRising}
 use Rattle.laws_sites.specs.Good.{GoesOn, HasHalted, IsGood, IsRecorded, MayCome, MayPend, moment_of}
-use Rattle.laws_stands.specs.Stands.{Stands}
+use Rattle.laws_stands_fits.specs.Whole.{StandsWhole}
 
 -- ---- what is pending
 
@@ -91,7 +91,7 @@ module _ {K L : Type 0} {k : keeper.Ghosts K} {l : keeper.Ghosts L} (outside : O
       recorded it = record {
         told = it.told;
         agrees = it.agrees;
-        stands = subst (λ (b : Book (RigState K)). Stands it.told b.records) (sym lacks.same_book) it.stands;
+        whole = subst (λ (b : Book (RigState K)). StandsWhole it.told b.records) (sym lacks.same_book) it.whole;
       }
 
       goes : GoesOn bodies cloud_bodies (moment_of o was) was → GoesOn bodies cloud_bodies (moment_of o was) now
@@ -180,7 +180,7 @@ module _ {K L : Type 0} {k : keeper.Ghosts K} {l : keeper.Ghosts L} (outside : O
           recorded it = record {
             told = it.told;
             agrees = it.agrees;
-            stands = subst (λ (b : Book (RigState K)). Stands it.told b.records) (sym gives.book) it.stands;
+            whole = subst (λ (b : Book (RigState K)). StandsWhole it.told b.records) (sym gives.book) it.whole;
           }
 
           stays : HasHalted outside bodies cloud_bodies (moment_of o was) was

@@ -1,2 +1,4 @@
+pub mod Asks
 pub mod Calls
+pub mod Found
 pub mod Good
