@@ -72,7 +72,7 @@ less_stays old new less i is = by (less.goal i.dep)
 
 -- ---- entries
 
-less_works : (m : Moment) (e : Entry) (t : ℕ) → StaysOpen m.known (learn m.known e) t
+pub less_works : (m : Moment) (e : Entry) (t : ℕ) → StaysOpen m.known (learn m.known e) t
     → works (noting m e) t ≡ true → works m t ≡ true
 less_works m e t stays is = grind (arith, is, stays.was)
 

@@ -121,7 +121,7 @@ module _ {K L : Type 0} {k : keeper.Ghosts K} {l : keeper.Ghosts L} (outside : O
   parts = and_parts (nat_lt m.stopped t) (nat_le t m.known.tasks && is_open m.known t) working
 
   choice : (worker : ℕ) → claimed_of (choice_of site.book.records t worker) ≡ claim_at m t worker
-  choice worker = choice_is_claim m recorded.told site.book.records t worker recorded.stands recorded.agrees
+  choice worker = choice_is_claim m recorded.told site.book.records t worker recorded.whole.stands recorded.agrees
       (run_facts outside o (story_of site) fit good.run) (ltb-true m.stopped t parts.0)
       (leb-true t m.known.tasks (and_parts (nat_le t m.known.tasks) (is_open m.known t) parts.1).0) numbers
 
@@ -145,14 +145,14 @@ module _ {K L : Type 0} {k : keeper.Ghosts K} {l : keeper.Ghosts L} (outside : O
           (ap (of_task site.book.records 0) is ∙ over_is site.book.records 0 work end comes) (chosen_lawful 0))
         where
           it : IsWork recorded.told t (Some work)
-          it = subst (IsWork recorded.told t) is (recorded.stands.works t)
+          it = subst (IsWork recorded.told t) is (recorded.whole.stands.works t)
 
           known : recorded.told.known ≡ m.known
           known = recorded.agrees.known_is
 
           begun : (failure : Failure) → (recorded.told.known.task t).failed ≡ Some failure
               → is_some (recorded.told.known.begun (number_of failure)) ≡ true
-          begun = recorded.stands.tells_well.failed t
+          begun = recorded.whole.stands.tells_well.failed t
 
           called : (failure : Failure) → (recorded.told.known.task t).failed ≡ Some failure
               → failure ≢ failures.Interrupted

@@ -2,7 +2,6 @@
 use Rattle.std.proofs.Common.{◌≡◌, ◌∙◌, ℕ, Bool, true, false, List, [], ◌∷◌, ◌++◌, Option, Some, None, append-nil, refl, subst, sym}
 use Rattle.std.specs.Prelude.{◌≢◌}
 use Rattle.std.proofs.lemmas.Bool.{false≢true, true≢false}
-use Rattle.bosh_asks.specs.declared.fault.BookFault.TheVariants as book
 use Rattle.bosh_base.specs.declared.entry.Entry.{Entry}
 use Rattle.bosh_base.specs.declared.moves.Cause.{Cause}
 use Rattle.bosh_base.specs.declared.moves.Cause.TheVariants as causes
@@ -15,7 +14,6 @@ use Rattle.bosh_cloud.specs.Loading as cloud
 use Rattle.bosh_history.specs.Fit.{IsFit}
 use Rattle.bosh_history.specs.Moments.{Moment, Opening}
 use Rattle.bosh_history.specs.Notes.{Outside}
-use Rattle.bosh_history.specs.Permitted.{may_take}
 use Rattle.bosh_journal.specs.JournalView.{Pending}
 use Rattle.bosh_journal.specs.Kept as journal
 use Rattle.bosh_moves.specs.Story.{story}
@@ -30,7 +28,7 @@ use Rattle.laws_sites.proofs.StepLemmas.{book_goes_on, good_on, halted_good, sto
 use Rattle.laws_sites.proofs.StopLemmas.{HasTaken, MayTakeMore, effects_stopped, take_stopped}
 use Rattle.laws_sites.specs.Calls.{AreCalls, AreRising}
 use Rattle.laws_sites.specs.Good.{GoesOn, HasHalted, IsGood, IsRecorded, MayCome, MayPend, moment_of}
-use Rattle.laws_stands.specs.Stands.{Stands}
+use Rattle.laws_stands_fits.specs.Whole.{StandsWhole}
 
 -- ---- what is pending
 
@@ -91,7 +89,7 @@ module _ {K L : Type 0} {k : keeper.Ghosts K} {l : keeper.Ghosts L} (outside : O
       recorded it = record {
         told = it.told;
         agrees = it.agrees;
-        stands = subst (λ (b : Book (RigState K)). Stands it.told b.records) (sym lacks.same_book) it.stands;
+        whole = subst (λ (b : Book (RigState K)). StandsWhole it.told b.records) (sym lacks.same_book) it.whole;
       }
 
       goes : GoesOn bodies cloud_bodies (moment_of o was) was → GoesOn bodies cloud_bodies (moment_of o was) now
@@ -180,7 +178,7 @@ module _ {K L : Type 0} {k : keeper.Ghosts K} {l : keeper.Ghosts L} (outside : O
           recorded it = record {
             told = it.told;
             agrees = it.agrees;
-            stands = subst (λ (b : Book (RigState K)). Stands it.told b.records) (sym gives.book) it.stands;
+            whole = subst (λ (b : Book (RigState K)). StandsWhole it.told b.records) (sym gives.book) it.whole;
           }
 
           stays : HasHalted outside bodies cloud_bodies (moment_of o was) was

@@ -8,7 +8,7 @@ use Rattle.bosh_history.specs.Moments.{Moment, Opening, beginning, durable, dura
 use Rattle.bosh_history.specs.Notes.{Outside}
 use Rattle.bosh_history.specs.Permitted.{IsRun, IsRunFrom}
 
-run_from : (outside : Outside) (m : Moment) (one other : List Move) → IsRunFrom outside m one
+pub run_from : (outside : Outside) (m : Moment) (one other : List Move) → IsRunFrom outside m one
     → IsRunFrom outside (fold later m one) other → IsRunFrom outside m (one ++ other)
 run_from outside m [] other was now = now
 run_from outside m (move ∷ one) other was now = (was.0, run_from outside (later m move) one other was.1 now)
@@ -17,7 +17,7 @@ pub run_on : (outside : Outside) (o : Opening) (one other : List Move) → IsRun
     → IsRunFrom outside (moment o one) other → IsRun outside o (one ++ other)
 run_on outside o one other was now = run_from outside (beginning o) one other was now
 
-later_from : (m : Moment) (one other : List Move) → fold later m (one ++ other) ≡ fold later (fold later m one) other
+pub later_from : (m : Moment) (one other : List Move) → fold later m (one ++ other) ≡ fold later (fold later m one) other
 later_from m [] other = refl
 later_from m (move ∷ one) other = later_from (later m move) one other
 

@@ -1,6 +1,5 @@
 -- A site is good once it performed a call that it might perform.
-use Rattle.std.proofs.Common.{◌≡◌, ◌∙◌, ℕ, Bool, true, false, List, [], ◌∷◌, ◌++◌, Option, Some, None, ap, append-nil, length, subst, sym}
-use Rattle.std.specs.Prelude.{◌≢◌}
+use Rattle.std.proofs.Common.{◌≡◌, ◌∙◌, ℕ, Bool, List, [], ◌∷◌, ◌++◌, Option, Some, None, ap, append-nil, length, subst, sym}
 use Rattle.std.proofs.lemmas.Bool.{false≢true}
 use Rattle.bosh_agent.specs.Compiled.{compiled_digest}
 use Rattle.bosh_base.specs.declared.answer.Answer.{Answer}
@@ -30,7 +29,7 @@ use Rattle.laws_sites.proofs.MomentLemmas.{durable_on, later_on, run_on}
 use Rattle.laws_sites.proofs.PerformLemmas.{dep_is, effects_are, may_perform, rising_performed}
 use Rattle.laws_sites.specs.Calls.{AreCalls, AreRising}
 use Rattle.laws_sites.specs.Good.{GoesOn, IsGood, IsRecorded, moment_of}
-use Rattle.laws_stands.specs.Stands.{Stands}
+use Rattle.laws_stands_fits.specs.Whole.{StandsWhole}
 use Rattle.laws_stands_noted.proofs.AgreesLemmas.{move_agrees}
 
 module _ {K L : Type 0} {k : keeper.Ghosts K} {l : keeper.Ghosts L} (outside : Outside) (bodies : K → Option (List (List ℕ)))
@@ -57,14 +56,14 @@ module _ {K L : Type 0} {k : keeper.Ghosts K} {l : keeper.Ghosts L} (outside : O
   for : current.IsFor found.0.begin permit
   for = subst (λ (b : Begin). current.IsFor b permit)
       (some_begin free.0.1.begun found.0.begin
-      (sym free.0.1.is_open ∙ recorded.stands.calls permit.n ∙ recorded.agrees.live permit.n found.0 found.1))
+      (sym free.0.1.is_open ∙ recorded.whole.stands.calls permit.n ∙ recorded.agrees.live permit.n found.0 found.1))
       free.0.1.is_for
     where
       some_begin : (a b : Begin) → ◌≡◌ {A = Option Begin} (Some a) (Some b) → a ≡ b
       some_begin a b is = cc
 
   of_dep : dep_of m.known found.0.begin.owner ≡ permit.dep
-  of_dep = by (dep_is recorded.told was.book.records permit.owner permit.dep recorded.stands
+  of_dep = by (dep_is recorded.told was.book.records permit.owner permit.dep recorded.whole.stands
       (ap (current.dep_of was.book.records) (sym free.0.1.is_for.owner) ∙ free.0.1.of_dep))
     where
       by : dep_of recorded.told.known permit.owner ≡ permit.dep → dep_of m.known found.0.begin.owner ≡ permit.dep
@@ -108,8 +107,8 @@ module _ {K L : Type 0} {k : keeper.Ghosts K} {l : keeper.Ghosts L} (outside : O
   told_so = record {
     told = recorded.told;
     agrees = move_agrees outside m recorded.told (Did d) recorded.agrees
-        (run_facts outside o (story_of was) fit good.run) recorded.stands.tells_well may;
-    stands = subst (λ (b : Book (RigState K)). Stands recorded.told b.records) (sym performs.same_book) recorded.stands;
+        (run_facts outside o (story_of was) fit good.run) recorded.whole.stands.tells_well may;
+    whole = subst (λ (b : Book (RigState K)). StandsWhole recorded.told b.records) (sym performs.same_book) recorded.whole;
   }
 
   goes_on : GoesOn bodies cloud_bodies (performing m d) now

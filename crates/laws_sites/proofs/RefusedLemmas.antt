@@ -48,7 +48,7 @@ module _ {K L : Type 0} {k : keeper.Ghosts K} {l : keeper.Ghosts L} (outside : O
 
   -- an open call of the moment began as the records have it
   live : (x : ℕ) (call : OpenCall) → m.calls x ≡ Some call → call_at was.book.records x ≡ Some call.begin
-  live x call is = recorded.stands.calls x ∙ recorded.agrees.live x call is
+  live x call is = recorded.whole.stands.calls x ∙ recorded.agrees.live x call is
 
   module _ (ran : was.history.is_halted ≡ false) where
     goes : GoesOn bodies cloud_bodies m was
@@ -65,7 +65,7 @@ module _ {K L : Type 0} {k : keeper.Ghosts K} {l : keeper.Ghosts L} (outside : O
         some_begin a b is = cc
 
     of_dep : dep_of m.known found.0.begin.owner ≡ permit.dep
-    of_dep = by (dep_is recorded.told was.book.records permit.owner permit.dep recorded.stands
+    of_dep = by (dep_is recorded.told was.book.records permit.owner permit.dep recorded.whole.stands
         (ap (current.dep_of was.book.records) (sym free.0.1.is_for.owner) ∙ free.0.1.of_dep))
       where
         by : dep_of recorded.told.known permit.owner ≡ permit.dep → dep_of m.known found.0.begin.owner ≡ permit.dep
@@ -77,7 +77,7 @@ module _ {K L : Type 0} {k : keeper.Ghosts K} {l : keeper.Ghosts L} (outside : O
     may : has_effect (fate_of was.cloud permit.owner permit.call) was.cloud.effects permit.call ≡ true
         → (nat_lt 0 permit.n && may_take outside m permit.n) ≡ true
     may has = and_from (nat_lt 0 permit.n) (may_take outside m permit.n)
-        (lt-ltb 0 permit.n (recorded.stands.tells_well.low permit.n found.0.begin
+        (lt-ltb 0 permit.n (recorded.whole.stands.tells_well.low permit.n found.0.begin
         (recorded.agrees.live permit.n found.0 found.1)))
         (may_take_open outside m permit.n found.0 found.1 found.2
         (subst (λ (effects : List Entry). takes_effect outside.built effects found.0.begin.call ≡ true) goes.effects
@@ -130,7 +130,7 @@ module _ {K L : Type 0} {k : keeper.Ghosts K} {l : keeper.Ghosts L} (outside : O
           calls = λ x low. goes.calls x;
           live = λ x call low is. live x call is;
           deps = λ owner dep is. ap (λ known. dep_of known owner) (sym recorded.agrees.known_is)
-              ∙ dep_is recorded.told was.book.records owner dep recorded.stands is;
+              ∙ dep_is recorded.told was.book.records owner dep recorded.whole.stands is;
           free = λ low. free.1;
         }) stopped.each
 

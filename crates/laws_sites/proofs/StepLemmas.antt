@@ -19,7 +19,7 @@ use Rattle.bosh_world.specs.declared.site.Site.{Site}
 use Rattle.laws_runs.proofs.ReadLemmas.{run_facts}
 use Rattle.laws_sites.proofs.MomentLemmas.{durable_on, later_on, run_on}
 use Rattle.laws_sites.specs.Good.{GoesOn, HasHalted, IsGood, IsRecorded, moment_of}
-use Rattle.laws_stands.specs.Stands.{Stands}
+use Rattle.laws_stands_fits.specs.Whole.{StandsWhole}
 use Rattle.laws_stands_noted.proofs.AgreesLemmas.{move_agrees}
 
 -- what is good of a site beside its history, at the moment that this has come to
@@ -83,8 +83,8 @@ halted_good outside bodies cloud_bodies o was now cause fit good ran halted stor
     told_so = record {
       told = recorded.told;
       agrees = move_agrees outside (moment_of o was) recorded.told (moves.Halt cause) recorded.agrees
-          (run_facts outside o (story_of was) fit good.run) recorded.stands.tells_well (good.halted ∙ ran);
-      stands = subst (Stands recorded.told) (sym records) recorded.stands;
+          (run_facts outside o (story_of was) fit good.run) recorded.whole.stands.tells_well (good.halted ∙ ran);
+      whole = subst (StandsWhole recorded.told) (sym records) recorded.whole;
     }
 
 -- ---- a site that has not halted

@@ -1,6 +1,6 @@
 -- A site stays good as a job writes and as a machine is lost, and where the cloud's store fails in that.
 use Rattle.std.proofs.Common.{◌≡◌, ◌∙◌, ◌≤◌, ℕ, Bool, true, false, List, [], ◌∷◌, ◌++◌, Option, Some, None, ap, append-nil, refl, subst, sym}
-use Rattle.std.specs.Prelude.{◌≢◌, ◌||◌, ◌==◌, if◌then◌else◌}
+use Rattle.std.specs.Prelude.{◌||◌, ◌==◌, if◌then◌else◌}
 use Rattle.std.specs.List.{filter_map, list_any}
 use Rattle.std.proofs.lemmas.Bool.{and_from, eq-eqb, false≢true}
 use Rattle.bosh_asks.specs.declared.fault.BookFault.TheVariants as book
@@ -47,8 +47,8 @@ use Rattle.laws_sites.specs.Calls.{AreCalls, AreRising}
 use Rattle.laws_sites.specs.Good.{GoesOn, IsGood, IsRecorded, MayCome, moment_of}
 use Rattle.laws_stands.proofs.MemberLemmas.{inst_is}
 use Rattle.laws_stands.specs.Agrees.{Agrees}
-use Rattle.laws_stands.specs.Stands.{Stands}
 use Rattle.laws_stands.specs.Told.{TellsWell, Told}
+use Rattle.laws_stands_fits.specs.Whole.{StandsWhole}
 use Rattle.laws_stands_noted.proofs.AgreesLemmas.{move_agrees}
 
 -- what holds of an instance holds of one of a list that it is among
@@ -96,8 +96,8 @@ module _ {K L : Type 0} {k : keeper.Ghosts K} {l : keeper.Ghosts L} (outside : O
       recorded : IsRecorded m was → IsRecorded (later m move) now
       recorded it = record {
         told = it.told;
-        agrees = agrees it.told it.agrees it.stands.tells_well;
-        stands = subst (λ (b : Book (RigState K)). Stands it.told b.records) (sym changes.same_book) it.stands;
+        agrees = agrees it.told it.agrees it.whole.stands.tells_well;
+        whole = subst (λ (b : Book (RigState K)). StandsWhole it.told b.records) (sym changes.same_book) it.whole;
       }
 
       goes_on : GoesOn bodies cloud_bodies m was → GoesOn bodies cloud_bodies (later m move) now
@@ -157,7 +157,7 @@ module _ {K L : Type 0} {k : keeper.Ghosts K} {l : keeper.Ghosts L} (outside : O
     -- the row is that of an instance that is recorded
     row_is : (writes.it ≡ m.known.row inst) × (is_among same_inst inst m.known.instances ≡ true)
     row_is = by (is_among same_inst inst its_records.told.known.instances) refl
-        (sym (its_records.stands.rows inst) ∙ writes.is_row)
+        (sym (its_records.whole.stands.rows inst) ∙ writes.is_row)
       where
         by : (b : Bool) → is_among same_inst inst its_records.told.known.instances ≡ b
             → ◌≡◌ {A = Option Row} (if b then Some (its_records.told.known.row inst) else None) (Some writes.it)

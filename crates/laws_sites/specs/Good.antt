@@ -18,8 +18,8 @@ use Rattle.bosh_world.specs.declared.site.Site.{Site}
 use Rattle.laws_facts.specs.Owners.{works}
 use Rattle.laws_sites.specs.Calls.{AreCalls, AreRising}
 use Rattle.laws_stands.specs.Agrees.{Agrees}
-use Rattle.laws_stands.specs.Stands.{Stands}
 use Rattle.laws_stands.specs.Told.{Told}
+use Rattle.laws_stands_fits.specs.Whole.{StandsWhole}
 
 -- the moment that the history of a site has come to
 abbrev pub moment_of : {K L : Type 0} {k : keeper.Ghosts K} {l : keeper.Ghosts L} → Opening → Site K L k l → Moment
@@ -66,12 +66,12 @@ pub record HasHalted {K L : Type 0} {k : keeper.Ghosts K} {l : keeper.Ghosts L}
   pub book_kept : journal.IsKept (bodies_of bodies) site.book.journal
   pub cloud_kept : cloud.IsKept cloud_bodies site.cloud
 
--- what is recorded stands for what the entries tell, and that agrees with the moment
+-- what is recorded stands for what the entries tell and fits it, and that agrees with the moment
 pub record IsRecorded {K L : Type 0} {k : keeper.Ghosts K} {l : keeper.Ghosts L} (m : Moment) (site : Site K L k l) : Type 0
   where
     pub told : Told
     pub agrees : Agrees m told
-    pub stands : Stands told site.book.records
+    pub whole : StandsWhole told site.book.records
 
 pub record IsGood {K L : Type 0} {k : keeper.Ghosts K} {l : keeper.Ghosts L}
     (outside : Outside) (bodies : K → Option (List (List ℕ))) (cloud_bodies : L → Option (List (List ℕ))) (o : Opening)

@@ -86,43 +86,58 @@ module _ (outside : Outside) (m : Moment) (h : KnownFacts m) where
       (and_from (nat_le n (learn m.known e).tasks) _ (le-leb n (learn m.known e).tasks (omega arith)) there) in
       (and_parts (nat_le n m.known.tasks) _ (and_parts (nat_le 1 n) _ (stays.was open_now)).1).1
 
+  before_same : (e : Entry) → MayNote outside m e → is_opening e ≡ false → is_recovering (noting m e) ≡ true
+      → is_recovering m ≡ true
+  before_same e may none = any_more (is_open (learn m.known e)) (is_open m.known) m.stopped (was_open e may none)
+
   recovered_same : (e : Entry) → MayNote outside m e → is_opening e ≡ false → AreRecovered (noting m e)
   recovered_same e may none =
       implied (is_recovering (noting m e)) (nat_le (learn m.known e).tasks m.stopped)
       (λ left.
       ap (λ (n : ℕ). nat_le n m.stopped) (same_count outside m e may none)
-      ∙ (sym (λ j. implies (before left j) (nat_le m.known.tasks m.stopped)) ∙ h.numbers.none_opened))
+      ∙ (sym (λ j. implies (before_same e may none left j) (nat_le m.known.tasks m.stopped)) ∙ h.numbers.none_opened))
+
+  before_opened : (o : TaskOpen) → MayOpen m.known o → is_recovering (noting m (entries.TaskOpen o)) ≡ true
+      → is_recovering m ≡ true
+  before_opened o may =
+      any_more (is_open (learn m.known (entries.TaskOpen o))) (is_open m.known) m.stopped
+      (λ n low high there. other n high (eqb_tells o.task n) there)
     where
-      before : is_recovering (noting m e) ≡ true → is_recovering m ≡ true
-      before = any_more (is_open (learn m.known e)) (is_open m.known) m.stopped (was_open e may none)
+      number : o.task ≡ m.known.tasks + 1
+      number = opens_next m.known o may
+
+      other : (n : ℕ) → n ≤ m.stopped
+          → ((eqb o.task n ≡ true) × (o.task ≡ n)) ⊎ ((eqb o.task n ≡ false) × (o.task ≢ n))
+          → is_open (learn m.known (entries.TaskOpen o)) n ≡ true → is_open m.known n ≡ true
+      other n high (inl same) there =
+          let equal : o.task ≡ n = same.1 in
+          let next : o.task ≡ m.known.tasks + 1 = number in
+          let upto : m.stopped ≤ m.known.tasks = past in absurd (omega arith)
+      other n high (inr apart) there =
+          sym (λ j. not (is_some (if apart.0 j then task_opened m.known o else m.known.task n).end)) ∙ there
 
   recovered_opened : (o : TaskOpen) → MayOpen m.known o → may_follow m (entries.TaskOpen o) ≡ true
       → AreRecovered (noting m (entries.TaskOpen o))
   recovered_opened o may follows =
       implied (is_recovering (noting m (entries.TaskOpen o))) (nat_le o.task m.stopped)
-      (λ left. absurd (none (is_recovering m) (before left) follows))
+      (λ left. absurd (none (is_recovering m) (before_opened o may left) follows))
     where
-      number : o.task ≡ m.known.tasks + 1
-      number = opens_next m.known o may
-
       none : (b : Bool) → b ≡ true → (not b || false) ≡ true → ⊥
       none true is may = false≢true may
       none false is may = false≢true is
 
-      before : is_recovering (noting m (entries.TaskOpen o)) ≡ true → is_recovering m ≡ true
-      before =
-          any_more (is_open (learn m.known (entries.TaskOpen o))) (is_open m.known) m.stopped
-          (λ n low high there. other n high (eqb_tells o.task n) there)
-        where
-          other : (n : ℕ) → n ≤ m.stopped
-              → ((eqb o.task n ≡ true) × (o.task ≡ n)) ⊎ ((eqb o.task n ≡ false) × (o.task ≢ n))
-              → is_open (learn m.known (entries.TaskOpen o)) n ≡ true → is_open m.known n ≡ true
-          other n high (inl same) there =
-              let equal : o.task ≡ n = same.1 in
-              let next : o.task ≡ m.known.tasks + 1 = number in
-              let upto : m.stopped ≤ m.known.tasks = past in absurd (omega arith)
-          other n high (inr apart) there =
-              sym (λ j. not (is_some (if apart.0 j then task_opened m.known o else m.known.task n).end)) ∙ there
+  -- no task that a stop interrupted comes back
+  pub still_recovered : (e : Entry) → MayNote outside m e → is_recovering m ≡ false → is_recovering (noting m e) ≡ false
+  still_recovered e may is = by (is_recovering (noting m e)) refl
+    where
+      before : (e : Entry) → MayNote outside m e → is_recovering (noting m e) ≡ true → is_recovering m ≡ true
+      before (entries.TaskOpen o) may = before_opened o may.0
+      before (entries.Snapshot s) may = absurd may
+      before entry may = before_same entry may refl
+
+      by : (b : Bool) → is_recovering (noting m e) ≡ b → is_recovering (noting m e) ≡ false
+      by true left = absurd (false≢true (sym is ∙ before e may left))
+      by false done = done
 
   recovered_note : (e : Entry) → may_follow m e ≡ true → MayNote outside m e → AreRecovered (noting m e)
   recovered_note (entries.TaskOpen o) follows may = recovered_opened o may.0 follows

@@ -1,0 +1,57 @@
+-- Numbers of calls that are left.
+use Rattle.std.proofs.Common.{◌≡◌, ◌∙◌, ◌<◌, ◌≤◌, ℕ, Bool, true, false, List, Option, ap, arith, subst, sym}
+use Rattle.std.specs.Prelude.{◌||◌, nat_le}
+use Rattle.std.proofs.lemmas.Bool.{leb-false, true≢false}
+use Rattle.bosh_book.specs.Running.{is_full, is_long}
+use Rattle.bosh_history.specs.Known.{Known}
+use Rattle.bosh_history.specs.Moments.{Opening}
+use Rattle.bosh_history.specs.Notes.{Outside}
+use Rattle.bosh_ports.specs.declared.keeper.Keeper as keeper
+use Rattle.bosh_world.specs.Holds.{IsHeld}
+use Rattle.bosh_world.specs.declared.held.HeldCall.{HeldCall}
+use Rattle.bosh_world.specs.declared.site.Site.{Site}
+use Rattle.laws_sites.proofs.EndLemmas.{working_is}
+use Rattle.laws_sites.proofs.StepLemmas.{book_goes_on}
+use Rattle.laws_sites.specs.Good.{GoesOn, IsGood, IsRecorded, moment_of}
+use Rattle.laws_stands.specs.Told.{is_going}
+
+-- there are numbers for calls while a book is not full
+pub numbers_left : {K L : Type 0} {k : keeper.Ghosts K} {l : keeper.Ghosts L} (outside : Outside)
+    (bodies : K → Option (List (List ℕ))) (cloud_bodies : L → Option (List (List ℕ))) (o : Opening) (was : Site K L k l)
+    → IsGood outside bodies cloud_bodies o was → was.history.is_halted ≡ false
+    → is_full was.book ≡ false → (moment_of o was).known.last_call < 4611686018427387904
+numbers_left outside bodies cloud_bodies o was good running full =
+    subst (λ (n : ℕ). n < 4611686018427387904)
+    (ap (λ arrivals. arrivals.last_call) it.whole.stands.uploads ∙ (λ i. (it.agrees.known_is i).last_call))
+    (below was.book.records.last_call (by (is_long was.book) (nat_le 4611686018427387904 was.book.records.last_call) full))
+  where
+    it : IsRecorded (moment_of o was) was
+    it = good.recorded (book_goes_on was running).1
+
+    by : (b c : Bool) → (b || c) ≡ false → c ≡ false
+    by false c is = is
+    by true c is = absurd (true≢false is)
+
+    below : (n : ℕ) → nat_le 4611686018427387904 n ≡ false → n < 4611686018427387904
+    below n is = leb-false 4611686018427387904 n is
+
+-- the task of a call that is held works, so there are numbers
+pub call_numbered : {K L : Type 0} {k : keeper.Ghosts K} {l : keeper.Ghosts L} (outside : Outside)
+    (bodies : K → Option (List (List ℕ))) (cloud_bodies : L → Option (List (List ℕ))) (o : Opening) (was : Site K L k l)
+    (call : HeldCall) → IsGood outside bodies cloud_bodies o was → was.history.is_halted ≡ false → IsHeld was call
+    → (moment_of o was).known.last_call < 18446744073709551615
+call_numbered outside bodies cloud_bodies o was call good running held =
+    few (moment_of o was).known.last_call
+    (goes.numbers held.0.1.begun.task (working_is (moment_of o was) held.0.1.begun.task goes.recovered
+    (subst (λ (known : Known). is_going known held.0.1.begun.task ≡ true) it.agrees.known_is
+    (it.whole.stands.tells_well.going call.permit.n held.0.1.begun
+    (sym (it.whole.stands.calls call.permit.n) ∙ held.0.1.is_open)))))
+  where
+    goes : GoesOn bodies cloud_bodies (moment_of o was) was
+    goes = good.runs running
+
+    it : IsRecorded (moment_of o was) was
+    it = good.recorded held.0.0
+
+    few : (n : ℕ) → n ≤ 4611686018427387904 → n < 18446744073709551615
+    few n less = omega arith
