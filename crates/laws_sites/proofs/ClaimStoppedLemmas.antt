@@ -60,7 +60,8 @@ module _ (one_more : OneMoreStands) {K L : Type 0} {k : keeper.Ghosts K} {l : ke
           pends = λ halted. may_pend_none outside (stopped m) now.book.journal.is_broken now.book.journal.pending
               ((λ i. (same i).journal.is_broken) ∙ (book_goes_on was notes.running).0);
           goes_on = λ is.
-              still_good bodies cloud_bodies faults outside o was now good (subst (λ (h : Option Cause). Notes bodies faults was [] h now) is still) calls;
+              still_good bodies cloud_bodies faults outside o was now good
+              (subst (λ (h : Option Cause). Notes bodies faults was [] h now) is still) calls;
         })
       where
         none : updates ≡ []
@@ -118,7 +119,8 @@ module _ (one_more : OneMoreStands) {K L : Type 0} {k : keeper.Ghosts K} {l : ke
             now.book.journal.is_broken now.book.journal.pending) same (by refusal is has.pends)
           where
             by : (why : BookFault) → why ≡ book.StoreFault
-                → turning.Pends one_more (bodies_of bodies) (faults_of faults) outside o fit task worker m has.notes.noted (Err why) now.book
+                → turning.Pends one_more (bodies_of bodies) (faults_of faults) outside o fit task worker m has.notes.noted
+                (Err why) now.book
                 → MayPend outside (stopped (fold later m (map moves.Note has.notes.noted))) now.book.journal.is_broken
                 now.book.journal.pending
             by book.StoreFault is (e, permitted, there) =

@@ -3,6 +3,7 @@ pub mod ChainLemmas
 pub mod ChoiceLemmas
 pub mod ClaimLemmas
 pub mod ClaimStoppedLemmas
+pub mod DeletingLemmas
 pub mod EndLemmas
 pub mod HaltLemmas
 pub mod HeldLemmas
@@ -13,7 +14,7 @@ pub mod NotedHaltLemmas
 pub mod NumberLemmas
 pub mod OpenedLemmas
 pub mod OpeningLemmas
-pub mod OrphanLemmas
+pub mod OrderLemmas
 pub mod PerformLemmas
 pub mod PerformedLemmas
 pub mod RefusedLemmas

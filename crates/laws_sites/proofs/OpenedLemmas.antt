@@ -25,12 +25,13 @@ use Rattle.bosh_world.specs.declared.fault.SiteFault.{SiteFault}
 use Rattle.bosh_world.specs.declared.site.Site.{Site}
 use Rattle.laws_held.proofs.HeldLemmas.{run_holds}
 use Rattle.laws_sites.proofs.CallLemmas.{calls_on}
+use Rattle.laws_sites.proofs.DeletingLemmas.{deployment_may_go}
 use Rattle.laws_sites.proofs.NoteLemmas.{OneMoreStands, noted_good, noted_recorded}
 use Rattle.laws_sites.proofs.NumberLemmas.{numbers_left}
 use Rattle.laws_sites.proofs.OpeningLemmas.{cleaning_may_open, disk_may_open}
 use Rattle.laws_sites.proofs.StepLemmas.{book_goes_on}
 use Rattle.laws_sites.proofs.StoppedLemmas.{left_still, refused_book_good}
-use Rattle.laws_sites.specs.Asks.{DeletesDisks}
+use Rattle.laws_sites.specs.Asks.{Deletes}
 use Rattle.laws_sites.specs.Calls.{AreCalls, AreRising}
 use Rattle.laws_sites.specs.Good.{GoesOn, IsGood, IsRecorded, moment_of}
 use Rattle.laws_tasks.proofs.RecoveredLemmas.{still_recovered}
@@ -54,7 +55,8 @@ module _ {K L : Type 0} {k : keeper.Ghosts K} {l : keeper.Ghosts L} (outside : O
       → IsGood outside bodies cloud_bodies o now
   opened_good one_more opening may_note room notes =
       noted_good outside bodies cloud_bodies faults o was now (entries.TaskOpen opening ∷ []) good notes (may, tt)
-      (λ read. noted_recorded one_more outside bodies cloud_bodies faults o was now (entries.TaskOpen opening ∷ []) None fit good notes (may, tt)
+      (λ read. noted_recorded one_more outside bodies cloud_bodies faults o was now (entries.TaskOpen opening ∷ []) None
+      fit good notes (may, tt)
       (few m.known.last_call left, tt))
       (still_recovered outside m (run_holds outside o (story_of was) fit good.run).holds.known
       (entries.TaskOpen opening) may_note goes.recovered)
@@ -79,9 +81,9 @@ module _ {K L : Type 0} {k : keeper.Ghosts K} {l : keeper.Ghosts L} (outside : O
       enough : (n : ℕ) → n < 4611686018427387904 → n ≤ 4611686018427387904
       enough n less = omega arith
 
-  -- ---- disks are deleted
+  -- ---- disks are deleted, or a deployment
 
-  may_delete : (ask : Ask) (opening : TaskOpen) → DeletesDisks ask → was.history.is_halted ≡ false
+  may_delete : (ask : Ask) (opening : TaskOpen) → Deletes ask → was.history.is_halted ≡ false
       → was.book.records.opened < 18446744073709551615 → IsOpeningOf was.book.records ask opening
       → MayNote outside m (entries.TaskOpen opening)
   may_delete (asks.DeleteDisk disk) opening only running room is =
@@ -96,16 +98,22 @@ module _ {K L : Type 0} {k : keeper.Ghosts K} {l : keeper.Ghosts L} (outside : O
     where
       it : IsRecorded m was
       it = good.recorded (book_goes_on was running).1
+  may_delete (asks.DeleteDeployment dep) opening only running room is =
+      deployment_may_go m it.told was.book.records it.whole.stands it.agrees
+      (run_holds outside o (story_of was) fit good.run).holds.known dep opening is room
+    where
+      it : IsRecorded m was
+      it = good.recorded (book_goes_on was running).1
   may_delete ask opening only running room is = absurd only
 
-  pub deletion_good : (one_more : OneMoreStands) (ask : Ask) (task : ℕ) → DeletesDisks ask
+  pub deletion_good : (one_more : OneMoreStands) (ask : Ask) (task : ℕ) → Deletes ask
       → was.book.records.opened < 18446744073709551615 → is_full was.book ≡ false
       → OpensTask bodies faults was ask task now → IsGood outside bodies cloud_bodies o now
   deletion_good one_more ask task only numbers room opens =
       opened_good one_more opens.opening
       (may_delete ask opens.opening only opens.notes.running numbers opens.is_opening) room opens.notes
 
-  pub deletion_refused : (ask : Ask) (why : SiteFault) → DeletesDisks ask
+  pub deletion_refused : (ask : Ask) (why : SiteFault) → Deletes ask
       → was.book.records.opened < 18446744073709551615 → Refuses bodies faults was [] why now
       → Pends was (IsOpening was.book.records ask) now → IsGood outside bodies cloud_bodies o now
   deletion_refused ask why only numbers refuses pends =

@@ -2,11 +2,12 @@
 use Rattle.std.proofs.Common.{◌≡◌, ◌∙◌, ◌<◌, ◌≤◌, ℕ, zero, suc, Bool, true, false, not, List, [], ◌∷◌, ◌++◌, Option, Some, None, ap, arith, refl, subst, sym}
 use Rattle.std.specs.Prelude.{◌&&◌, ◌+◌, cond, eqb, is_some, min, nat_le, if◌then◌else◌}
 use Rattle.std.specs.BTreeMap.{is_at}
-use Rattle.std.specs.List.{list_all}
-use Rattle.std.specs.Option.{option_and_then, option_eq, option_map, option_or}
+use Rattle.std.specs.List.{list_all, list_any}
+use Rattle.std.specs.Option.{option_and_then, option_eq, option_map, option_map_or, option_or}
 use Rattle.std.specs.Ordering.{nat_cmp}
 use Rattle.std.specs.Str.{bytes_eq}
 use Rattle.std.proofs.lemmas.Bool.{and_from, and_parts, false≢true, le-leb}
+use Rattle.std.proofs.lemmas.Cmp.{nat_cmp_total}
 use Rattle.std.proofs.lemmas.List.Folds.{list_all-append}
 use Rattle.bosh_asks.specs.Known.{lock_holder}
 use Rattle.bosh_asks.specs.Recorded.{held_by, holder, loose}
@@ -29,10 +30,11 @@ use Rattle.bosh_records.specs.declared.orphans.LooseDisk.{LooseDisk}
 use Rattle.bosh_records.specs.declared.records.Records.{Records}
 use Rattle.laws_cloud.proofs.TellLemmas.{truth_is}
 use Rattle.laws_facts.specs.KnownFacts.{KnownFacts}
-use Rattle.laws_sites.proofs.OrphanLemmas.{loose_are}
+use Rattle.laws_sites.proofs.OrderLemmas.{listed, listed_are}
 use Rattle.laws_stands.specs.Agrees.{Agrees}
 use Rattle.laws_stands.specs.Stands.{Stands}
 use Rattle.laws_stands.specs.Told.{Told}
+use Rattle.laws_stands_on.proofs.TableLemmas.{nat_at, nat_keys}
 
 -- ---- locks
 
@@ -71,9 +73,13 @@ all_within p (suc n) each =
     last : suc n ≤ suc n
     last = omega arith
 
+loose_listed : {V : Type 0} (es : List (ℕ × Option V)) → loose es ≡ listed is_some es
+loose_listed [] = refl
+loose_listed (e ∷ es) = λ i. if is_some e.1 then e.0 ∷ loose_listed es i else loose_listed es i
+
 module _ (m : Moment) (told : Told) (records : Records) (stands : Stands told records) (agrees : Agrees m told)
     (facts : KnownFacts m) where
-  lock_free : (dep : Option (List ℕ)) → lock_holder records dep ≡ None → is_free m.known dep ≡ true
+  pub lock_free : (dep : Option (List ℕ)) → lock_holder records dep ≡ None → is_free m.known dep ≡ true
   lock_free dep none = subst (λ (k : Known). is_free k dep ≡ true) agrees.known_is
       (all_within (λ t. not (is_open told.known t && option_eq bytes_eq (told.known.task t).dep dep)) told.known.tasks
       apart)
@@ -92,7 +98,7 @@ module _ (m : Moment) (told : Told) (records : Records) (stands : Stands told re
 
   -- ---- numbers
 
-  next_number : (n : ℕ) → n ≡ min (records.opened + 1) 18446744073709551615 → records.opened < 18446744073709551615
+  pub next_number : (n : ℕ) → n ≡ min (records.opened + 1) 18446744073709551615 → records.opened < 18446744073709551615
       → n ≡ m.known.tasks + 1
   next_number n is room =
       is ∙ least records.opened room
@@ -161,5 +167,17 @@ module _ (m : Moment) (told : Told) (records : Records) (stands : Stands told re
       none = λ i. (is.opens.does.1 i).goal
 
       all : loose records.orphans.places.entries ≡ m.known.orphans
-      all = loose_are records.orphans.places.entries m.known.orphans (stands.ordered).orphans facts.lists.orphans_in_order
-          orphan_there
+      all = loose_listed records.orphans.places.entries
+          ∙ listed_are nat_cmp nat_cmp_total nat_keys is_some records.orphans.places.entries m.known.orphans
+          (stands.ordered).orphans facts.lists.orphans_in_order members
+        where
+          as_thing : (o : Option (Option LooseDisk)) → is_some (option_and_then (λ (place : Option LooseDisk). place) o)
+              ≡ option_map_or is_some o false
+          as_thing (Some place) = refl
+          as_thing None = refl
+
+          members : (d : ℕ) → list_any (λ x. is_at (nat_cmp d) x) m.known.orphans
+              ≡ option_map_or is_some (found nat_cmp records.orphans.places.entries d) false
+          members d =
+              (λ i. list_any (λ x. nat_at d x i) m.known.orphans) ∙ orphan_there d
+              ∙ as_thing (found nat_cmp records.orphans.places.entries d)

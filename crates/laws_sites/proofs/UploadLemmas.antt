@@ -155,12 +155,13 @@ same_order one other = by (version_order one other)
 module _ (outside : Outside) (found : IsFoundOut outside) (m : Moment) where
   release_may : (releases : List Release) (release : Release) → releases ≡ m.known.releases
       → book.IsUpload releases release New → MayNote outside m (entries.Release release)
-  release_may releases release are is = subst (λ (all : List Release). history.Uploads outside (record m.known { releases = all }) release) are (record {
-    is_version = is.1;
-    is_new = (λ i. list_any (λ it. bytes_eq it.name release.name && sym (same_order it.version release.version) i) releases)
-        ∙ none_there (λ it. bytes_eq it.name release.name && book.are_equal it.version release.version) releases is.0;
-    goes_with = found.releases releases release is.2;
-  })
+  release_may releases release are is =
+      subst (λ (all : List Release). history.Uploads outside (record m.known { releases = all }) release) are (record {
+        is_version = is.1;
+        is_new = (λ i. list_any (λ it. bytes_eq it.name release.name && sym (same_order it.version release.version) i) releases)
+            ∙ none_there (λ it. bytes_eq it.name release.name && book.are_equal it.version release.version) releases is.0;
+        goes_with = found.releases releases release is.2;
+      })
 
   stemcell_may : (stemcells : List Stemcell) (os version : List ℕ) → stemcells ≡ m.known.stemcells
       → book.IsAdded stemcells os version New → MayNote outside m (entries.Stemcell (record { os = os; version = version }))

@@ -2,8 +2,9 @@
 use Rattle.bosh_asks.specs.declared.ask.Ask.{Ask}
 use Rattle.bosh_asks.specs.declared.ask.Ask.TheVariants as asks
 
--- disks are deleted and nothing else is done: one, or all that are orphaned
-abbrev pub DeletesDisks : Ask → Type 0
-DeletesDisks (asks.DeleteDisk disk) = Unit {0}
-DeletesDisks asks.CleanUp = Unit {0}
-DeletesDisks ask = ⊥
+-- nothing is made: one orphaned disk is deleted, or all are, or a deployment is
+abbrev pub Deletes : Ask → Type 0
+Deletes (asks.DeleteDeployment dep) = Unit {0}
+Deletes (asks.DeleteDisk disk) = Unit {0}
+Deletes asks.CleanUp = Unit {0}
+Deletes ask = ⊥
