@@ -17,7 +17,7 @@ ghost use Rattle.bosh_world.specs.Refuses.{RefusesClaim};
 ghost use Rattle.bosh_world.specs.Steps.{Claims, EndsTask, Notes, OpensTask, calls_claimed};
 ghost use Rattle.bosh_world.specs.declared.fault.SiteFault.{SiteFault};
 ghost use Rattle.bosh_world.specs.declared.held.HeldCall.{HeldCall};
-ghost use Rattle.laws_sites.specs.Asks.{DeletesDisks};
+ghost use Rattle.laws_sites.specs.Asks.{Deletes};
 ghost use Rattle.laws_sites.specs.Good.{IsGood};
 
 use bosh_ports::Keeper;
@@ -51,10 +51,10 @@ pub fn a_good_site_ends_a_task<K: Keeper, L: Keeper>(was: &Site<K, L>, now: &Sit
         → now.now.calls ≡ was.now.calls → IsGood outside K.bodies L.bodies o now.now }
 {}
 
-/// .. on which a task opens that deletes disks alone, where the book has room, and tasks have numbers.
+/// .. on which a task opens that deletes disks or a deployment, where the book has room, and tasks have numbers.
 pub fn a_good_site_opens_a_deletion<K: Keeper, L: Keeper>(was: &Site<K, L>, now: &Site<K, L>)
     ensures { (outside : Outside) (o : Opening) (ask : Ask) (task : ℕ) → IsFit outside o
-        → IsGood outside K.bodies L.bodies o was.now → DeletesDisks ask
+        → IsGood outside K.bodies L.bodies o was.now → Deletes ask
         → was.now.book.records.opened < 18446744073709551615 → is_full was.now.book ≡ false
         → OpensTask K.bodies K.faults was.now ask task now.now
         → now.now.calls ≡ was.now.calls → IsGood outside K.bodies L.bodies o now.now }
