@@ -1,32 +1,28 @@
 -- A site stays good as a worker takes steps for tasks, one after the other, until it is stopped.
-use Rattle.std.proofs.Common.{◌≡◌, ◌∙◌, ◌<◌, ◌≤◌, ℕ, false, true, List, [], Option, Result, Ok, Err, arith, subst, sym}
+use Rattle.std.proofs.Common.{◌≡◌, ℕ, List, Option, Result, Ok, Err}
 use Rattle.bosh_agent.specs.Compiled.{compiled_digest}
-use Rattle.bosh_crew.specs.Carried.{Carries, IsStopped, Reaches, Steps, Stops}
+use Rattle.bosh_crew.specs.Carried.{Carries, Reaches, Steps, Stops}
 use Rattle.bosh_crew.specs.Carried.Reaches.{stays, steps}
 use Rattle.bosh_crew.specs.Carried.Steps.{claims, ends, performs, settles}
 use Rattle.bosh_crew.specs.Carried.Stops.{in_call, in_claim, in_end, in_settling, lacks, waits}
 use Rattle.bosh_crew.specs.declared.place.Place.{Place}
 use Rattle.bosh_crew.specs.declared.place.Place.TheVariants.{Empty}
 use Rattle.bosh_history.specs.Fit.{IsFit}
-use Rattle.bosh_history.specs.Known.{Known}
 use Rattle.bosh_history.specs.Moments.{Opening}
 use Rattle.bosh_history.specs.Notes.{Outside}
 use Rattle.bosh_ports.specs.declared.keeper.Keeper as keeper
-use Rattle.bosh_world.specs.Holds.{IsHeld}
 use Rattle.bosh_world.specs.declared.fault.SiteFault.{SiteFault}
-use Rattle.bosh_world.specs.declared.held.HeldCall.{HeldCall}
 use Rattle.bosh_world.specs.declared.site.Site.{Site}
 use Rattle.laws_sites.proofs.ClaimLemmas.{claimed_good}
 use Rattle.laws_sites.proofs.ClaimStoppedLemmas.{claim_stopped_good}
-use Rattle.laws_sites.proofs.EndLemmas.{ended_good, working_is}
+use Rattle.laws_sites.proofs.EndLemmas.{ended_good}
 use Rattle.laws_sites.proofs.HaltLemmas.{same_good}
 use Rattle.laws_sites.proofs.NoteLemmas.{OneMoreStands, settled_good}
 use Rattle.laws_sites.proofs.NumberLemmas.{call_numbered, numbers_left}
 use Rattle.laws_sites.proofs.PerformedLemmas.{performed_good}
 use Rattle.laws_sites.proofs.RefusedLemmas.{abandoned_good}
 use Rattle.laws_sites.proofs.StoppedLemmas.{end_stopped_good, settling_stopped_good}
-use Rattle.laws_sites.specs.Good.{GoesOn, IsGood, IsRecorded, moment_of}
-use Rattle.laws_stands.specs.Told.{is_going}
+use Rattle.laws_sites.specs.Good.{IsGood}
 
 module _ (one_more : OneMoreStands) {K L : Type 0} {k : keeper.Ghosts K} {l : keeper.Ghosts L}
     (bodies : K → Option (List (List ℕ))) (faults : K → ℕ) (cloud_bodies : L → Option (List (List ℕ))) (cloud_faults : L → ℕ)

@@ -1,6 +1,6 @@
 -- A site stays good as work of a task is claimed.
-use Rattle.std.proofs.Common.{◌≡◌, ◌∙◌, ◌<◌, ◌≤◌, ℕ, suc, Bool, true, false, List, [], ◌∷◌, ◌++◌, Option, Some, None, arith, length, refl, subst, sym, zero, ap, append-nil, inl, inr}
-use Rattle.std.specs.Prelude.{◌≢◌, ◌==◌, ◌+◌, All, find, fold, is_some, map, Ok, Result, Err}
+use Rattle.std.proofs.Common.{◌≡◌, ◌∙◌, ◌<◌, ◌≤◌, ℕ, suc, Bool, true, false, List, [], ◌∷◌, ◌++◌, Option, Some, None, arith, length, refl, subst, sym, ap}
+use Rattle.std.specs.Prelude.{◌==◌, ◌+◌, All, find, fold, is_some, map, Ok, Result}
 use Rattle.std.proofs.lemmas.Bool.{eq-eqb, false≢true}
 use Rattle.std.proofs.lemmas.List.{append_cancel_left}
 use Rattle.bosh_base.specs.declared.entry.Begin.{Begin}
@@ -11,13 +11,11 @@ use Rattle.bosh_base.specs.declared.moves.Move.TheVariants as moves
 use Rattle.bosh_asks.specs.declared.fault.BookFault.{BookFault}
 use Rattle.bosh_book.specs.Claims as by_turns
 use Rattle.bosh_book.specs.Turns.{Gives, IsUpdate}
-use Rattle.bosh_book.specs.declared.book.Book.{Book}
 use Rattle.bosh_book.specs.declared.claim.Claim.{Claim}
 use Rattle.bosh_book.specs.declared.claim.Claim.TheVariants.{Over, Wait, Work}
 use Rattle.bosh_calls.specs.Calls.{is_of, with_begun}
 use Rattle.bosh_calls.specs.declared.calls.OpenCall as site
 use Rattle.bosh_claim.specs.Choice.{choice_of, of_task}
-use Rattle.bosh_claim.specs.declared.choice.Choice.{Choice}
 use Rattle.bosh_claim.specs.declared.choice.Choice.TheVariants as choices
 use Rattle.bosh_history.specs.Fit.{IsFit}
 use Rattle.bosh_history.specs.Known.{Known}
@@ -27,7 +25,7 @@ use Rattle.bosh_history.specs.Permitted.{IsRunFrom}
 use Rattle.bosh_history.specs.Recovered.{is_recovering}
 use Rattle.bosh_ports.specs.declared.keeper.Keeper as keeper
 use Rattle.bosh_book.specs.Running.{room_left}
-use Rattle.bosh_ports.specs.Rigged.{RigState, faults_of}
+use Rattle.bosh_ports.specs.Rigged.{faults_of}
 use Rattle.bosh_records.specs.Readers.{work_at}
 use Rattle.bosh_work.specs.declared.work.Work as work
 use Rattle.bosh_world.specs.Steps.{Claims, bodies_of, calls_claimed}

@@ -12,14 +12,11 @@ use Rattle.bosh_book.specs.Claims as turns
 use Rattle.bosh_book.specs.Turns.{IsUpdate}
 use Rattle.bosh_calls.specs.declared.calls.OpenCall as site
 use Rattle.bosh_history.specs.Fit.{IsFit}
-use Rattle.bosh_history.specs.Moments.{Moment, OpenCall, Opening, later}
+use Rattle.bosh_history.specs.Moments.{Moment, Opening, later}
 use Rattle.bosh_history.specs.Notes.{Outside}
 use Rattle.bosh_history.specs.Permitted.{IsRunFrom}
-use Rattle.bosh_journal.specs.Kept as journal
-use Rattle.bosh_moves.specs.Story.{story}
 use Rattle.bosh_ports.specs.Rigged.{faults_of}
 use Rattle.bosh_ports.specs.declared.keeper.Keeper as keeper
-use Rattle.bosh_world.specs.Pending.{Pends}
 use Rattle.bosh_world.specs.Refuses.{RefusesClaim}
 use Rattle.bosh_world.specs.Steps.{Notes, bodies_of}
 use Rattle.bosh_world.specs.Told.{story_of}

@@ -21,7 +21,7 @@ use Rattle.bosh_base.specs.declared.snapshot.DepRow.{DepRow}
 use Rattle.bosh_base.specs.declared.task.TaskKind.TheVariants.{DeleteDeployment}
 use Rattle.bosh_book.specs.Opens.{IsOpeningOf}
 use Rattle.bosh_history.specs.Known.{Known}
-use Rattle.bosh_history.specs.Goals.{out_of_goal, to_change, to_delete}
+use Rattle.bosh_history.specs.Goals.{to_change, to_delete}
 use Rattle.bosh_history.specs.Moments.{Moment}
 use Rattle.bosh_history.specs.Openings.{MayOpen, OpensBy, OpensFor, deploys, is_free, is_offered_still, is_recorded, keeps_ties, names_what_is_there, ties_of, withdraws_nothing}
 use Rattle.bosh_history.specs.Snapshots.{dep_row}

@@ -5,6 +5,7 @@ pub mod ClaimLemmas
 pub mod ClaimStoppedLemmas
 pub mod DeletingLemmas
 pub mod EndLemmas
+pub mod FirstLemmas
 pub mod HaltLemmas
 pub mod HeldLemmas
 pub mod KeepLemmas

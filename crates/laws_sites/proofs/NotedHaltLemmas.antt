@@ -17,7 +17,6 @@ use Rattle.bosh_journal.specs.Appends.{added}
 use Rattle.bosh_journal.specs.JournalView.{Pending}
 use Rattle.bosh_ports.specs.declared.keeper.Keeper as keeper
 use Rattle.bosh_world.specs.Steps.{Notes}
-use Rattle.bosh_world.specs.Told.{story_of}
 use Rattle.bosh_world.specs.declared.site.Site.{Site}
 use Rattle.laws_held.proofs.PartLemmas.{whole_moves}
 use Rattle.laws_held.specs.Whole.{Whole}

@@ -1,5 +1,5 @@
 -- A site stays good as a task opens that may, and where that is refused.
-use Rattle.std.proofs.Common.{◌≡◌, ◌∙◌, ◌<◌, ◌≤◌, ℕ, false, true, List, [], ◌∷◌, Option, None, arith, refl, subst, sym}
+use Rattle.std.proofs.Common.{◌≡◌, ◌∙◌, ◌<◌, ◌≤◌, ℕ, false, List, [], ◌∷◌, Option, None, arith, subst, sym}
 use Rattle.std.specs.Prelude.{not, ◌||◌}
 use Rattle.bosh_asks.specs.declared.ask.Ask.{Ask}
 use Rattle.bosh_asks.specs.declared.ask.Ask.TheVariants as asks
@@ -12,10 +12,10 @@ use Rattle.bosh_book.specs.Opens.{IsOpeningOf}
 use Rattle.bosh_book.specs.Running.{is_full}
 use Rattle.bosh_calls.specs.CallsView.{CallsView}
 use Rattle.bosh_history.specs.Fit.{IsFit}
-use Rattle.bosh_history.specs.Moments.{Moment, Opening, noting}
+use Rattle.bosh_history.specs.Moments.{Moment, Opening}
 use Rattle.bosh_history.specs.Notes.{MayNote, Outside}
 use Rattle.bosh_history.specs.Permitted.{IsPermitted}
-use Rattle.bosh_history.specs.Recovered.{is_interruption, is_recovering}
+use Rattle.bosh_history.specs.Recovered.{is_interruption}
 use Rattle.bosh_ports.specs.declared.keeper.Keeper as keeper
 use Rattle.bosh_world.specs.Pending.{IsOpening, Pends}
 use Rattle.bosh_world.specs.Refuses.{Refuses}

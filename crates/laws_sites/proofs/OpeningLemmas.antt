@@ -1,12 +1,12 @@
 -- What is recorded lets a task open that deletes disks.
-use Rattle.std.proofs.Common.{◌≡◌, ◌∙◌, ◌<◌, ◌≤◌, ℕ, zero, suc, Bool, true, false, not, List, [], ◌∷◌, ◌++◌, Option, Some, None, ap, arith, refl, subst, sym}
-use Rattle.std.specs.Prelude.{◌&&◌, ◌+◌, cond, eqb, is_some, min, nat_le, if◌then◌else◌}
+use Rattle.std.proofs.Common.{◌≡◌, ◌∙◌, ◌<◌, ◌≤◌, ℕ, zero, suc, Bool, true, false, not, List, [], ◌∷◌, Option, Some, None, ap, arith, refl, subst, sym}
+use Rattle.std.specs.Prelude.{◌&&◌, ◌+◌, cond, eqb, is_some, min, if◌then◌else◌}
 use Rattle.std.specs.BTreeMap.{is_at}
 use Rattle.std.specs.List.{list_all, list_any}
 use Rattle.std.specs.Option.{option_and_then, option_eq, option_map, option_map_or, option_or}
 use Rattle.std.specs.Ordering.{nat_cmp}
 use Rattle.std.specs.Str.{bytes_eq}
-use Rattle.std.proofs.lemmas.Bool.{and_from, and_parts, false≢true, le-leb}
+use Rattle.std.proofs.lemmas.Bool.{and_from, and_parts, le-leb}
 use Rattle.std.proofs.lemmas.Cmp.{nat_cmp_total}
 use Rattle.std.proofs.lemmas.List.Folds.{list_all-append}
 use Rattle.bosh_asks.specs.Known.{lock_holder}

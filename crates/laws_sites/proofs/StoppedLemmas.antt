@@ -11,14 +11,12 @@ use Rattle.bosh_base.specs.declared.moves.Move.{Move}
 use Rattle.bosh_base.specs.declared.moves.Move.TheVariants as moves
 use Rattle.bosh_book.specs.Ends.{end_by}
 use Rattle.bosh_book.specs.Faults.{MayEnd}
-use Rattle.bosh_book.specs.declared.book.Book.{Book}
 use Rattle.bosh_calls.specs.declared.calls.OpenCall as site
 use Rattle.bosh_history.specs.Fit.{IsFit}
 use Rattle.bosh_history.specs.Known.{Known}
-use Rattle.bosh_history.specs.Moments.{OpenCall, Opening, later}
+use Rattle.bosh_history.specs.Moments.{Opening, later}
 use Rattle.bosh_history.specs.Notes.{Outside}
 use Rattle.bosh_history.specs.Permitted.{IsPermitted, IsRunFrom}
-use Rattle.bosh_moves.specs.Story.{story}
 use Rattle.bosh_ports.specs.declared.keeper.Keeper as keeper
 use Rattle.bosh_records.specs.Readers.{work_at}
 use Rattle.bosh_work.specs.declared.work.Work.{Work}

@@ -5,7 +5,7 @@ use Rattle.std.specs.List.{list_any}
 use Rattle.std.specs.Str.{bytes_eq}
 use Rattle.std.specs.declared.cmp.Ordering.{Ordering}
 use Rattle.std.specs.declared.cmp.Ordering.TheVariants.{Equal}
-use Rattle.std.proofs.lemmas.Bool.{false≢true, true≢false}
+use Rattle.std.proofs.lemmas.Bool.{false≢true}
 use Rattle.bosh_asks.specs.Goals.{config_in}
 use Rattle.bosh_base.specs.Version.{version_order}
 use Rattle.bosh_base.specs.declared.entry.Entry.{Entry}
@@ -26,7 +26,7 @@ use Rattle.bosh_history.specs.Moments.{Moment, Opening, noting}
 use Rattle.bosh_history.specs.Notes as history
 use Rattle.bosh_history.specs.Notes.{MayNote, Outside}
 use Rattle.bosh_history.specs.Permitted.{IsPermitted}
-use Rattle.bosh_history.specs.Recovered.{is_interruption, is_recovering}
+use Rattle.bosh_history.specs.Recovered.{is_interruption}
 use Rattle.bosh_ports.specs.declared.keeper.Keeper as keeper
 use Rattle.bosh_records.specs.declared.records.Records.{Records}
 use Rattle.bosh_world.specs.Pending.{IsAllowed, Pends}

@@ -19,7 +19,7 @@ use Rattle.bosh_base.specs.declared.row.Vm as vm
 use Rattle.bosh_history.specs.Permitted.{is_instances}
 use Rattle.bosh_history.specs.Permitted as history
 use Rattle.bosh_holdings.specs.Finding.{first_of, is_its, is_of, is_owned, its_machine_of, job_disk_of, kept_if, lost_vm_of, machines_in, or_else, recorded_of, runs_with, thing_of, written_disk_of}
-use Rattle.bosh_rows.specs.Disks.{active, is_active}
+use Rattle.bosh_rows.specs.Disks.{active}
 use Rattle.bosh_rows.specs.Same.{same_owner}
 use Rattle.bosh_rows.specs.Tied.{is_made_for, vms_of}
 

@@ -1,4 +1,5 @@
 pub mod Asks
 pub mod Calls
+pub mod First
 pub mod Found
 pub mod Good
