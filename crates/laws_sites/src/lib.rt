@@ -10,6 +10,7 @@ mod kept;
 mod performed;
 mod refused;
 mod settled;
+mod steps;
 mod unmoved;
 mod uploads;
 
@@ -24,6 +25,10 @@ pub use refused::{
     a_good_site_that_refuses_a_call_stays_good,
 };
 pub use settled::a_call_that_is_held_may_end;
+pub use steps::{
+    a_good_site_ends_a_task, a_good_site_gives_work, a_good_site_is_good_after_a_drive,
+    a_good_site_is_good_after_each_step, a_good_site_opens_a_deletion, a_good_site_settles_a_call,
+};
 pub use unmoved::{
     a_good_site_that_ends_no_task_stays_good, a_good_site_that_notes_nothing_stays_good,
     a_good_site_that_opens_no_deletion_stays_good, a_good_site_that_refuses_an_answer_stays_good,
