@@ -37,10 +37,11 @@ use Rattle.laws_stands.specs.Told.{Told, telling}
 use Rattle.laws_stands_closed.proofs.ClosedLemmas.{closed_stands}
 use Rattle.laws_stands_closed.specs.Closed.{AllowsClose, told_ended}
 use Rattle.laws_stands_done.proofs.DroppedLemmas.{dropped, dropped_stands}
-use Rattle.laws_stands_done.proofs.FoundLemmas.{Stood, first_stood}
-use Rattle.laws_stands_done.proofs.OrderLemmas.{altered_in_order, forgotten_in_order, once_in, without_in_order}
+use Rattle.laws_stands_opened.proofs.FirstLemmas.{Stood, first_stood}
+use Rattle.laws_stands.proofs.OrderLemmas.{once_in}
+use Rattle.laws_stands_done.proofs.OrderLemmas.{altered_in_order, forgotten_in_order, without_in_order}
 use Rattle.laws_stands_done.proofs.SharedLemmas.{offered, shared_stands}
-use Rattle.laws_stands_done.proofs.SinceLemmas.{since_keys, since_own}
+use Rattle.laws_stands_fits.proofs.SinceLemmas.{since_keys, since_own}
 use Rattle.laws_stands_done.specs.Settles.{Settles}
 use Rattle.laws_stands_on.proofs.RoomyLemmas.{roomy_stands}
 

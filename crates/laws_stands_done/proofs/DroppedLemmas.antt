@@ -29,13 +29,14 @@ use Rattle.laws_stands.specs.Once.{IsOnce}
 use Rattle.laws_stands.specs.Reading.{goal_of}
 use Rattle.laws_stands.specs.Stands.{StandsIn}
 use Rattle.laws_stands.specs.Told.{Told}
-use Rattle.laws_stands_done.proofs.DepRowLemmas.{gone_rows}
-use Rattle.laws_stands_done.proofs.FirstLemmas.{first_gone, gone_first}
+use Rattle.laws_stands_opened.proofs.DepRowLemmas.{gone_rows}
+use Rattle.laws_stands_opened.proofs.FirstLemmas.{first_gone, gone_first}
 use Rattle.laws_stands_done.proofs.SettledLemmas.{settled, settled_stands}
 use Rattle.laws_stands_done.proofs.SharedLemmas.{named}
-use Rattle.laws_stands_done.proofs.SinceLemmas.{since_keys, since_own}
-use Rattle.laws_stands_done.proofs.WantLemmas.{forgotten_other, forgotten_own, forgotten_same, goal_known, insts}
-use Rattle.laws_stands_done.proofs.WantLemmas.{no_place}
+use Rattle.laws_stands_fits.proofs.SinceLemmas.{since_keys, since_own}
+use Rattle.laws_stands_done.proofs.WantLemmas.{forgotten_other, forgotten_own, forgotten_same}
+use Rattle.laws_stands_opened.proofs.WantLemmas.{goal_known, insts}
+use Rattle.laws_stands_opened.proofs.WantLemmas.{no_want}
 
 -- another one is among them as before
 among_others : (dep d : List ℕ) (deps : List (List ℕ)) → bytes_eq dep d ≡ false
@@ -119,7 +120,7 @@ module _ (dep : List ℕ) (goal : Goal) (told : Told) (it : Recorded) (since : S
             ap (option_and_then (λ (known : Instance). known.want)) (forgotten_other goal.rows it.instances i none)
             ∙ stands.linked.wants i
             ∙ ap (λ dep. wanted i (goal_of it dep)) (sym (bytes_is dep i.dep same)) ∙ ap (wanted i) current
-            ∙ no_place goal.rows i none
+            ∙ no_want goal.rows i none
             ∙ sym (ap (wanted i) (none_known i same))
         by false other b is =
             ap (option_and_then (λ (known : Instance). known.want))

@@ -34,9 +34,9 @@ use Rattle.laws_stands.specs.Once.{IsOnce}
 use Rattle.laws_stands.specs.Stands.{Stands}
 use Rattle.laws_stands.specs.Told.{Told, telling}
 use Rattle.laws_stands_done.proofs.ClosedFitsLemmas.{are_listed, closed_fits}
-use Rattle.laws_stands_done.proofs.OrderLemmas.{once_in}
+use Rattle.laws_stands.proofs.OrderLemmas.{once_in}
 use Rattle.laws_stands_done.proofs.PlacesLemmas.{SamePlaces, fits_told, same_as_it_is, same_fits, same_listed, same_work}
-use Rattle.laws_stands_done.proofs.SinceLemmas.{since_keys}
+use Rattle.laws_stands_fits.proofs.SinceLemmas.{since_keys}
 use Rattle.laws_stands_done.proofs.WantLemmas.{forgotten_same}
 use Rattle.laws_stands_fits.specs.Fits.{Fits}
 use Rattle.laws_stands_on.proofs.RoomyLemmas.{roomy_stands}

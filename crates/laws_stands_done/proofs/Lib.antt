@@ -1,15 +1,11 @@
 pub mod ClosedFitsLemmas
-pub mod DepRowLemmas
 pub mod DoneLemmas
 pub mod DroppedLemmas
-pub mod FirstLemmas
 pub mod FitsLemmas
-pub mod FoundLemmas
 pub mod KindLemmas
 pub mod OrderLemmas
 pub mod PlacesLemmas
 pub mod SettledLemmas
 pub mod SettlesLemmas
 pub mod SharedLemmas
-pub mod SinceLemmas
 pub mod WantLemmas

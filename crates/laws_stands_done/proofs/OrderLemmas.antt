@@ -1,11 +1,10 @@
 -- Tables stay in order where something is said anew at a key, or a key goes.
-use Rattle.std.proofs.Common.{◌≡◌, ◌∙◌, Bool, true, false, List, [], ◌∷◌, Some, None, refl, subst, sym}
+use Rattle.std.proofs.Common.{◌≡◌, Bool, true, false, List, [], ◌∷◌, None, subst, sym}
 use Rattle.std.specs.Prelude.{cond}
 use Rattle.std.specs.BTreeMap.{is_at}
 use Rattle.std.specs.List.{AllByRecursion}
 use Rattle.std.specs.List.Sorted.{IsStrictlySortedBy}
 use Rattle.std.specs.Map.{keys_of, remove_entry}
-use Rattle.std.specs.Ordering.{is_eq}
 use Rattle.std.specs.declared.cmp.Ordering.{Ordering}
 use Rattle.std.specs.declared.cmp.Ordering.TheVariants.{Less}
 use Rattle.bosh_base.specs.Inst.{inst_cmp}
@@ -13,23 +12,9 @@ use Rattle.bosh_base.specs.declared.goal.GoalRow.{GoalRow}
 use Rattle.bosh_base.specs.declared.inst.Inst.{Inst}
 use Rattle.bosh_fold.specs.Tasks.{wants_forgotten, with_want}
 use Rattle.bosh_records.specs.Ordered.{AreInOrder}
-use Rattle.bosh_records.specs.Table.{altered, found, without}
+use Rattle.bosh_records.specs.Table.{altered, without}
 use Rattle.bosh_records.specs.declared.instances.Instance.{Instance}
-use Rattle.laws_stands.specs.Once.{IsOnce}
 use Rattle.laws_stands_on.proofs.TableLemmas.{altered_keys}
-
--- what stands below all keys of a table is none of them
-below_all : {K X : Type 0} (cmp : K → K → Ordering) (k : K) (es : List (K × X))
-    → AllByRecursion (λ y. cmp k y ≡ Less) (keys_of es) → found cmp es k ≡ None
-below_all cmp k [] below = refl
-below_all cmp k (e ∷ es) (first, rest) =
-    (λ i. cond (is_eq (first i)) (Some e.1) (found cmp es k)) ∙ below_all cmp k es rest
-
--- so where the keys of a table stand in order, none stands twice
-pub once_in : {K X : Type 0} (cmp : K → K → Ordering) (es : List (K × X)) → AreInOrder cmp es → IsOnce cmp es
-unfolding IsStrictlySortedBy
-once_in cmp [] order = tt
-once_in cmp (e ∷ es) (below, order) = (below_all cmp e.0 es below, once_in cmp es order)
 
 pub altered_in_order : {K X : Type 0} (cmp : K → K → Ordering) (key : K) (change : X → X) (es : List (K × X))
     → AreInOrder cmp es → AreInOrder cmp (altered cmp key change es)

@@ -19,7 +19,7 @@ use Rattle.laws_facts.specs.Owners.{works}
 use Rattle.laws_facts.specs.TaskFacts.{WorkFacts}
 use Rattle.laws_items.proofs.ItemFrames.{truth_from}
 use Rattle.laws_items.proofs.ListedLemmas.{Lists, disks, instances, listed, works_at}
-use Rattle.laws_stands_done.proofs.WantLemmas.{none_wanted}
+use Rattle.laws_stands_opened.proofs.WantLemmas.{none_wanted}
 use Rattle.laws_stands_done.specs.Settles.{Settles}
 
 module _ (m : Moment) (snapped t : ℕ) (facts : KnownFacts m) (working : works m t ≡ true) where

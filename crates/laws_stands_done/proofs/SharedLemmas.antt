@@ -21,11 +21,11 @@ use Rattle.laws_stands.specs.Linked.{want_place}
 use Rattle.laws_stands.specs.Once.{IsOnce}
 use Rattle.laws_stands.specs.Stands.{StandsIn}
 use Rattle.laws_stands.specs.Told.{Told}
-use Rattle.laws_stands_done.proofs.DepRowLemmas.{changed_rows}
-use Rattle.laws_stands_done.proofs.FirstLemmas.{changed_first, first_changed}
+use Rattle.laws_stands_opened.proofs.DepRowLemmas.{changed_rows}
+use Rattle.laws_stands_opened.proofs.FirstLemmas.{changed_first, first_changed}
 use Rattle.laws_stands_done.proofs.SettledLemmas.{settled, settled_stands}
-use Rattle.laws_stands_done.proofs.SinceLemmas.{since_keys, since_own}
-use Rattle.laws_stands_done.proofs.WantLemmas.{goal_known}
+use Rattle.laws_stands_fits.proofs.SinceLemmas.{since_keys, since_own}
+use Rattle.laws_stands_opened.proofs.WantLemmas.{goal_known}
 
 module _ (dep : List ℕ) (offers : List Offer) (told : Told) (it : Recorded) (since : Since) where
   abbrev k : Known

@@ -1,12 +1,12 @@
--- The first thing of a table that passes a test: where it stands, and that it changes where its key does.
+-- The first thing of a table that passes a test: where it stands, and that it changes, or goes, where its key does.
 use Rattle.std.proofs.Common.{◌≡◌, ◌∙◌, Bool, true, false, List, [], ◌∷◌, Option, Some, None, ap, refl, sym}
 use Rattle.std.specs.Prelude.{cond, find, is_some, option_map, if◌then◌else◌}
 use Rattle.std.specs.BTreeMap.{is_at}
-use Rattle.std.specs.Map.{lookup, set_value}
+use Rattle.std.specs.Map.{lookup, remove_entry, set_value}
 use Rattle.std.specs.Option.{option_and_then, option_map_or}
 use Rattle.std.specs.declared.cmp.Ordering.{Ordering}
 use Rattle.std.proofs.lemmas.Bool.{true≢false}
-use Rattle.bosh_records.specs.Table.{altered, changed, found, thing_in, things}
+use Rattle.bosh_records.specs.Table.{altered, changed, found, thing_in, things, without}
 use Rattle.laws_stands.specs.Once.{IsOnce}
 use Rattle.laws_stands_on.proofs.TableLemmas.{TellsKeys}
 
@@ -14,6 +14,11 @@ use Rattle.laws_stands_on.proofs.TableLemmas.{TellsKeys}
 abbrev pub first_changed : {V : Type 0} → (V → Bool) → (V → V) → List V → List V
 first_changed test change [] = []
 first_changed test change (v ∷ vs) = if test v then change v ∷ vs else v ∷ first_changed test change vs
+
+-- .. or it goes
+abbrev pub first_gone : {V : Type 0} → (V → Bool) → List V → List V
+first_gone test [] = []
+first_gone test (v ∷ vs) = if test v then vs else v ∷ first_gone test vs
 
 module _ {K V : Type 0} (cmp : K → K → Ordering) (tells : TellsKeys cmp) (own : (k : K) → is_at (cmp k) k ≡ true)
     (test : V → Bool) where
@@ -159,3 +164,24 @@ module _ {K V : Type 0} (cmp : K → K → Ordering) (tells : TellsKeys cmp) (ow
       by false fails none rest =
           (λ j. option_map (λ (place : K × Option V). place.0) (if fails j then Some (at, Some x)
           else find (λ place. option_map_or test place.1 false) es)) ∙ rest none
+
+  -- .. or it goes
+  pub gone_first : (es : List (K × Option V)) → IsOnce cmp es → (k : K) → first_key es ≡ Some k
+      → things (without cmp k es) ≡ first_gone test (things es)
+  gone_first [] once k is = absurd cc
+  gone_first ((at, None) ∷ es) (none, once) k is =
+      (λ i. things (cond (apart_from (at, None) es k none is i) es ((at, None) ∷ remove_entry (is_at (cmp k)) es)))
+      ∙ gone_first es once k is
+  gone_first ((at, Some v) ∷ es) (none, once) k is = by (test v) refl (gone_first es once k)
+    where
+      by : (b : Bool) → test v ≡ b
+          → (first_key es ≡ Some k → things (without cmp k es) ≡ first_gone test (things es))
+          → things (without cmp k ((at, Some v) ∷ es))
+          ≡ (if b then things es else v ∷ first_gone test (things es))
+      by true passes more =
+          λ i. things (cond (at_first (at, Some v) es k passes is i) es
+          ((at, Some v) ∷ remove_entry (is_at (cmp k)) es))
+      by false fails more =
+          (λ i. things (cond (apart_from (at, Some v) es k none (behind (at, Some v) es k fails is) i) es
+          ((at, Some v) ∷ remove_entry (is_at (cmp k)) es)))
+          ∙ ap (λ vs. v ∷ vs) (more (behind (at, Some v) es k fails is))

@@ -41,7 +41,9 @@ use Rattle.laws_stands_on.proofs.TableLemmas.{found_altered, thing_changed}
 use Rattle.laws_stands_opened.proofs.AllowsLemmas.{AllowsOpen}
 use Rattle.laws_stands_opened.proofs.DepRowLemmas.{changed_rows, others_same}
 use Rattle.laws_stands_opened.proofs.FirstLemmas.{Stood, changed_first, first_changed, first_stood, none_first}
-use Rattle.laws_stands_opened.proofs.SinceLemmas.{once_in, since_keys, since_more, since_never, since_next, since_own}
+use Rattle.laws_stands.proofs.OrderLemmas.{once_in}
+use Rattle.laws_stands_fits.proofs.SinceLemmas.{since_keys, since_own}
+use Rattle.laws_stands_opened.proofs.SinceLemmas.{since_more, since_never, since_next}
 use Rattle.laws_stands_opened.proofs.PutLemmas.{IsLast, put_last}
 use Rattle.laws_stands_opened.proofs.WantLemmas.{SameInstances, both_same, forgotten_found, forgotten_same, goal_known}
 use Rattle.laws_stands_opened.proofs.WantLemmas.{has_want, insts, no_want, none_same, noted_found, noted_same, wanted_at}

@@ -2,7 +2,6 @@ pub mod AllowsLemmas
 pub mod ChangeLemmas
 pub mod DepRowLemmas
 pub mod FirstLemmas
-pub mod FitsLemmas
 pub mod FitsOnLemmas
 pub mod GoalLemmas
 pub mod InstLemmas

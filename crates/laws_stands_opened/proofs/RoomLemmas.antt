@@ -21,7 +21,7 @@ use Rattle.bosh_rows.proofs.SameLemmas.{itself}
 use Rattle.bosh_rows.specs.Same.{same_inst}
 use Rattle.laws_stands_on.proofs.KeyLemmas.{inst_at, inst_keys}
 use Rattle.laws_stands_on.proofs.TableLemmas.{found_roomy, nat_at, nat_keys, there_roomy}
-use Rattle.laws_stands_opened.proofs.SinceLemmas.{since_keys, since_own}
+use Rattle.laws_stands_fits.proofs.SinceLemmas.{since_keys, since_own}
 use Rattle.laws_stands_opened.proofs.WantLemmas.{insts}
 
 -- a place stays

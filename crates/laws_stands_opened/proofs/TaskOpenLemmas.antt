@@ -52,7 +52,8 @@ use Rattle.laws_stands_fits.specs.Fits.{Fits, SweepsEnded}
 use Rattle.laws_stands_fits.specs.Own.{TellsOwn}
 use Rattle.laws_stands_on.proofs.RoomyLemmas.{roomy_stands}
 use Rattle.laws_stands_opened.proofs.AllowsLemmas.{AllowsOpen, WantsOwn}
-use Rattle.laws_stands_opened.proofs.FitsLemmas.{alike_fits}
+use Rattle.laws_stands_fits.proofs.EntriesLemmas.{alike_keeps}
+use Rattle.laws_stands_fits.proofs.KeepsLemmas.{fits_on}
 use Rattle.laws_stands_opened.proofs.FitsOnLemmas.{opened_fits}
 use Rattle.laws_stands_opened.proofs.GoalLemmas.{GoalSet, goal_is_set}
 use Rattle.laws_stands_opened.proofs.ListsLemmas.{ListsThere, asked_apart, asked_recorded, goal_apart, goal_own, lists_there}
@@ -146,7 +147,9 @@ module _ (m : Moment) (told : Told) (was later : Records) (o : TaskOpen) (stands
   roomy = roomy_stands told was (entries.TaskOpen o) later learns stands
 
   roomy_fits : Fits told it
-  roomy_fits = alike_fits told (recorded was) it stands.ordered roomy.ordered learns.alike.same fits
+  roomy_fits =
+      fits_on told told (recorded was) it
+      (alike_keeps told (recorded was) it roomy.ordered learns.alike.same stands) (λ t none. none) refl fits
 
   wants_room : (goal : Goal) → o.goal ≡ Some goal → (i : Inst) → is_among same_inst i (insts goal.rows) ≡ true
       → is_some (found inst_cmp it.instances i) ≡ true

@@ -3,6 +3,4 @@
 
 mod tables;
 
-pub use tables::{
-    what_is_recorded_fits_with_more_room, what_is_recorded_stands_after_a_task_that_may_open,
-};
+pub use tables::what_is_recorded_stands_after_a_task_that_may_open;

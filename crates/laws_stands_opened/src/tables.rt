@@ -8,8 +8,7 @@ ghost use Rattle.bosh_history.specs.Openings.{MayOpen};
 ghost use Rattle.bosh_history.specs.Sound.{IsSound};
 ghost use Rattle.bosh_history.specs.Words.{is_among};
 ghost use Rattle.bosh_plan.specs.WorkBy.{work_by};
-ghost use Rattle.bosh_records.specs.Ordered.{AreOrdered};
-ghost use Rattle.bosh_records.specs.Recorded.{Recorded, kept, recorded};
+ghost use Rattle.bosh_records.specs.Recorded.{recorded};
 ghost use Rattle.bosh_records.specs.declared.records.Records.{Records};
 ghost use Rattle.bosh_work.specs.declared.part.MachineName.{MachineName};
 ghost use Rattle.bosh_work.specs.declared.work.Work.{Work};
@@ -35,10 +34,4 @@ pub fn what_is_recorded_stands_after_a_task_that_may_open()
         → ((name : MachineName) → is_among same_machine name (work_by learns.roomy o).sweep.items ≡ true
         → SweepsEnded (telling told (entries.TaskOpen o)) o.task name)
         → Stands (telling told (entries.TaskOpen o)) now × Fits (telling told (entries.TaskOpen o)) (recorded now) }
-{}
-
-/// What is recorded of open tasks fits also where there is room for more.
-pub fn what_is_recorded_fits_with_more_room()
-    ensures { (told : Told) (was now : Recorded) → AreOrdered was → AreOrdered now → kept now ≡ kept was
-        → Fits told was → Fits told now }
 {}
