@@ -12,4 +12,5 @@ pub use anew::{
 pub use compiled::{compiled_keys_go_on_to_stand, compiled_keys_stand_at_first};
 pub use snapshots::{
     snapshot_of_the_records_is_that_of_what_is_known, snapshot_of_what_is_known_can_be_read,
+    what_reads_a_snapshot_of_the_records_stands,
 };

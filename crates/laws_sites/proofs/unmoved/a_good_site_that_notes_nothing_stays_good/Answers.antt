@@ -1,4 +1,3 @@
-use Rattle.laws_sites.proofs.ChainLemmas.{carried_good}
 use Rattle.laws_sites.proofs.StoppedLemmas.{still_good}
 use Rattle.laws_sites.proofs.unmoved.a_good_site_that_notes_nothing_stays_good.Goals as goal
 
