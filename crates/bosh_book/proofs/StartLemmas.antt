@@ -157,16 +157,16 @@ none_ended {K} bodies faults tasks book fault is = record {
 pub started : {K T : Type 0} (bodies : K → Option (List (List ℕ))) (faults : K → ℕ) (compacts : Bool)
     (was mid now : Book K) (taken : Result (Unit {0}) BookFault) (result : Result T BookFault)
     → Takes bodies faults compacts was taken mid → Finishes bodies faults mid taken result now
-    → Starts bodies faults compacts was result now
-started bodies faults compacts was mid now taken result takes finishes =
-    record { taken = taken; mid = mid; takes = takes; finishes = finishes }
+    → OnOk result (is_ok taken ≡ true) → Starts bodies faults compacts was result now
+started bodies faults compacts was mid now taken result takes finishes all =
+    record { taken = taken; mid = mid; takes = takes; finishes = finishes; all_taken = all }
 
 -- .. and then the book goes on
 pub started_running : {K T : Type 0} (bodies : K → Option (List (List ℕ))) (faults : K → ℕ) (compacts : Bool)
     (was mid last : Book K) (taken : Result (Unit {0}) BookFault) (result : Result T BookFault)
     → Takes bodies faults compacts was taken mid → Finishes bodies faults mid taken result last
-    → Starts bodies faults compacts was result (record last { standing = Running })
-started_running bodies faults compacts was mid last taken result takes it = record {
+    → OnOk result (is_ok taken ≡ true) → Starts bodies faults compacts was result (record last { standing = Running })
+started_running bodies faults compacts was mid last taken result takes it all = record {
   taken = taken;
   mid = mid;
   takes = takes;
@@ -180,6 +180,7 @@ started_running bodies faults compacts was mid last taken result takes it = reco
     kept = it.kept;
     count = it.count;
   };
+  all_taken = all;
 }
 
 -- interruptions bring no upload, and no task and no call

@@ -1,6 +1,6 @@
 -- What a book is once it has started.
 use Rattle.std.specs.Prelude.{◌≡◌, ◌⊎◌, ◌&&◌, ℕ, Bool, true, false, List, [], ◌∷◌, ◌++◌, length, map, nat_lt, Option, None, Some}
-use Rattle.std.specs.Prelude.{Result, Ok, Err, IfErr, OnOk, is_none}
+use Rattle.std.specs.Prelude.{Result, Ok, Err, IfErr, OnOk, is_none, is_ok}
 use Rattle.std.specs.List.{filter}
 use Rattle.std.specs.Option.{option_map_or}
 use Rattle.bosh_asks.specs.declared.fault.BookFault.{BookFault}
@@ -137,7 +137,8 @@ abbrev pub ComesOut : {K T : Type 0} → (K → ℕ) → Result T BookFault → 
 ComesOut faults (Ok value) was result now = FailsAs faults result was.journal now.journal × IfErr result IsNoteFault
 ComesOut faults (Err fault) was result now = (result ≡ Err fault) × (now.journal ≡ was.journal)
 
--- The entries that were read are taken in, and then the tasks that are open by them are ended as interrupted.
+-- The entries that were read are taken in, and then the tasks that are open by them are ended as interrupted. It starts only
+-- where they were taken in.
 pub record Starts {K T : Type 0}
     (bodies : K → Option (List (List ℕ))) (faults : K → ℕ) (compacts : Bool) (was : Book K) (result : Result T BookFault)
     (now : Book K) : Type 0 where
@@ -145,6 +146,7 @@ pub record Starts {K T : Type 0}
   pub mid : Book K
   pub takes : Takes bodies faults compacts was taken mid
   pub finishes : Finishes bodies faults mid taken result now
+  pub all_taken : OnOk result (is_ok taken ≡ true)
 
 abbrev pub standing_after : {T : Type 0} → Result T BookFault → Standing
 standing_after (Ok value) = Running
