@@ -6,6 +6,7 @@ pub mod ClaimStoppedLemmas
 pub mod DeletingLemmas
 pub mod EndLemmas
 pub mod FirstLemmas
+pub mod FoundLemmas
 pub mod HaltLemmas
 pub mod HeldLemmas
 pub mod KeepLemmas
