@@ -146,23 +146,26 @@ pub opens_told : {K L : Type 0} {k : keeper.Ghosts K} {l : keeper.Ghosts L} (bod
     (faults : K → ℕ) (was now : Site K L k l) (ask : Ask) (result : Result ℕ SiteFault) (answer : Result ℕ BookFault)
     (sprung : Option Rig) → result ≡ answered_as sprung answer → SameRest was now →
     IfOk answer (λ task. opens.OpensTask (bodies_of bodies) (faults_of faults) was.book ask task now.book) →
+    OnOk answer (is_full was.book ≡ false) →
     Follows was.history now.book.journal.entries now.cloud.effects (halt_of sprung answer) now.history →
     IfOk result (λ task. OpensTask bodies faults was ask task now)
-opens_told {k = k} {l = l} bodies faults was now ask result answer sprung is rest opened follows =
+opens_told {k = k} {l = l} bodies faults was now ask result answer sprung is rest opened room follows =
     subst (λ (r : Result ℕ SiteFault). IfOk r (λ task. OpensTask {k = k} {l = l} bodies faults was ask task now)) (sym is)
-    (each answer opened follows)
+    (each answer opened room follows)
   where
     each : (a : Result ℕ BookFault) →
         IfOk a (λ task. opens.OpensTask (bodies_of bodies) (faults_of faults) was.book ask task now.book) →
+        OnOk a (is_full was.book ≡ false) →
         Follows was.history now.book.journal.entries now.cloud.effects (halt_of sprung a) now.history →
         IfOk (answered_as sprung a) (λ task. OpensTask {k = k} {l = l} bodies faults was ask task now)
-    each (Ok task) it follows = record {
+    each (Ok task) it room follows = record {
       opening = it.opening;
       is_opening = it.is_opening;
       notes = noted bodies faults was now (entries.TaskOpen it.opening ∷ []) None rest it.adds follows;
       told = it.told;
+      has_room = room;
     }
-    each (Err fault) it follows = tt
+    each (Err fault) it room follows = tt
 
 pub standing_opens : {K : Type 0} (bodies : K → Option (List (List ℕ))) (faults : K → ℕ) (was now : Book K) (ask : Ask)
     (answer : Result ℕ BookFault) → IfOk answer (λ task. opens.OpensTask bodies faults was ask task now) →

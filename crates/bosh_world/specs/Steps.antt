@@ -81,7 +81,7 @@ pub record Notes {K L : Type 0} {k : keeper.Ghosts K} {l : keeper.Ghosts L}
   pub same_armed : now.traps.items ≡ was.traps.items
   pub same_opening : now.opening ≡ was.opening
 
--- the task opens that does what is asked
+-- the task opens that does what is asked, in a book that has room
 pub record OpensTask {K L : Type 0} {k : keeper.Ghosts K} {l : keeper.Ghosts L}
     (bodies : K → Option (List (List ℕ))) (faults : K → ℕ) (was : Site K L k l) (ask : Ask) (task : ℕ)
     (now : Site K L k l) : Type 0 where
@@ -89,6 +89,7 @@ pub record OpensTask {K L : Type 0} {k : keeper.Ghosts K} {l : keeper.Ghosts L}
   pub is_opening : IsOpeningOf was.book.records ask opening
   pub notes : Notes bodies faults was (entries.TaskOpen opening ∷ []) None now
   pub told : task ≡ opening.task
+  pub has_room : is_full was.book ≡ false
 
 -- a task that had ended is only told; one that ends, as it comes to its end now, is noted
 abbrev pub EndsTask : {K L : Type 0} {k : keeper.Ghosts K} {l : keeper.Ghosts L} → (K → Option (List (List ℕ))) → (K →

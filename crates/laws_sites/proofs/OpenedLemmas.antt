@@ -107,11 +107,11 @@ module _ {K L : Type 0} {k : keeper.Ghosts K} {l : keeper.Ghosts L} (outside : O
   may_delete ask opening only running room is = absurd only
 
   pub deletion_good : (one_more : OneMoreStands) (ask : Ask) (task : ℕ) → Deletes ask
-      → was.book.records.opened < 18446744073709551615 → is_full was.book ≡ false
+      → was.book.records.opened < 18446744073709551615
       → OpensTask bodies faults was ask task now → IsGood outside bodies cloud_bodies o now
-  deletion_good one_more ask task only numbers room opens =
+  deletion_good one_more ask task only numbers opens =
       opened_good one_more opens.opening
-      (may_delete ask opens.opening only opens.notes.running numbers opens.is_opening) room opens.notes
+      (may_delete ask opens.opening only opens.notes.running numbers opens.is_opening) opens.has_room opens.notes
 
   pub deletion_refused : (ask : Ask) (why : SiteFault) → Deletes ask
       → was.book.records.opened < 18446744073709551615 → Refuses bodies faults was [] why now

@@ -31,6 +31,7 @@ returns-clause-opens g c =
       same_opening = λ j. c.args.self.now.opening;
     })
     c.begin_task-task.ensures.opens
+    c.begin_task-task.ensures.room
     (follows_at c.args.self.now.history c.told.new.history c.begin_task-task.new.self.journal.entries c.entries.result.now
     c.args.self.now.cloud.effects c.effects.result.now (halt_of c.sprung.result c.begin_task-task.result) c.entries.ensures
     c.effects.ensures c.told.ensures.follows)
