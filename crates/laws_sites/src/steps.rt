@@ -1,10 +1,9 @@
 //! Steps of a worker, and all that it does for tasks.
-ghost use Rattle.std.specs.Prelude.{List, None, Ok, Result, [], false, ◌<◌, ◌∷◌, ◌≡◌, ℕ};
+ghost use Rattle.std.specs.Prelude.{List, None, Ok, Result, [], ◌<◌, ◌∷◌, ◌≡◌, ℕ};
 ghost use Rattle.bosh_agent.specs.Compiled.{compiled_digest};
 ghost use Rattle.bosh_asks.specs.declared.ask.Ask.{Ask};
 ghost use Rattle.bosh_base.specs.declared.entry.Entry.TheVariants as entries;
 ghost use Rattle.bosh_base.specs.declared.task.TaskEnd.{TaskEnd};
-ghost use Rattle.bosh_book.specs.Running.{is_full};
 ghost use Rattle.bosh_book.specs.declared.claim.Claim.{Claim};
 ghost use Rattle.bosh_calls.specs.Calls.{without};
 ghost use Rattle.bosh_crew.specs.Carried.{Carries, Reaches, Steps, Stops};
@@ -51,11 +50,11 @@ pub fn a_good_site_ends_a_task<K: Keeper, L: Keeper>(was: &Site<K, L>, now: &Sit
         → now.now.calls ≡ was.now.calls → IsGood outside K.bodies L.bodies o now.now }
 {}
 
-/// .. on which a task opens that deletes disks or a deployment, where the book has room, and tasks have numbers.
+/// .. on which a task opens that deletes disks or a deployment, where tasks have numbers.
 pub fn a_good_site_opens_a_deletion<K: Keeper, L: Keeper>(was: &Site<K, L>, now: &Site<K, L>)
     ensures { (outside : Outside) (o : Opening) (ask : Ask) (task : ℕ) → IsFit outside o
         → IsGood outside K.bodies L.bodies o was.now → Deletes ask
-        → was.now.book.records.opened < 18446744073709551615 → is_full was.now.book ≡ false
+        → was.now.book.records.opened < 18446744073709551615
         → OpensTask K.bodies K.faults was.now ask task now.now
         → now.now.calls ≡ was.now.calls → IsGood outside K.bodies L.bodies o now.now }
 {}

@@ -3,6 +3,6 @@ use Rattle.laws_sites.proofs.steps.a_good_site_opens_a_deletion.Goals as goal
 use Rattle.laws_stands_kept.proofs.KeptLemmas.{one_more_stands}
 
 pub returns : goal.returns
-returns g c = λ outside o ask task fit good only numbers room opens calls.
+returns g c = λ outside o ask task fit good only numbers opens calls.
     deletion_good outside g.K.Keeper.bodies g.L.Keeper.bodies g.K.Keeper.faults o c.args.was.now c.args.now.now fit
-    good calls one_more_stands ask task only numbers room opens
+    good calls one_more_stands ask task only numbers opens
