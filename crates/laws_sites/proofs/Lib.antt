@@ -3,7 +3,6 @@ pub mod ChainLemmas
 pub mod ChoiceLemmas
 pub mod ClaimLemmas
 pub mod ClaimStoppedLemmas
-pub mod DeletingLemmas
 pub mod EndLemmas
 pub mod FirstLemmas
 pub mod FoundLemmas
@@ -16,7 +15,6 @@ pub mod NotedHaltLemmas
 pub mod NumberLemmas
 pub mod OpenedLemmas
 pub mod OpeningLemmas
-pub mod OrderLemmas
 pub mod PerformLemmas
 pub mod PerformedLemmas
 pub mod RefusedLemmas

@@ -8,6 +8,7 @@ mod first;
 mod found;
 mod jobs;
 mod kept;
+mod openings;
 mod performed;
 mod refused;
 mod settled;
@@ -21,6 +22,10 @@ pub use first::what_is_recorded_at_first_stands;
 pub use found::what_is_outside_is_as_it_is_found_out;
 pub use jobs::{a_good_site_loses_what_may_be_lost, a_good_site_writes_what_a_job_may};
 pub use kept::{a_good_site_is_armed, a_good_site_replies};
+pub use openings::{
+    a_good_site_opens_a_deletion, a_good_site_opens_a_task,
+    a_good_site_that_opens_no_deletion_stays_good, a_good_site_that_opens_no_task_stays_good,
+};
 pub use performed::a_good_site_performs_what_it_may;
 pub use refused::{
     a_good_site_gives_up_a_call, a_good_site_stops_in_a_call,
@@ -29,12 +34,11 @@ pub use refused::{
 pub use settled::a_call_that_is_held_may_end;
 pub use steps::{
     a_good_site_ends_a_task, a_good_site_gives_work, a_good_site_is_good_after_a_drive,
-    a_good_site_is_good_after_each_step, a_good_site_opens_a_deletion, a_good_site_settles_a_call,
+    a_good_site_is_good_after_each_step, a_good_site_settles_a_call,
 };
 pub use unmoved::{
     a_good_site_that_ends_no_task_stays_good, a_good_site_that_notes_nothing_stays_good,
-    a_good_site_that_opens_no_deletion_stays_good, a_good_site_that_refuses_an_answer_stays_good,
-    a_good_site_that_settles_no_call_stays_good,
+    a_good_site_that_refuses_an_answer_stays_good, a_good_site_that_settles_no_call_stays_good,
 };
 pub use uploads::{
     a_good_site_takes_a_config, a_good_site_takes_a_release, a_good_site_takes_a_stemcell,

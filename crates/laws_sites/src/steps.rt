@@ -1,7 +1,6 @@
 //! Steps of a worker, and all that it does for tasks.
-ghost use Rattle.std.specs.Prelude.{List, None, Ok, Result, [], ◌<◌, ◌∷◌, ◌≡◌, ℕ};
+ghost use Rattle.std.specs.Prelude.{List, None, Ok, Result, [], ◌∷◌, ◌≡◌, ℕ};
 ghost use Rattle.bosh_agent.specs.Compiled.{compiled_digest};
-ghost use Rattle.bosh_asks.specs.declared.ask.Ask.{Ask};
 ghost use Rattle.bosh_base.specs.declared.entry.Entry.TheVariants as entries;
 ghost use Rattle.bosh_base.specs.declared.task.TaskEnd.{TaskEnd};
 ghost use Rattle.bosh_book.specs.declared.claim.Claim.{Claim};
@@ -13,10 +12,9 @@ ghost use Rattle.bosh_history.specs.Moments.{Opening};
 ghost use Rattle.bosh_history.specs.Notes.{Outside};
 ghost use Rattle.bosh_world.specs.Holds.{IsHeld};
 ghost use Rattle.bosh_world.specs.Refuses.{RefusesClaim};
-ghost use Rattle.bosh_world.specs.Steps.{Claims, EndsTask, Notes, OpensTask, calls_claimed};
+ghost use Rattle.bosh_world.specs.Steps.{Claims, EndsTask, Notes, calls_claimed};
 ghost use Rattle.bosh_world.specs.declared.fault.SiteFault.{SiteFault};
 ghost use Rattle.bosh_world.specs.declared.held.HeldCall.{HeldCall};
-ghost use Rattle.laws_sites.specs.Asks.{Deletes};
 ghost use Rattle.laws_sites.specs.Good.{IsGood};
 
 use bosh_ports::Keeper;
@@ -47,15 +45,6 @@ pub fn a_good_site_settles_a_call<K: Keeper, L: Keeper>(was: &Site<K, L>, now: &
 pub fn a_good_site_ends_a_task<K: Keeper, L: Keeper>(was: &Site<K, L>, now: &Site<K, L>)
     ensures { (outside : Outside) (o : Opening) (task : ℕ) (end : TaskEnd) → IsFit outside o
         → IsGood outside K.bodies L.bodies o was.now → EndsTask K.bodies K.faults was.now task end now.now
-        → now.now.calls ≡ was.now.calls → IsGood outside K.bodies L.bodies o now.now }
-{}
-
-/// .. on which a task opens that deletes disks or a deployment, where tasks have numbers.
-pub fn a_good_site_opens_a_deletion<K: Keeper, L: Keeper>(was: &Site<K, L>, now: &Site<K, L>)
-    ensures { (outside : Outside) (o : Opening) (ask : Ask) (task : ℕ) → IsFit outside o
-        → IsGood outside K.bodies L.bodies o was.now → Deletes ask
-        → was.now.book.records.opened < 18446744073709551615
-        → OpensTask K.bodies K.faults was.now ask task now.now
         → now.now.calls ≡ was.now.calls → IsGood outside K.bodies L.bodies o now.now }
 {}
 

@@ -67,15 +67,3 @@ pub fn a_good_site_that_settles_no_call_stays_good<K: Keeper, L: Keeper>(
         (entries.End (record { n = call.permit.n; answer = call.answer }))) mid.now
         → Abandons mid.now call.permit now.now → IsGood outside K.bodies L.bodies o now.now }
 {}
-
-/// A good site that refuses to open a task that deletes disks or a deployment is good, where tasks have numbers.
-pub fn a_good_site_that_opens_no_deletion_stays_good<K: Keeper, L: Keeper>(
-    was: &Site<K, L>,
-    now: &Site<K, L>,
-)
-    ensures { (outside : Outside) (o : Opening) (ask : Ask) (fault : SiteFault) → IsFit outside o
-        → IsGood outside K.bodies L.bodies o was.now → Deletes ask
-        → was.now.book.records.opened < 18446744073709551615 → Refuses K.bodies K.faults was.now [] fault now.now
-        → now.now.calls ≡ was.now.calls → Pends was.now (IsOpening was.now.book.records ask) now.now
-        → IsGood outside K.bodies L.bodies o now.now }
-{}

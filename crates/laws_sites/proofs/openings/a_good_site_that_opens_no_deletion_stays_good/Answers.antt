@@ -1,5 +1,5 @@
 use Rattle.laws_sites.proofs.OpenedLemmas.{deletion_refused}
-use Rattle.laws_sites.proofs.unmoved.a_good_site_that_opens_no_deletion_stays_good.Goals as goal
+use Rattle.laws_sites.proofs.openings.a_good_site_that_opens_no_deletion_stays_good.Goals as goal
 
 pub returns : goal.returns
 returns g c = λ outside o ask fault fit good only numbers refuses calls.

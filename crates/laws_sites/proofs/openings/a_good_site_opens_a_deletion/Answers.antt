@@ -1,5 +1,5 @@
 use Rattle.laws_sites.proofs.OpenedLemmas.{deletion_good}
-use Rattle.laws_sites.proofs.steps.a_good_site_opens_a_deletion.Goals as goal
+use Rattle.laws_sites.proofs.openings.a_good_site_opens_a_deletion.Goals as goal
 use Rattle.laws_stands_kept.proofs.KeptLemmas.{one_more_stands}
 
 pub returns : goal.returns
