@@ -1,16 +1,14 @@
 -- What is recorded lets a task open that is planned over it.
-use Rattle.std.proofs.Common.{◌≡◌, ◌∙◌, ◌<◌, ℕ, false, Option, None, ap, subst}
+use Rattle.std.proofs.Common.{◌≡◌, ◌∙◌, ◌<◌, ℕ, false, ap, subst}
 use Rattle.bosh_asks.specs.declared.ask.Ask.{Ask}
 use Rattle.bosh_asks.specs.declared.ask.Ask.TheVariants as asks
 use Rattle.bosh_base.specs.declared.entry.TaskOpen.{TaskOpen}
-use Rattle.bosh_base.specs.declared.goal.Goal.{Goal}
 use Rattle.bosh_book.specs.Opens.{IsOpeningOf}
 use Rattle.bosh_history.specs.Moments.{Moment}
 use Rattle.bosh_history.specs.Openings.{MayOpen}
 use Rattle.bosh_history.specs.Recovered.{is_recovering}
 use Rattle.bosh_history.specs.Sound.{IsSound, is_sound}
 use Rattle.bosh_records.specs.declared.records.Records.{Records}
-use Rattle.bosh_views.specs.View.{view_of}
 use Rattle.laws_facts.specs.KnownFacts.{KnownFacts}
 use Rattle.laws_sites.specs.Asks.{Deletes}
 use Rattle.laws_stands.specs.Agrees.{Agrees}
