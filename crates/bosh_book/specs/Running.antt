@@ -20,6 +20,7 @@ is_long book = nat_le 1000000 (length book.journal.entries - book.read)
 abbrev pub room_left : {K : Type 0} → Book K → ℕ
 room_left book = (book.read + 1000000) - length book.journal.entries
 
--- .. or so many calls were made that there are no more numbers for them (this project's profile)
+-- .. or so many calls were made, or so many tasks opened, that there are no more numbers for them (this project's profile)
 abbrev pub is_full : {K : Type 0} → Book K → Bool
-is_full book = is_long book || nat_le 4611686018427387904 book.records.last_call
+is_full book =
+    (is_long book || nat_le 4611686018427387904 book.records.last_call) || nat_le 4611686018427387904 book.records.opened

@@ -18,8 +18,8 @@ use bosh_ports::Keeper;
 
 /// So many entries are noted at most before the director starts anew.
 const MOST_ENTRIES: usize = 1_000_000;
-/// No call has a greater number than this.
-const LAST_CALL: u64 = 1 << 62;
+/// No call and no task has a greater number than this.
+const LAST_NUMBER: u64 = 1 << 62;
 
 impl<K: Keeper> Book<K> {
     /// Makes an entry durable, and takes it into the records. The one place where an entry is added.
@@ -83,7 +83,7 @@ impl<K: Keeper> Book<K> {
         Ok(())
     }
 
-    /// That it goes on, and more entries may be noted and more calls made.
+    /// That it goes on, and more entries may be noted, more calls made and more tasks opened.
     pub(crate) fn check(&self) -> Result<(), BookFault>
         ensures runs { OnOk result (is_stopped self.now ≡ false) }
         ensures room { OnOk result (is_full self.now ≡ false) }
@@ -94,7 +94,7 @@ impl<K: Keeper> Book<K> {
         self.check_room()
     }
 
-    /// That more entries may be noted and more calls made.
+    /// That more entries may be noted, more calls made and more tasks opened.
     pub(crate) fn check_room(&self) -> Result<(), BookFault>
         ensures room { OnOk result (is_full self.now ≡ false) }
         ensures full { IfErr result (λ fault. (fault ≡ faults.Full) × (is_full self.now ≡ true)) }
@@ -108,7 +108,9 @@ impl<K: Keeper> Book<K> {
     fn is_full(&self) -> bool
         ensures { result ≡ is_full self.now }
     {
-        self.is_long() || self.records.last_call() >= LAST_CALL
+        self.is_long()
+            || self.records.last_call() >= LAST_NUMBER
+            || self.records.tasks_opened() >= LAST_NUMBER
     }
 
     pub(crate) fn is_long(&self) -> bool

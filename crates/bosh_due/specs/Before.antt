@@ -58,6 +58,8 @@ left_under_way b what more = if (fold later b.moment more).halted then what else
 abbrev pub HasSettledCalls : Before → Type 0
 HasSettledCalls b = b.moment.halted ≡ false → (n : ℕ) → b.moment.calls n ≡ None
 
--- 1,000,000 entries were noted since the director started, or 2 ^ 62 calls were made: no more are
+-- 1,000,000 entries were noted since the director started, or 2 ^ 62 calls were made or tasks opened: no more are
 abbrev pub is_out_of_room : Before → Bool
-is_out_of_room b = nat_le 1000000 b.noted || nat_le 4611686018427387904 b.moment.known.last_call
+is_out_of_room b =
+    (nat_le 1000000 b.noted || nat_le 4611686018427387904 b.moment.known.last_call)
+    || nat_le 4611686018427387904 b.moment.known.tasks

@@ -31,20 +31,26 @@ plain_entry (entries.TaskOpen o) = entries.TaskOpen (plain_opening o)
 plain_entry (entries.Snapshot s) = entries.Snapshot (plain s)
 plain_entry entry = entry
 
--- the same entries one after another, but for what the older format has not
-abbrev pub AreAlike : List Entry → List Entry → Type 0
-AreAlike stored written = map plain_entry stored ≡ map plain_entry written
+-- an entry is stored as it was written, or in the older format
+abbrev pub IsStoredAs : Entry → Entry → Type 0
+IsStoredAs stored written = (stored ≡ written) ⊎ (stored ≡ plain_entry written)
+
+-- the same entries one after another, each as it was written or in the older format
+abbrev pub AreStoredAs : List Entry → List Entry → Type 0
+AreStoredAs [] [] = Unit {0}
+AreStoredAs (entry ∷ stored) (it ∷ written) = IsStoredAs entry it × AreStoredAs stored written
+AreStoredAs stored written = ⊥
 
 -- One snapshot of all that was written, and nothing behind it: a snapshot of a front of it would forget that a call has
 -- begun whose end comes behind it.
 abbrev pub AreShortened : List Entry → List Entry → Type 0
-AreShortened (entries.Snapshot s ∷ []) written = plain s ≡ plain (snapshot_of (known_of written))
+AreShortened (entry ∷ []) written = IsStoredAs entry (entries.Snapshot (snapshot_of (known_of written)))
 AreShortened stored written = ⊥
 
 -- The entries of a store stand for those that were made durable: they are these, or one snapshot of all of these, which
 -- a load puts in their place before anything is noted behind it.
 abbrev pub StandFor : List Entry → List Entry → Type 0
-StandFor stored written = AreAlike stored written ⊎ AreShortened stored written
+StandFor stored written = AreStoredAs stored written ⊎ AreShortened stored written
 
 -- ---- what a session leaves
 

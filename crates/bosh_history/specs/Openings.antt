@@ -4,6 +4,8 @@ use Rattle.std.specs.List.{list_all}
 use Rattle.std.specs.Option.{option_eq}
 use Rattle.std.specs.Str.{bytes_eq}
 use Rattle.bosh_base.specs.Cloud.{numbers_to}
+use Rattle.bosh_base.specs.declared.entry.Entry.{Entry}
+use Rattle.bosh_base.specs.declared.entry.Entry.TheVariants as entries
 use Rattle.bosh_base.specs.declared.entry.TaskOpen.{TaskOpen}
 use Rattle.bosh_base.specs.declared.goal.Goal.{Goal}
 use Rattle.bosh_base.specs.declared.inst.Inst.{Inst}
@@ -52,12 +54,16 @@ names_what_is_there k kind goal = deploys kind || (is_recorded k goal.dep && by_
     by_name (Some i) = is_in (k.goal goal.dep) i
     by_name None = true
 
+-- a deploy tells its source, and no other task does
+abbrev pub TellsSource : Entry → Type 0
+TellsSource (entries.TaskOpen o) = is_some o.source ≡ deploys o.kind
+TellsSource entry = Unit {0}
+
 -- a task of a deployment opens: a deploy, or one of its instances, or its deletion
 pub record OpensWith (k : Known) (o : TaskOpen) (goal : Goal) : Type 0 where
   pub number : o.task ≡ k.tasks + 1
   pub of_the_deployment : option_eq bytes_eq o.dep (Some goal.dep) ≡ true
   pub is_free : is_free k o.dep ≡ true
-  pub has_source : is_some o.source ≡ deploys o.kind
   pub is_there : names_what_is_there k o.kind goal ≡ true
   pub changes : o.changed ≡ to_change k o.kind o.goal
   pub deletes : o.obsolete ≡ to_delete k o.kind goal.dep o.goal
@@ -69,7 +75,6 @@ pub record OpensOn (k : Known) (o : TaskOpen) : Type 0 where
   pub number : o.task ≡ k.tasks + 1
   pub of_none : o.dep ≡ None
   pub is_free : is_free k o.dep ≡ true
-  pub no_source : o.source ≡ None
   pub changes_none : o.changed ≡ []
   pub deletes_none : o.obsolete ≡ []
 
@@ -94,6 +99,6 @@ OpensBy k o CleanUp = OpensAll k o o.goal
 OpensBy k o (DeleteDisk d) = OpensOne k o o.goal d
 OpensBy k o kind = OpensFor k o o.goal
 
--- the task may open
+-- the task may open, whatever source it tells
 abbrev pub MayOpen : Known → TaskOpen → Type 0
 MayOpen k o = OpensBy k o o.kind

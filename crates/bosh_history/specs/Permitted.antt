@@ -16,6 +16,7 @@ use Rattle.bosh_base.specs.declared.owner.Owner.{Owner}
 use Rattle.bosh_base.specs.declared.owner.Owner.TheVariants.{Instance}
 use Rattle.bosh_history.specs.Moments.{Opening, Moment, OpenCall, beginning, later, taking, with_written}
 use Rattle.bosh_history.specs.Notes.{Outside, MayNote}
+use Rattle.bosh_history.specs.Openings.{TellsSource}
 use Rattle.bosh_history.specs.Recovered.{may_follow}
 use Rattle.bosh_history.specs.Words.{holds}
 use Rattle.bosh_rows.specs.Disks.{active}
@@ -56,7 +57,7 @@ can_lose effects loss = is_vm_there effects loss.vm && is_instances (vm_creation
 
 -- the entry whose append was not answered was permitted at the halt
 abbrev pub MayKeep : Outside → Moment → Option Entry → Type 0
-MayKeep outside m (Some entry) = MayNote outside m entry × (may_follow m entry ≡ true)
+MayKeep outside m (Some entry) = MayNote outside m entry × (may_follow m entry ≡ true) × TellsSource entry
 MayKeep outside m None = Unit {0}
 
 -- the write or loss whose append was not answered was
@@ -91,7 +92,8 @@ pub record Stops (outside : Outside) (m : Moment) (s : stop.Stop) : Type 0 where
 
 -- the move is permitted at the moment; between a halt and the next stop only replies stand
 abbrev pub IsPermitted : Outside → Moment → Move → Type 0
-IsPermitted outside m (moves.Note entry) = (m.halted ≡ false) × (may_follow m entry ≡ true) × MayNote outside m entry
+IsPermitted outside m (moves.Note entry) =
+    (m.halted ≡ false) × (may_follow m entry ≡ true) × MayNote outside m entry × TellsSource entry
 IsPermitted outside m (moves.Did d) = (m.halted ≡ false) × PerformsOpen outside m.effects d (m.calls d.n)
 IsPermitted outside m (moves.Wrote w) = (m.halted ≡ false) × (can_write m w.inst ≡ true)
 IsPermitted outside m (moves.Halt cause) = m.halted ≡ false

@@ -182,6 +182,12 @@ is_of_kind k kind goal = by_name (named_instance kind)
     by_name (Some i) = is_renewed k goal i (k.goal goal.dep)
     by_name None = true
 
+-- ---- what it is called, and how many slots it has
+
+-- the deployment has a name (bosh.io, "Deployment manifest", "name"), and each slot a number of 32 bits
+abbrev pub is_in_bounds : Goal → Bool
+is_in_bounds goal = not (bytes_eq goal.dep []) && nat_le (length goal.slots) 4294967296
+
 -- ---- all
 
 abbrev pub is_sound_goal : Known → TaskKind → Goal → Bool
@@ -195,7 +201,7 @@ abbrev pub is_sound : Known → TaskOpen → Bool
 is_sound k o = by_goal o.goal
   where
     by_goal : Option Goal → Bool
-    by_goal (Some goal) = is_sound_goal k o.kind goal
+    by_goal (Some goal) = is_sound_goal k o.kind goal && is_in_bounds goal
     by_goal None = true
 
 -- the goal that a task opens with, where it has one, may be worked on

@@ -1,14 +1,16 @@
 -- Manifests that were read are sound.
-use Rattle.std.proofs.Common.{◌≡◌, ℕ, ◌≤◌, nat_le, List, Result, Ok, Err, codes, refl, sym, ◌∙◌, ap, subst, inl, inr, sum_by}
+use Rattle.std.proofs.Common.{◌≡◌, ℕ, ◌≤◌, nat_le, List, [], Result, Ok, Err, codes, refl, sym, ◌∙◌, ap, subst, inl, inr, sum_by}
+use Rattle.std.specs.Prelude.{IsTrue, if◌then◌else◌}
 use Rattle.std.proofs.lemmas.Bool.{cases_Bool, leb-true}
+use Rattle.bosh_base.specs.Name.{IsName, is_name}
 use Rattle.bosh_yaml.specs.Tree.{Tree}
 use Rattle.bosh_fields.specs.Answer.{◌>>=◌, both}
 use Rattle.bosh_fields.specs.Distinct.{name_in}
 use Rattle.bosh_fields.specs.Field.{required}
-use Rattle.bosh_fields.specs.Kind.{a_name}
+use Rattle.bosh_fields.specs.Kind.{a_name, a_text}
 use Rattle.bosh_fields.specs.List.{no_limit}
 use Rattle.bosh_fields.specs.declared.fault.FieldFault.{FieldFault}
-use Rattle.bosh_fields.specs.declared.fault.FieldFault.TheVariants.{Limit}
+use Rattle.bosh_fields.specs.declared.fault.FieldFault.TheVariants.{Limit, WrongKind}
 use Rattle.bosh_manifest_parts.specs.Source.{a_release, a_source_list, a_stemcell, a_version, sources}
 use Rattle.bosh_manifest_parts.specs.Unoffered.{absent}
 use Rattle.bosh_manifest_parts.specs.declared.source.ReleaseUse.{ReleaseUse}
@@ -62,13 +64,31 @@ groups-ok name t read h =
     let (u, of_tree) = required-ok an_update (codes "update") t update rules in
     offered_groups-ok (record { name = name; update = update }) t read (update-ok (codes "update") u update of_tree) rest
 
-pub manifest-ok : (name : List ℕ) (t : Tree) (contents : Contents) → a_manifest name t ≡ Ok contents → IsSound contents
-manifest-ok name t contents h =
+-- a name that was read is one
+pub name-ok : (t : Tree) (name : List ℕ) → required a_name (codes "name") t ≡ Ok name → IsName name
+name-ok t name h =
+    let (u, read) = required-ok a_name (codes "name") t name h in
+    let (s, text, rest) = ok-parts (a_text (codes "name") u) (λ s. if is_name s then Ok s else Err (WrongKind (codes "name"))) name read in
+    elim (cases_Bool (is_name s)) [
+      | inl yes ↦
+          let whole : ◌≡◌ {A = Result (List ℕ) FieldFault} (Ok s) (Ok name) = sym (rw yes refl) ∙ rest in
+          subst IsName (same-ok whole) (subst IsTrue (sym yes) tt)
+      | inr no ↦ let never : ◌≡◌ {A = Result (List ℕ) FieldFault} (Err (WrongKind (codes "name"))) (Ok name) = sym (rw no refl) ∙ rest in absurd (cc)
+    ]
+
+-- no name is empty
+empty-unnamed : IsName [] → ⊥
+empty-unnamed it = it
+
+pub manifest-ok : (name : List ℕ) (t : Tree) (contents : Contents) → IsName name → a_manifest name t ≡ Ok contents
+    → IsSound contents
+manifest-ok name t contents is_one h =
     let (used, found, rest) = ok-parts (sources t) (λ used. groups name t >>= λ read. Ok (record { name = name; releases = used.0; stemcells = used.1; groups = read })) contents h in
     let (read, all, whole) = ok-parts (groups name t) (λ read. Ok (record { name = name; releases = used.0; stemcells = used.1; groups = read })) contents rest in
     let parts = both-parts (required (a_source_list (codes "name") a_release) (codes "releases") t) (required (a_source_list (codes "alias") a_stemcell) (codes "stemcells") t) used found in
     let (bounded, few) = groups-ok name t read all in
     subst IsSound (same-ok whole) (record {
+      named = λ none. empty-unnamed (subst IsName none is_one);
       releases = distinct_list-ok (name_in (codes "name")) a_release release_name (λ _. Unit {0}) release-name no_limit (codes "releases") t used.0 parts.0;
       stemcells = distinct_list-ok (name_in (codes "alias")) a_stemcell alias_of (λ _. Unit {0}) stemcell-alias no_limit (codes "stemcells") t used.1 parts.1;
       groups = bounded.names;

@@ -1,5 +1,5 @@
 -- What is true of every checked manifest (this project's profile).
-use Rattle.std.specs.Prelude.{◌≡◌, ℕ, ◌≤◌, false, List, [], ◌∷◌, Option, Some, All, count_by, length, map, sum_by}
+use Rattle.std.specs.Prelude.{◌≡◌, ◌≢◌, ℕ, ◌≤◌, false, List, [], ◌∷◌, Option, Some, All, count_by, length, map, sum_by}
 use Rattle.bosh_base.specs.Plan.{is_listed}
 use Rattle.bosh_base.specs.declared.count.Count.{Count}
 use Rattle.bosh_base.specs.declared.count.Count.TheVariants.{Whole, Percent}
@@ -66,6 +66,7 @@ pub record IsSoundGroup (group : Group) : Type 0 where
   pub update : IsSoundUpdate group.update
 
 pub record IsSound (contents : Contents) : Type 0 where
+  pub named : contents.name ≢ []
   pub releases : AreDistinct (map release_name contents.releases)
   pub stemcells : AreDistinct (map alias_of contents.stemcells)
   pub groups : AreDistinct (map group_name contents.groups)

@@ -1,4 +1,5 @@
 ghost use Rattle.std.specs.Prelude.{◌≡◌, Err, Ok};
+ghost use Rattle.bosh_base.specs.Name.{IsName};
 ghost use Rattle.bosh_yaml.specs.View.{tree_of};
 ghost use Rattle.bosh_manifest.specs.Answer.{IsAnswer};
 ghost use Rattle.bosh_manifest.specs.Check.{manifest_of, named};
@@ -28,6 +29,7 @@ fn named(
     node: &Node,
     deployment: &Name,
 ) -> Result<Manifest, ManifestFault>
+    requires { IsName name }
     ensures { IsAnswer result (named deployment.now (Ok name) (tree_of node.now)) }
 {
     if name == *deployment {

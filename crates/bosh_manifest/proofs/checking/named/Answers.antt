@@ -4,4 +4,4 @@ use Rattle.bosh_manifest.proofs.SoundLemmas.{manifest-ok}
 use Rattle.bosh_manifest.proofs.checking.named.Goals as goal
 
 pub of-requires : goal.of-requires
-of-requires c = manifest-ok c.args.name (tree_of c.args.node.now) _ c.in_ok-read_manifest.ensures
+of-requires c = manifest-ok c.args.name (tree_of c.args.node.now) _ c.requires c.in_ok-read_manifest.ensures
