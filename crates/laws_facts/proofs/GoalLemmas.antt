@@ -24,7 +24,7 @@ use Rattle.bosh_history.specs.Moments.{Moment, later}
 use Rattle.bosh_history.specs.Notes.{MayNote, Outside}
 use Rattle.bosh_history.specs.Openings.{MayOpen, OpensBy, OpensDisks, OpensFor}
 use Rattle.bosh_history.specs.Permitted.{IsPermitted}
-use Rattle.bosh_history.specs.Sound.{IsSound, has_plan, is_row_of, is_sound_goal}
+use Rattle.bosh_history.specs.Sound.{IsSound, has_plan, is_in_bounds, is_row_of, is_sound, is_sound_goal}
 use Rattle.bosh_history.specs.Tasks.{deployment_listed, goal_set, listed, settles}
 use Rattle.bosh_history.specs.Words.{at, is_among}
 use Rattle.bosh_rows.specs.SoundSnapshot.{are_distinct}
@@ -175,9 +175,17 @@ apart_kept outside m move may h =
 
 -- ---- each current goal is one that a task opened with
 
+sound_parts : (k : Known) (o : TaskOpen) (goal : Goal) → o.goal ≡ Some goal → IsSound k o
+    → (is_sound_goal k o.kind goal ≡ true) × (is_in_bounds goal ≡ true)
+sound_parts k o goal is sound =
+    and_parts (is_sound_goal k o.kind goal) (is_in_bounds goal) (sym (λ i. is_sound k (record o { goal = is i })) ∙ sound)
+
 pub sound_of : (k : Known) (o : TaskOpen) (goal : Goal) → o.goal ≡ Some goal → IsSound k o
     → is_sound_goal k o.kind goal ≡ true
-sound_of k o goal is sound = grind (arith, is, sound)
+sound_of k o goal is sound = (sound_parts k o goal is sound).0
+
+pub bounds_of : (k : Known) (o : TaskOpen) (goal : Goal) → o.goal ≡ Some goal → IsSound k o → is_in_bounds goal ≡ true
+bounds_of k o goal is sound = (sound_parts k o goal is sound).1
 
 rows_of_dep : (k : Known) (goal : Goal) (rows : List GoalRow) → list_all (is_row_of k goal) rows ≡ true
     → list_all (λ want. bytes_eq want.inst.dep goal.dep && has_plan goal want) rows ≡ true

@@ -7,7 +7,7 @@ use Rattle.bosh_base.specs.declared.entry.Entry.TheVariants as entries
 use Rattle.bosh_base.specs.declared.moves.Move.{Move}
 use Rattle.bosh_base.specs.declared.moves.Move.TheVariants as moves
 use Rattle.bosh_history.proofs.KnownLemmas.{known_by_entries}
-use Rattle.bosh_history.specs.Fit.{AreShortened, IsFit, LeavesPair, StandFor, empty, ends_stopped, left, plain}
+use Rattle.bosh_history.specs.Fit.{AreShortened, IsFit, LeavesPair, StandFor, empty, ends_stopped, left}
 use Rattle.bosh_history.specs.Known.{Known}
 use Rattle.bosh_history.specs.Learn.{known_of}
 use Rattle.bosh_history.specs.Moments.{Moment, Opening, beginning, durable, later, moment}
@@ -17,7 +17,7 @@ use Rattle.bosh_history.specs.Snapshots.{known_by, snapshot_of}
 use Rattle.laws_facts.proofs.StartLemmas.{nothing_known_holds}
 use Rattle.laws_facts.specs.KnownFacts.{KnownFacts}
 use Rattle.laws_runs.proofs.KeptLemmas.{facts_along}
-use Rattle.laws_runs.proofs.PlainLemmas.{alike_told, plain_known, snapshot_plain}
+use Rattle.laws_runs.proofs.PlainLemmas.{plain_known, stored_told}
 use Rattle.laws_runs.proofs.RestLemmas.{Outlasts, Rests, facts_rest, keyless, reopened}
 use Rattle.laws_facts.specs.Tasks.{is_within_limits}
 use Rattle.bosh_history.specs.Slots.{is_compiled}
@@ -90,20 +90,17 @@ outlasts_as k old new alike same = record {
 module _ (m : Moment) (h : KnownFacts m) (written : List Entry) (known : m.known ≡ known_of written) where
   shortened : (stored : List Entry) → AreShortened stored written → Outlasts m.known (known_of stored)
   shortened [] short = absurd short
-  shortened (entries.Snapshot s ∷ []) short =
-      outlasts_as m.known (known_by (snapshot_of m.known)) (known_by s)
-      (snapshot_plain s
-      ∙ (λ j. plain_known (known_by (short j)))
-      ∙ (λ j. plain_known (known_by (plain (snapshot_of (sym known j)))))
-      ∙ sym (snapshot_plain (snapshot_of m.known)))
+  shortened (entry ∷ []) short =
+      outlasts_as m.known (known_by (snapshot_of m.known)) (known_of (entry ∷ []))
+      (stored_told (entry ∷ []) (entries.Snapshot (snapshot_of (known_of written)) ∷ []) (short, tt)
+      ∙ (λ j. plain_known (known_by (snapshot_of (sym known j)))))
       (snapshot_outlasts m h.lists)
-  shortened (entries.Snapshot s ∷ e ∷ more) short = absurd short
-  shortened (e ∷ more) short = absurd short
+  shortened (entry ∷ e ∷ more) short = absurd short
 
   pub stands : (stored : List Entry) → StandFor stored written → Outlasts m.known (known_of stored)
   stands stored (inl alike) =
       outlasts_as m.known m.known (known_of stored)
-      (alike_told stored written alike ∙ (λ j. plain_known (sym known j)))
+      (stored_told stored written alike ∙ (λ j. plain_known (sym known j)))
       (itself m.known)
   stands stored (inr short) = shortened stored short
 
