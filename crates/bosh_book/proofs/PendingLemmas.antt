@@ -1,5 +1,5 @@
 -- What is pending where a task was to open or to end.
-use Rattle.std.proofs.Common.{◌≡◌, ◌∙◌, ℕ, zero, suc, Option, Some, None, Result, Ok, Err, List, [], ◌∷◌, ◌++◌, ap, append-nil, inl, inr, refl, subst, sym}
+use Rattle.std.proofs.Common.{◌≡◌, ◌∙◌, ℕ, zero, suc, Option, Some, None, Result, Ok, Err, List, [], ◌∷◌, ◌++◌, ap, append-nil, false, inl, inr, refl, subst, sym}
 use Rattle.std.specs.Prelude.{IfErr, IfOk}
 use Rattle.std.proofs.lemmas.List.Elements.{All-append, All-cons, All-nil}
 use Rattle.bosh_asks.specs.declared.ask.Ask.{Ask}
@@ -25,19 +25,20 @@ use Rattle.bosh_journal.specs.Appends.{added}
 use Rattle.bosh_book.specs.Ends.{EndsPending, closing, coming_end}
 use Rattle.bosh_book.specs.Faults.{IsQuiet}
 use Rattle.bosh_book.specs.Opens.{IsOpeningOf, OpensPending}
+use Rattle.bosh_book.specs.Running.{is_full}
 use Rattle.bosh_journal.specs.JournalView.{JournalView}
 use Rattle.bosh_records.specs.declared.records.Records.{Records}
 
-pub opens_pending : {K : Type 0} (records : Records) (ask : Ask) (opening : task_open.TaskOpen) (now : JournalView K)
-    (fault : BookFault) → IsOpeningOf records ask opening →
-    LeavesPending {T = ℕ} (Err fault) (entries.TaskOpen opening) now → OpensPending records ask now fault
-opens_pending records ask opening now book.StoreFault is pending = (opening, is, pending)
-opens_pending records ask opening now fault is pending = tt
+pub opens_pending : {K : Type 0} (was : Book K) (ask : Ask) (opening : task_open.TaskOpen) (now : JournalView K)
+    (fault : BookFault) → IsOpeningOf was.records ask opening → is_full was ≡ false →
+    LeavesPending {T = ℕ} (Err fault) (entries.TaskOpen opening) now → OpensPending was ask now fault
+opens_pending was ask opening now book.StoreFault is room pending = (opening, is, room, pending)
+opens_pending was ask opening now fault is room pending = tt
 
-pub opens_nothing : {K : Type 0} (records : Records) (ask : Ask) (now : JournalView K) (fault : BookFault) → IsQuiet fault →
-    OpensPending records ask now fault
-opens_nothing records ask now book.StoreFault quiet = absurd quiet
-opens_nothing records ask now fault quiet = tt
+pub opens_nothing : {K : Type 0} (was : Book K) (ask : Ask) (now : JournalView K) (fault : BookFault) → IsQuiet fault →
+    OpensPending was ask now fault
+opens_nothing was ask now book.StoreFault quiet = absurd quiet
+opens_nothing was ask now fault quiet = tt
 
 pub ends_pending : {K : Type 0} (records : Records) (task : ℕ) (end : TaskEnd) (now : JournalView K) (fault : BookFault) →
     coming_end records task ≡ Some end → LeavesPending {T = TaskEnd} (Err fault) (closing task end) now →

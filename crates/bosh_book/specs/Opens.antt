@@ -1,5 +1,5 @@
 -- A task opens (this project's profile).
-use Rattle.std.specs.Prelude.{◌≡◌, ℕ, List, [], ◌∷◌, Option, Some, None}
+use Rattle.std.specs.Prelude.{◌≡◌, ℕ, List, [], ◌∷◌, Option, Some, None, false}
 use Rattle.bosh_asks.specs.Asked.{dep_of}
 use Rattle.bosh_asks.specs.Known.{lock_holder, next_task}
 use Rattle.bosh_asks.specs.Opened.{Opens, plan_of}
@@ -10,6 +10,7 @@ use Rattle.bosh_asks.specs.declared.fault.BookFault.TheVariants.{StoreFault}
 use Rattle.bosh_base.specs.declared.entry.Entry.TheVariants as entries
 use Rattle.bosh_base.specs.declared.entry.TaskOpen as task_open
 use Rattle.bosh_book.specs.Adds.{Adds}
+use Rattle.bosh_book.specs.Running.{is_full}
 use Rattle.bosh_book.specs.declared.book.Book.{Book}
 use Rattle.bosh_journal.specs.Appends.{added}
 use Rattle.bosh_journal.specs.JournalView.{JournalView}
@@ -24,12 +25,12 @@ pub record IsOpeningOf (records : Records) (ask : Ask) (opening : task_open.Task
   pub named : IsNamed records ask
   pub over : DoesOver records ask (plan_of opening)
 
--- where the store failed, it is pending
-abbrev pub OpensPending : {K : Type 0} → Records → Ask → JournalView K → BookFault → Type 0
-OpensPending records ask now StoreFault =
-    (opening : task_open.TaskOpen) × IsOpeningOf records ask opening
+-- where the store failed, it is pending, and there was room for it
+abbrev pub OpensPending : {K : Type 0} → Book K → Ask → JournalView K → BookFault → Type 0
+OpensPending was ask now StoreFault =
+    (opening : task_open.TaskOpen) × IsOpeningOf was.records ask opening × (is_full was ≡ false)
     × (now.pending ≡ Some (added (entries.TaskOpen opening)))
-OpensPending records ask now fault = Unit {0}
+OpensPending was ask now fault = Unit {0}
 
 -- .. and that is noted, and its number told
 pub record OpensTask {K : Type 0}

@@ -28,7 +28,7 @@ impl<K: Keeper> Book<K> {
         ensures opens { IfOk result (λ task. OpensTask K.bodies K.faults self.old ask.now task self.new) }
         ensures refused { OnErr result (Adds K.bodies K.faults self.old [] self.new) }
         ensures failed { FailsAs K.faults result self.old.journal self.new.journal }
-        ensures pending { IfErr result (OpensPending self.old.records ask.now self.new.journal) }
+        ensures pending { IfErr result (OpensPending self.old ask.now self.new.journal) }
         ensures fault { IfErr result (IsOpenFault self.old ask.now) }
         ensures stopped { is_stopped self.old ≡ true → result ≡ Err faults.Stopped }
         ensures room { OnOk result (is_full self.old ≡ false) }

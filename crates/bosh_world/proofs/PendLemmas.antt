@@ -56,15 +56,15 @@ pends_told halted now Is sprung (Err fault) is pends ran so = pends_by halted no
 
 -- ---- call by call
 
-opening_as : {K : Type 0} (records : Records) (ask : Ask) (now : JournalView K) (fault : BookFault) →
-    OpensPending records ask now fault → PendsAs (IsOpening records ask) now fault
-opening_as records ask now book.StoreFault it is = (entries.TaskOpen it.0, (it.0, it.1, refl), it.2)
-opening_as records ask now fault it is = absurd (let no = is in cc)
+opening_as : {K : Type 0} (was : books.Book K) (ask : Ask) (now : JournalView K) (fault : BookFault) →
+    OpensPending was ask now fault → PendsAs (IsOpening was ask) now fault
+opening_as was ask now book.StoreFault it is = (entries.TaskOpen it.0, (it.0, it.1, it.2, refl), it.3)
+opening_as was ask now fault it is = absurd (let no = is in cc)
 
-pub openings_as : {K : Type 0} (records : Records) (ask : Ask) (now : JournalView K) (answer : Result ℕ BookFault) →
-    IfErr answer (OpensPending records ask now) → IfErr answer (PendsAs (IsOpening records ask) now)
-openings_as records ask now (Ok task) it = tt
-openings_as records ask now (Err fault) it = opening_as records ask now fault it
+pub openings_as : {K : Type 0} (was : books.Book K) (ask : Ask) (now : JournalView K) (answer : Result ℕ BookFault) →
+    IfErr answer (OpensPending was ask now) → IfErr answer (PendsAs (IsOpening was ask) now)
+openings_as was ask now (Ok task) it = tt
+openings_as was ask now (Err fault) it = opening_as was ask now fault it
 
 closing_as : {K : Type 0} (records : Records) (task : ℕ) (now : JournalView K) (fault : BookFault) →
     EndsPending records task now fault → PendsAs (IsClosing records task) now fault

@@ -8,6 +8,8 @@ use Rattle.bosh_base.specs.declared.task.TaskEnd.{TaskEnd}
 use Rattle.bosh_book.specs.Claims.{IsNext}
 use Rattle.bosh_book.specs.Ends.{closing, coming_end}
 use Rattle.bosh_book.specs.Opens.{IsOpeningOf}
+use Rattle.bosh_book.specs.Running.{is_full}
+use Rattle.bosh_book.specs.declared.book.Book.{Book}
 use Rattle.bosh_journal.specs.Appends.{added}
 use Rattle.bosh_ports.specs.Rigged.{faults_of}
 use Rattle.bosh_ports.specs.declared.keeper.Keeper as keeper
@@ -27,9 +29,10 @@ abbrev pub IsAllowed : Type 0 → Entry → Entry → Type 0
 IsAllowed Allowed given entry = Allowed × (entry ≡ given)
 
 -- the task opens by it that does what is asked
-abbrev pub IsOpening : Records → Ask → Entry → Type 0
-IsOpening records ask entry =
-    (opening : task_open.TaskOpen) × IsOpeningOf records ask opening × (entry ≡ entries.TaskOpen opening)
+abbrev pub IsOpening : {K : Type 0} → Book K → Ask → Entry → Type 0
+IsOpening was ask entry =
+    (opening : task_open.TaskOpen) × IsOpeningOf was.records ask opening × (is_full was ≡ false)
+    × (entry ≡ entries.TaskOpen opening)
 
 -- the task ends by it, as it comes to its end
 abbrev pub IsClosing : Records → ℕ → Entry → Type 0

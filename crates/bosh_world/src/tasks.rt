@@ -22,7 +22,7 @@ impl<K: Keeper, L: Keeper> Site<K, L> {
         ensures calls { self.new.calls ≡ self.old.calls }
         ensures refused { IfErr result (λ fault. Refuses K.bodies K.faults self.old [] fault self.new) }
         ensures fault { IfErr result (IsBooks (IsOpenFault self.old.book ask.now)) }
-        ensures pending { Pends self.old (IsOpening self.old.book.records ask.now) self.new }
+        ensures pending { Pends self.old (IsOpening self.old.book ask.now) self.new }
         ensures grows { Extends (moves_of self.old) (moves_of self.new) }
         ensures silent { IsSilent self.old self.new }
     {

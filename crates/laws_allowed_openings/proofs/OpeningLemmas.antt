@@ -195,11 +195,6 @@ all_change k (want ∷ wants) = ap (λ xs. want.inst ∷ xs) (all_change k wants
 -- ---- the task
 
 module _ (k : Known) (records : Records) (known : AreReadAsKnown k records) where
-  -- a task without a source is none that has one
-  no_source : {A : Type 0} (source : Option A) → is_some source ≡ false → is_none source ≡ true
-  no_source None is = refl
-  no_source (Some it) is = absurd (true≢false is)
-
   module _ (o : TaskOpen) (goal : Goal) where
     -- what it names
     named : (kind : TaskKind) → openings.names_what_is_there k kind goal ≡ true
@@ -327,40 +322,30 @@ module _ (k : Known) (records : Records) (known : AreReadAsKnown k records) wher
   does o (kinds.Resolve i) (Some goal) may = opens_with o goal (kinds.Resolve i) refl may
   does o kind None may = absurd may
 
-  -- what every task that may open has
-  record MayAny (o : TaskOpen) : Type 0 where
-    is_free : openings.is_free k o.dep ≡ true
-    has_source : (kinds_of.deploys o.kind || is_none o.source) ≡ true
+  -- its lock is free
+  free : (o : TaskOpen) (kind : TaskKind) (goal : Option Goal) → OpensBy k (record o { kind = kind; goal = goal }) kind
+      → openings.is_free k o.dep ≡ true
+  free o kinds.CleanUp None (may, disks) = may.is_free
+  free o kinds.CleanUp (Some goal) (may, disks) = absurd may
+  free o (kinds.DeleteDisk d) None (may, disks, orphaned) = may.is_free
+  free o (kinds.DeleteDisk d) (Some goal) (may, disks, orphaned) = absurd may
+  free o kinds.Deploy (Some goal) may = may.is_free
+  free o kinds.Fix (Some goal) may = may.is_free
+  free o kinds.DeleteDeployment (Some goal) may = may.is_free
+  free o (kinds.Recreate i) (Some goal) may = may.is_free
+  free o (kinds.Start i) (Some goal) may = may.is_free
+  free o (kinds.Stop i) (Some goal) may = may.is_free
+  free o (kinds.Resolve i) (Some goal) may = may.is_free
+  free o kind None may = absurd may
 
-  any : (o : TaskOpen) (kind : TaskKind) (goal : Option Goal) → OpensBy k (record o { kind = kind; goal = goal }) kind
-      → MayAny (record o { kind = kind; goal = goal })
-  any o kinds.CleanUp None (may, disks) = record { is_free = may.is_free; has_source = ap is_none may.no_source }
-  any o kinds.CleanUp (Some goal) (may, disks) = absurd may
-  any o (kinds.DeleteDisk d) None (may, disks, orphaned) = record { is_free = may.is_free; has_source = ap is_none may.no_source }
-  any o (kinds.DeleteDisk d) (Some goal) (may, disks, orphaned) = absurd may
-  any o kinds.Deploy (Some goal) may = record { is_free = may.is_free; has_source = refl }
-  any o kinds.Fix (Some goal) may = record { is_free = may.is_free; has_source = refl }
-  any o kinds.DeleteDeployment (Some goal) may =
-      record { is_free = may.is_free; has_source = no_source o.source may.has_source }
-  any o (kinds.Recreate i) (Some goal) may =
-      record { is_free = may.is_free; has_source = no_source o.source may.has_source }
-  any o (kinds.Start i) (Some goal) may =
-      record { is_free = may.is_free; has_source = no_source o.source may.has_source }
-  any o (kinds.Stop i) (Some goal) may =
-      record { is_free = may.is_free; has_source = no_source o.source may.has_source }
-  any o (kinds.Resolve i) (Some goal) may =
-      record { is_free = may.is_free; has_source = no_source o.source may.has_source }
-  any o kind None may = absurd may
-
-  pub opens : (o : TaskOpen) → MayOpen k o → o.task ≡ k.tasks + 1 → records.opened ≡ k.tasks
-      → claim.opens records o ≡ true
-  opens o may number count =
-      let it : MayAny o = any o o.kind o.goal may in
+  pub opens : (o : TaskOpen) → MayOpen k o → MayTellSource (entries.TaskOpen o) → o.task ≡ k.tasks + 1
+      → records.opened ≡ k.tasks → claim.opens records o ≡ true
+  opens o may source number count =
       and_from (is_next o.task records.opened) _
       (eq-eqb o.task (records.opened + 1) (number ∙ ap (λ n. n + 1) (sym count)))
       (and_from (claim.is_free records o.dep) _
-      (ap not (none_holds o.dep records.tasks.places.entries (nobody ∙ it.is_free)))
-      (and_from (kinds_of.deploys o.kind || is_none o.source) _ it.has_source (does o o.kind o.goal may)))
+      (ap not (none_holds o.dep records.tasks.places.entries (nobody ∙ free o o.kind o.goal may)))
+      (and_from (kinds_of.deploys o.kind || is_none o.source) _ source (does o o.kind o.goal may)))
     where
       none_found : (p : ℕ → Bool) (xs : List ℕ) → is_none (find p xs) ≡ list_all (λ x. not (p x)) xs
       none_found p [] = refl

@@ -16,9 +16,9 @@ use Rattle.bosh_cloud.specs.Loading as cloud
 use Rattle.bosh_fold.specs.Learns.{Learns, LearnsAll}
 use Rattle.bosh_history.specs.Fit.{IsFit}
 use Rattle.bosh_history.specs.Moments.{Moment, Opening, durable_entry, later, noting}
-use Rattle.bosh_history.specs.Notes.{Outside}
+use Rattle.bosh_history.specs.Notes.{MayNote, Outside}
 use Rattle.bosh_history.specs.Permitted.{IsPermitted, IsRunFrom}
-use Rattle.bosh_history.specs.Recovered.{is_recovering}
+use Rattle.bosh_history.specs.Recovered.{is_recovering, may_follow}
 use Rattle.bosh_ports.specs.declared.keeper.Keeper as keeper
 use Rattle.bosh_records.specs.declared.records.Records.{Records}
 use Rattle.bosh_world.specs.Holds.{IsHeld}
@@ -105,8 +105,8 @@ HaveNumbers m (e ∷ noted) = (m.known.last_call < 18446744073709551615) × Have
 abbrev pub OneMoreStands : Type 0
 OneMoreStands =
     (outside : Outside) (m : Moment) (told : Told) (was now : Records) (entry : Entry) → StandsWhole told was
-    → Agrees m told → Whole m → m.known.last_call < 18446744073709551615 → IsPermitted outside m (moves.Note entry)
-    → Learns was entry now → StandsWhole (telling told entry) now
+    → Agrees m told → Whole m → m.known.last_call < 18446744073709551615 → may_follow m entry ≡ true
+    → MayNote outside m entry → Learns was entry now → StandsWhole (telling told entry) now
 
 module _ (one_more : OneMoreStands) where
   -- what is recorded stands for what is told after them
@@ -119,7 +119,8 @@ module _ (one_more : OneMoreStands) where
       (whole_with_room told was now learns whole, agrees)
   all_stand outside m told was now (e ∷ noted) holds whole agrees may numbers (roomy, mid, alike, learns, others) =
       all_stand outside (noting m e) (telling told e) mid now noted (whole_moves outside m (moves.Note e) may.0 holds)
-      (one_more outside m told roomy mid e (whole_with_room told was roomy alike whole) agrees holds numbers.0 may.0 learns)
+      (one_more outside m told roomy mid e (whole_with_room told was roomy alike whole) agrees holds numbers.0 may.0.1 may.0.2
+      learns)
       (move_agrees outside m told (moves.Note e) agrees holds.holds.known whole.stands.tells_well may.0) may.1 numbers.1 others
 
   pub noted_recorded : {K L : Type 0} {k : keeper.Ghosts K} {l : keeper.Ghosts L} (outside : Outside)

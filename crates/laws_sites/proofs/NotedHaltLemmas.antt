@@ -110,7 +110,7 @@ pending_stopped outside m e is_broken pending may is =
     subst (MayPend outside (stopped m) is_broken) (sym is) (by is_broken)
   where
     by : (b : Bool) → MayPend outside (stopped m) b (Some (added e))
-    by true = (refl, (note_stopped outside m e may.2, may.1))
+    by true = (refl, (note_stopped outside m e may.2, may.1, may.3))
     by false = tt
 
 -- ---- moves that note, and then a halt

@@ -25,6 +25,7 @@ use Rattle.bosh_history.specs.Learn.{learn}
 use Rattle.bosh_history.specs.Moments.{Moment, Opening, noting}
 use Rattle.bosh_history.specs.Notes as history
 use Rattle.bosh_history.specs.Notes.{MayNote, Outside}
+use Rattle.bosh_history.specs.Openings.{TellsSource}
 use Rattle.bosh_history.specs.Permitted.{IsPermitted}
 use Rattle.bosh_history.specs.Recovered.{is_interruption}
 use Rattle.bosh_ports.specs.declared.keeper.Keeper as keeper
@@ -176,10 +177,17 @@ module _ {K L : Type 0} {k : keeper.Ghosts K} {l : keeper.Ghosts L} (outside : O
   abbrev m : Moment
   m = moment_of o was
 
-  upload_permitted : (e : Entry) → was.history.is_halted ≡ false → MayNote outside m e
+  -- an upload opens no task, so that it has no source to tell
+  none_told : (e : Entry) → is_upload e ≡ true → TellsSource e
+  none_told (entries.Release release) is = tt
+  none_told (entries.Stemcell stemcell) is = tt
+  none_told (entries.Config file) is = tt
+  none_told e is = absurd (false≢true is)
+
+  upload_permitted : (e : Entry) → is_upload e ≡ true → was.history.is_halted ≡ false → MayNote outside m e
       → IsPermitted outside m (moves.Note e)
-  upload_permitted e running may =
-      (good.halted ∙ running, (λ i. not ((good.runs running).recovered i) || is_interruption e), may)
+  upload_permitted e is running may =
+      (good.halted ∙ running, (λ i. not ((good.runs running).recovered i) || is_interruption e), may, none_told e is)
 
   upload_good : (e : Entry) → is_upload e ≡ true → MayNote outside m e → Notes bodies faults was (e ∷ []) None now
       → IsGood outside bodies cloud_bodies o now
@@ -201,7 +209,7 @@ module _ {K L : Type 0} {k : keeper.Ghosts K} {l : keeper.Ghosts L} (outside : O
       it = good.recorded (book_goes_on was notes.running).1
 
       may : IsPermitted outside m (moves.Note e)
-      may = upload_permitted e notes.running may_note
+      may = upload_permitted e is notes.running may_note
 
       recorded : IsRecorded (noting m e) now
       recorded = record {
@@ -220,14 +228,14 @@ module _ {K L : Type 0} {k : keeper.Ghosts K} {l : keeper.Ghosts L} (outside : O
       still_good bodies cloud_bodies faults outside o was now good notes (λ i. (calls i).unsettled)
 
   -- .. or that is refused
-  upload_refused : (e : Entry) (Allowed : Type 0) (why : SiteFault)
+  upload_refused : (e : Entry) → is_upload e ≡ true → (Allowed : Type 0) (why : SiteFault)
       → (was.history.is_halted ≡ false → Allowed → MayNote outside m e) → Refuses bodies faults was [] why now
       → Pends was (IsAllowed Allowed e) now → IsGood outside bodies cloud_bodies o now
-  upload_refused e Allowed why may refuses pends =
+  upload_refused e upload Allowed why may refuses pends =
       refused_book_good outside bodies cloud_bodies o faults was now [] why fit good
       (left_still bodies cloud_bodies faults outside o was now (IsAllowed Allowed e) good (λ i. (calls i).unsettled) pends
       (λ running entry is. subst (λ (it : Entry). IsPermitted outside m (moves.Note it)) (sym is.1)
-      (upload_permitted e running (may running is.0)))) refuses
+      (upload_permitted e upload running (may running is.0)))) refuses
 
   -- ---- releases, stemcells, configs
 
@@ -262,7 +270,7 @@ module _ {K L : Type 0} {k : keeper.Ghosts K} {l : keeper.Ghosts L} (outside : O
         → Pends was (IsAllowed (book.IsUpload was.book.records.releases.items release New) (entries.Release release)) now
         → IsGood outside bodies cloud_bodies o now
     release_refused release why =
-        upload_refused (entries.Release release) (book.IsUpload was.book.records.releases.items release New) why
+        upload_refused (entries.Release release) refl (book.IsUpload was.book.records.releases.items release New) why
         (may_release release)
 
     pub stemcell_good : (os version : List ℕ) (added : Added)
@@ -278,7 +286,7 @@ module _ {K L : Type 0} {k : keeper.Ghosts K} {l : keeper.Ghosts L} (outside : O
         → Pends was (IsAllowed (book.IsAdded was.book.records.stemcells.items os version New)
         (entries.Stemcell (record { os = os; version = version }))) now → IsGood outside bodies cloud_bodies o now
     stemcell_refused os version why =
-        upload_refused (entries.Stemcell (record { os = os; version = version }))
+        upload_refused (entries.Stemcell (record { os = os; version = version })) refl
         (book.IsAdded was.book.records.stemcells.items os version New) why (may_stemcell os version)
 
     pub config_good : (file : List ℕ) → is_some (config_in file) ≡ true
@@ -289,4 +297,4 @@ module _ {K L : Type 0} {k : keeper.Ghosts K} {l : keeper.Ghosts L} (outside : O
         → Pends was (IsAllowed (is_some (config_in file) ≡ true) (entries.Config file)) now
         → IsGood outside bodies cloud_bodies o now
     config_refused file why =
-        upload_refused (entries.Config file) (is_some (config_in file) ≡ true) why (λ running. found.configs file)
+        upload_refused (entries.Config file) refl (is_some (config_in file) ≡ true) why (λ running. found.configs file)

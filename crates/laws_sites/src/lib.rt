@@ -22,10 +22,7 @@ pub use first::what_is_recorded_at_first_stands;
 pub use found::what_is_outside_is_as_it_is_found_out;
 pub use jobs::{a_good_site_loses_what_may_be_lost, a_good_site_writes_what_a_job_may};
 pub use kept::{a_good_site_is_armed, a_good_site_replies};
-pub use openings::{
-    a_good_site_opens_a_deletion, a_good_site_opens_a_task,
-    a_good_site_that_opens_no_deletion_stays_good, a_good_site_that_opens_no_task_stays_good,
-};
+pub use openings::{a_good_site_opens_a_task, a_good_site_that_opens_no_task_stays_good};
 pub use performed::a_good_site_performs_what_it_may;
 pub use refused::{
     a_good_site_gives_up_a_call, a_good_site_stops_in_a_call,

@@ -1,6 +1,5 @@
 //! Tasks that are not opened or not ended, and answers of calls that are not settled.
-ghost use Rattle.std.specs.Prelude.{None, [], ◌<◌, ◌≡◌, ℕ};
-ghost use Rattle.bosh_asks.specs.declared.ask.Ask.{Ask};
+ghost use Rattle.std.specs.Prelude.{None, [], ◌≡◌, ℕ};
 ghost use Rattle.bosh_base.specs.declared.entry.Entry.TheVariants as entries;
 ghost use Rattle.bosh_book.specs.Faults.{MayEnd};
 ghost use Rattle.bosh_history.specs.Fit.{IsFit};
@@ -8,12 +7,11 @@ ghost use Rattle.bosh_history.specs.Moments.{Opening};
 ghost use Rattle.bosh_history.specs.Notes.{Outside};
 ghost use Rattle.bosh_world.specs.Abandons.{Abandons};
 ghost use Rattle.bosh_world.specs.Holds.{IsHeld};
-ghost use Rattle.bosh_world.specs.Pending.{IsAllowed, IsClosing, IsOpening, Pends};
+ghost use Rattle.bosh_world.specs.Pending.{IsAllowed, IsClosing, Pends};
 ghost use Rattle.bosh_world.specs.Refuses.{Refuses};
 ghost use Rattle.bosh_world.specs.Steps.{Notes};
 ghost use Rattle.bosh_world.specs.declared.fault.SiteFault.{SiteFault};
 ghost use Rattle.bosh_world.specs.declared.held.HeldCall.{HeldCall};
-ghost use Rattle.laws_sites.specs.Asks.{Deletes};
 ghost use Rattle.laws_sites.specs.Good.{IsGood};
 
 use bosh_ports::Keeper;

@@ -11,7 +11,6 @@ use Rattle.bosh_base.specs.declared.entry.Entry.TheVariants as entries
 use Rattle.bosh_base.specs.declared.entry.TaskOpen.{TaskOpen}
 use Rattle.bosh_base.specs.declared.failure.Failure.{Failure}
 use Rattle.bosh_base.specs.declared.failure.Failure.TheVariants as failures
-use Rattle.bosh_base.specs.declared.moves.Move.TheVariants as moves
 use Rattle.bosh_base.specs.declared.owner.Owner.{Owner}
 use Rattle.bosh_base.specs.declared.owner.Owner.TheVariants.{Compile, Disk, Instance}
 use Rattle.bosh_fold.specs.Learns.{Learns}
@@ -21,7 +20,6 @@ use Rattle.bosh_history.specs.Learn.{learn}
 use Rattle.bosh_history.specs.Moments.{Moment, OpenCall, noting}
 use Rattle.bosh_history.specs.Notes.{Begins, EndsCall, FailsTask, MayNote, Outside}
 use Rattle.bosh_history.specs.Openings.{MayOpen}
-use Rattle.bosh_history.specs.Permitted.{IsPermitted}
 use Rattle.bosh_history.specs.Recovered.{is_interruption, is_recovering, may_follow}
 use Rattle.bosh_history.specs.Sound.{IsSound}
 use Rattle.bosh_history.specs.Tasks.{task_opened}
@@ -33,8 +31,9 @@ use Rattle.laws_facts.proofs.LockLemmas.{is_opening, note_stays}
 use Rattle.laws_facts.proofs.WorkLemmas.{opens_next}
 use Rattle.laws_facts.specs.KnownFacts.{KnownFacts}
 use Rattle.laws_facts.specs.Owners.{works}
-use Rattle.laws_held.proofs.PartLemmas.{whole_moves}
+use Rattle.laws_held.proofs.PartLemmas.{whole_kept}
 use Rattle.laws_held.specs.Whole.{Whole}
+use Rattle.laws_moves.specs.Parts.{Noted}
 use Rattle.laws_stands.specs.Agrees.{Agrees}
 use Rattle.laws_stands.specs.Linked.{same_machine}
 use Rattle.laws_stands.specs.Stands.{Stands}
@@ -51,7 +50,7 @@ use Rattle.laws_stands_kept.proofs.CountLemmas.{few_after}
 use Rattle.laws_stands_kept.proofs.OwnLemmas.{calls_of_own, lists_own, own_ended, since_the_stop}
 use Rattle.laws_stands_kept.proofs.SharedLemmas.{unshared_after}
 use Rattle.laws_stands_machines.proofs.CallsLemmas.{begins_machine, ends_machine}
-use Rattle.laws_stands_noted.proofs.AgreesLemmas.{move_agrees}
+use Rattle.laws_stands_noted.proofs.AgreesLemmas.{noted_agrees}
 use Rattle.laws_stands_noted.proofs.BeginsLemmas.{begins_disk, begins_instance}
 use Rattle.laws_stands_noted.proofs.EndsLemmas.{ends_disk, ends_instance}
 use Rattle.laws_stands_noted.proofs.FailedLemmas.{failure_noted}
@@ -183,7 +182,7 @@ module _ (outside : Outside) (m : Moment) (told : Told) (was now : Records) (who
 
   -- an entry that interrupts no task comes where no task is left that a stop interrupted
   module _ (entry : Entry) (may : MayNote outside m entry) (follows : may_follow m entry ≡ true)
-      (permitted : IsPermitted outside m (moves.Note entry)) (none : is_interruption entry ≡ false)
+      (none : is_interruption entry ≡ false)
       (learns : Learns was entry now) where
     abbrev new : Moment
     new = noting m entry
@@ -240,10 +239,10 @@ module _ (outside : Outside) (m : Moment) (told : Told) (was now : Records) (who
         and_from (nat_lt m.stopped t) (nat_le t new.known.tasks && is_open new.known t) (since t going) rest
 
     agree_now : Agrees new (telling told entry)
-    agree_now = move_agrees outside m told (moves.Note entry) agrees facts (whole.stands).tells_well permitted
+    agree_now = noted_agrees outside m told entry agrees facts may
 
     facts_now : KnownFacts new
-    facts_now = ((whole_moves outside m (moves.Note entry) permitted all).holds).known
+    facts_now = ((whole_kept outside m (Noted entry) (follows, may) all).holds).known
 
     tells_now : TellsWell (telling told entry)
     tells_now = (stands_after entry may follows learns).tells_well
@@ -264,33 +263,32 @@ module _ (outside : Outside) (m : Moment) (told : Told) (was now : Records) (who
 
   own_error : (t : ℕ) (cause : Failure) → MayNote outside m (entries.TaskError (record { task = t; cause = cause }))
       → may_follow m (entries.TaskError (record { task = t; cause = cause })) ≡ true
-      → IsPermitted outside m (moves.Note (entries.TaskError (record { task = t; cause = cause })))
       → Learns was (entries.TaskError (record { task = t; cause = cause })) now
       → TellsOwn (telling told (entries.TaskError (record { task = t; cause = cause })))
-  own_error t failures.Interrupted may follows permitted learns =
+  own_error t failures.Interrupted may follows learns =
       own_ended m told (record { task = t; cause = failures.Interrupted }) whole.own
       (λ u. subst (λ (k : Known). is_going (learn k (entries.TaskError (record {
         task = t;
         cause = failures.Interrupted;
       }))) u ≡ true → is_going k u ≡ true) (sym agrees.known_is)
       (went_on (entries.TaskError (record { task = t; cause = failures.Interrupted })) may refl u))
-  own_error t (failures.Call n) may follows permitted learns =
-      own_after (entries.TaskError (record { task = t; cause = failures.Call n })) may follows permitted refl learns
-  own_error t (failures.Gone n) may follows permitted learns =
-      own_after (entries.TaskError (record { task = t; cause = failures.Gone n })) may follows permitted refl learns
+  own_error t (failures.Call n) may follows learns =
+      own_after (entries.TaskError (record { task = t; cause = failures.Call n })) may follows refl learns
+  own_error t (failures.Gone n) may follows learns =
+      own_after (entries.TaskError (record { task = t; cause = failures.Gone n })) may follows refl learns
 
   own_now : (entry : Entry) → MayNote outside m entry → may_follow m entry ≡ true
-      → IsPermitted outside m (moves.Note entry) → Learns was entry now → TellsOwn (telling told entry)
-  own_now (entries.TaskError e) may follows permitted learns = own_error e.task e.cause may follows permitted learns
-  own_now entry may follows permitted learns = own_after entry may follows permitted refl learns
+      → Learns was entry now → TellsOwn (telling told entry)
+  own_now (entries.TaskError e) may follows learns = own_error e.task e.cause may follows learns
+  own_now entry may follows learns = own_after entry may follows refl learns
 
 -- ---- all
 
 pub one_more_stands : (outside : Outside) (m : Moment) (told : Told) (was now : Records) (entry : Entry)
     → StandsWhole told was → Agrees m told → Whole m → m.known.last_call < 18446744073709551615
-    → IsPermitted outside m (moves.Note entry) → Learns was entry now → StandsWhole (telling told entry) now
-one_more_stands outside m told was now entry whole agrees all numbers permitted learns = record {
-  stands = stands_after outside m told was now whole agrees all numbers entry permitted.2 permitted.1 learns;
-  fits = fits_now outside m told was now whole agrees all numbers entry permitted.2 permitted.1 learns;
-  own = own_now outside m told was now whole agrees all numbers entry permitted.2 permitted.1 permitted learns;
+    → may_follow m entry ≡ true → MayNote outside m entry → Learns was entry now → StandsWhole (telling told entry) now
+one_more_stands outside m told was now entry whole agrees all numbers follows may learns = record {
+  stands = stands_after outside m told was now whole agrees all numbers entry may follows learns;
+  fits = fits_now outside m told was now whole agrees all numbers entry may follows learns;
+  own = own_now outside m told was now whole agrees all numbers entry may follows learns;
 }

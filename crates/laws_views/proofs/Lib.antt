@@ -1,6 +1,7 @@
 pub mod CurrentLemmas
 pub mod FewLemmas
 pub mod HeldLemmas
+pub mod HistoryLemmas
 pub mod HoldersLemmas
 pub mod ListedLemmas
 pub mod OpenLemmas

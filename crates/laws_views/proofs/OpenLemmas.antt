@@ -18,6 +18,7 @@ use Rattle.bosh_asks.specs.declared.ask.Ask.{Ask}
 use Rattle.bosh_asks.specs.declared.ask.Ask.TheVariants as asks
 use Rattle.bosh_asks.specs.declared.ask.Deploy.{Deploy}
 use Rattle.bosh_base.specs.Cloud.{numbers_to}
+use Rattle.bosh_base.specs.declared.entry.Entry.TheVariants as entries
 use Rattle.bosh_base.specs.declared.entry.TaskOpen.{TaskOpen}
 use Rattle.bosh_base.specs.declared.goal.Goal.{Goal}
 use Rattle.bosh_base.specs.declared.goal.GoalRow.{GoalRow}
@@ -34,7 +35,7 @@ use Rattle.bosh_history.specs.Goals.{does_not_stand, inst_of, is_in, out_of_goal
 use Rattle.bosh_history.specs.Held.{is_offered}
 use Rattle.bosh_history.specs.Known.{Known, offers_in}
 use Rattle.bosh_history.specs.Moments.{Moment}
-use Rattle.bosh_history.specs.Openings.{MayOpen, OpensBy, OpensDisks, OpensFor, OpensOn, deploys, is_free}
+use Rattle.bosh_history.specs.Openings.{MayOpen, OpensBy, OpensDisks, OpensFor, OpensOn, TellsSource, deploys, is_free}
 use Rattle.bosh_history.specs.Openings.{is_offered_still, is_recorded, keeps_ties, names_what_is_there, ties_of, withdraws_nothing}
 use Rattle.bosh_history.specs.Words.{is_among}
 use Rattle.bosh_records.specs.declared.records.Records.{Records}
@@ -108,15 +109,14 @@ module _ (m : Moment) (records : Records) (facts : KnownFacts m) (read : AreRead
 
   -- a task of a deployment
   with_goal : (kind : TaskKind) (goal : Goal) → o.kind ≡ kind → o.goal ≡ Some goal → dep_of ask ≡ Some goal.dep
-      → is_some o.source ≡ deploys kind → names_what_is_there k kind goal ≡ true
+      → names_what_is_there k kind goal ≡ true
       → o.changed ≡ to_change k kind (Some goal) → o.obsolete ≡ to_delete k kind goal.dep (Some goal) → o.disks ≡ []
       → withdraws_nothing k goal ≡ true → OpensFor k o o.goal
-  with_goal kind goal kind_is goal_is dep source there changed obsolete disks keeps =
+  with_goal kind goal kind_is goal_is dep there changed obsolete disks keeps =
       subst (OpensFor k o) (sym goal_is) (record {
         number = number;
         of_the_deployment = ap (λ d. option_eq bytes_eq d (Some goal.dep)) (planned.opens.dep ∙ dep) ∙ bytes_own goal.dep;
         is_free = ap (is_free k) planned.opens.dep ∙ free;
-        has_source = source ∙ ap deploys (sym kind_is);
         is_there = ap (λ kind. names_what_is_there k kind goal) kind_is ∙ there;
         changes = changed ∙ (λ i. to_change k (sym kind_is i) (sym goal_is i));
         deletes = obsolete ∙ (λ i. to_delete k (sym kind_is i) goal.dep (sym goal_is i));
@@ -125,12 +125,11 @@ module _ (m : Moment) (records : Records) (facts : KnownFacts m) (read : AreRead
       })
 
   -- a task that deletes disks
-  on_disks : (disks : List ℕ) → dep_of ask ≡ None → o.source ≡ None → plan_of o ≡ disks_alone disks → OpensOn k o
-  on_disks disks dep source plan = record {
+  on_disks : (disks : List ℕ) → dep_of ask ≡ None → plan_of o ≡ disks_alone disks → OpensOn k o
+  on_disks disks dep plan = record {
     number = number;
     of_none = planned.opens.dep ∙ dep;
     is_free = ap (is_free k) planned.opens.dep ∙ free;
-    no_source = source;
     changes_none = (λ i. (plan i).changed);
     deletes_none = (λ i. (plan i).obsolete);
   }
@@ -189,17 +188,16 @@ module _ (m : Moment) (records : Records) (facts : KnownFacts m) (read : AreRead
             by false apart None goal_is = ap (λ goal. list_all (is_offered_still it) (ties_of goal)) goal_is
 
   -- what is asked of one instance
-  of_one : (inst : Inst) (change : Change) (kind : TaskKind) → o.kind ≡ kind → o.source ≡ None → deploys kind ≡ false
-      → dep_of ask ≡ Some inst.dep → asked.is_wanted records inst ≡ true → Alters inst change (plan_of o)
+  of_one : (inst : Inst) (change : Change) (kind : TaskKind) → o.kind ≡ kind → dep_of ask ≡ Some inst.dep → asked.is_wanted records inst ≡ true → Alters inst change (plan_of o)
       → AltersOver records inst change (plan_of o)
       → ((goal : Goal) → (is_recorded k goal.dep && is_in (k.goal goal.dep) inst) ≡ true → names_what_is_there k kind goal ≡ true)
       → ((goal : Goal) → to_change k kind (Some goal) ≡ inst ∷ []) → ((goal : Goal) → to_delete k kind goal.dep (Some goal) ≡ [])
       → OpensFor k o o.goal
-  of_one inst change kind kind_is source no_deploy dep wanted alters over there changes deletes =
+  of_one inst change kind kind_is dep wanted alters over there changes deletes =
       let it : Goal = over.goal in
       let made : IsAnewOf k records inst change it = anew_known k records inst change it read over.given in
       let dep_is : it.dep ≡ inst.dep = dep_anew inst change it made in
-      with_goal kind it kind_is over.is (dep ∙ ap Some (sym dep_is)) (ap is_some source ∙ sym no_deploy)
+      with_goal kind it kind_is over.is (dep ∙ ap Some (sym dep_is))
       (there it (and_from (is_recorded k it.dep) (is_in (k.goal it.dep) inst) (recorded_anew inst change it made)
       (ap (λ d. is_in (k.goal d) inst) dep_is ∙ sym (read.wanted inst) ∙ wanted)))
       (alters.changed ∙ sym (changes it)) (alters.none_obsolete ∙ sym (deletes it)) alters.no_disks
@@ -208,10 +206,10 @@ module _ (m : Moment) (records : Records) (facts : KnownFacts m) (read : AreRead
   -- ---- a deploy
 
   of_deploy : (it : Deploy) → ask ≡ asks.Deploy it → Deploys it (plan_of o) → DeploysOver records it (plan_of o)
-      → (fix : Bool) → it.fix ≡ fix → o.kind ≡ (if fix then kinds.Fix else kinds.Deploy) → is_some o.source ≡ true
+      → (fix : Bool) → it.fix ≡ fix → o.kind ≡ (if fix then kinds.Fix else kinds.Deploy)
       → OpensFor k o o.goal
-  of_deploy it ask_is deploys_so over fix fix_is kind_is source =
-      with_goal (kind fix) goal kind_is over.is (ap dep_of ask_is ∙ ap Some (sym dep_is)) (source ∙ sym (deploying fix))
+  of_deploy it ask_is deploys_so over fix fix_is kind_is =
+      with_goal (kind fix) goal kind_is over.is (ap dep_of ask_is ∙ ap Some (sym dep_is))
       (there fix) (over.changed ∙ read.changed it.fix goal.rows ∙ changes fix fix_is)
       (over.obsolete ∙ read.obsolete goal ∙ deletes fix) deploys_so.no_disks
       (sym (read.consumers goal) ∙ ap is_none over.kept)
@@ -221,10 +219,6 @@ module _ (m : Moment) (records : Records) (facts : KnownFacts m) (read : AreRead
 
       kind : Bool → TaskKind
       kind b = if b then kinds.Fix else kinds.Deploy
-
-      deploying : (b : Bool) → deploys (kind b) ≡ true
-      deploying true = refl
-      deploying false = refl
 
       there : (b : Bool) → names_what_is_there k (kind b) goal ≡ true
       there true = refl
@@ -251,29 +245,29 @@ may_open m records facts read next (asks.Deploy it) o planned =
     by : (fix : Bool) → it.fix ≡ fix → o.kind ≡ (if fix then kinds.Fix else kinds.Deploy)
         → OpensBy m.known o (if fix then kinds.Fix else kinds.Deploy)
     by true is kind = of_deploy m records facts read next (asks.Deploy it) o planned it refl planned.opens.does planned.over true
-        is kind (ap is_some planned.opens.source)
+        is kind
     by false is kind = of_deploy m records facts read next (asks.Deploy it) o planned it refl planned.opens.does planned.over false
-        is kind (ap is_some planned.opens.source)
+        is kind
 may_open m records facts read next (asks.Recreate inst) o planned =
     subst (OpensBy m.known o) (sym planned.opens.kind)
     (of_one m records facts read next (asks.Recreate inst) o planned inst changes.Fresh (kinds.Recreate inst) planned.opens.kind
-    planned.opens.source refl refl planned.named planned.opens.does planned.over (λ goal is. is) (λ goal. refl) (λ goal. refl))
+    refl planned.named planned.opens.does planned.over (λ goal is. is) (λ goal. refl) (λ goal. refl))
 may_open m records facts read next (asks.Start inst) o planned =
     subst (OpensBy m.known o) (sym planned.opens.kind)
     (of_one m records facts read next (asks.Start inst) o planned inst (changes.To Running) (kinds.Start inst) planned.opens.kind
-    planned.opens.source refl refl planned.named planned.opens.does planned.over (λ goal is. is) (λ goal. refl) (λ goal. refl))
+    refl planned.named planned.opens.does planned.over (λ goal is. is) (λ goal. refl) (λ goal. refl))
 may_open m records facts read next (asks.Halt inst hard) o planned =
     subst (OpensBy m.known o) (sym planned.opens.kind)
     (of_one m records facts read next (asks.Halt inst hard) o planned inst (halting hard) (kinds.Stop inst) planned.opens.kind
-    planned.opens.source refl refl planned.named planned.opens.does planned.over (λ goal is. is) (λ goal. refl) (λ goal. refl))
+    refl planned.named planned.opens.does planned.over (λ goal is. is) (λ goal. refl) (λ goal. refl))
 may_open m records facts read next (asks.Resolve inst) o planned =
     subst (OpensBy m.known o) (sym planned.opens.kind)
     (of_one m records facts read next (asks.Resolve inst) o planned inst changes.Same (kinds.Resolve inst) planned.opens.kind
-    planned.opens.source refl refl planned.named planned.opens.does planned.over (λ goal is. is) (λ goal. refl) (λ goal. refl))
+    refl planned.named planned.opens.does planned.over (λ goal is. is) (λ goal. refl) (λ goal. refl))
 may_open m records facts read next (asks.DeleteDeployment dep) o planned =
     subst (OpensBy m.known o) (sym planned.opens.kind)
     (with_goal m records facts read next (asks.DeleteDeployment dep) o planned kinds.DeleteDeployment (nothing dep)
-    planned.opens.kind does.goal refl (ap is_some planned.opens.source)
+    planned.opens.kind does.goal refl
     (and_from (is_recorded m.known dep) true (sym (read.recorded dep) ∙ planned.named) refl) does.none_changed
     (over.obsolete ∙ read.obsolete (nothing dep)) does.no_disks (sym (read.consumers (nothing dep)) ∙ ap is_none over.kept))
   where
@@ -286,7 +280,7 @@ may_open m records facts read next (asks.DeleteDisk disk) o planned =
     subst (OpensBy m.known o) (sym planned.opens.kind)
     (subst (λ goal. OpensDisks m.known o goal × (o.disks ≡ disk ∷ []) × (is_among eqb disk m.known.orphans ≡ true))
     (sym (λ i. (does i).goal)) (
-      on_disks m records facts read next (asks.DeleteDisk disk) o planned (disk ∷ []) refl planned.opens.source does,
+      on_disks m records facts read next (asks.DeleteDisk disk) o planned (disk ∷ []) refl does,
       (λ i. (does i).disks),
       sym (read.orphaned disk) ∙ planned.named,
     ))
@@ -296,9 +290,27 @@ may_open m records facts read next (asks.DeleteDisk disk) o planned =
 may_open m records facts read next asks.CleanUp o planned =
     subst (OpensBy m.known o) (sym planned.opens.kind)
     (subst (λ goal. OpensDisks m.known o goal × (o.disks ≡ m.known.orphans)) (sym (λ i. (does.1 i).goal)) (
-      on_disks m records facts read next asks.CleanUp o planned (loose does.0) refl planned.opens.source does.1,
+      on_disks m records facts read next asks.CleanUp o planned (loose does.0) refl does.1,
       planned.over ∙ read.loose,
     ))
   where
     does : CleansUp (plan_of o)
     does = planned.opens.does
+
+-- a deploy tells its source, and no other task does
+pub tells_source : (records : Records) (ask : Ask) (o : TaskOpen) → IsPlanned records ask o
+    → TellsSource (entries.TaskOpen o)
+tells_source records (asks.Deploy it) o planned =
+    ap is_some planned.opens.source ∙ sym (ap deploys planned.opens.kind ∙ deploying it.fix)
+  where
+    deploying : (fix : Bool) → deploys (if fix then kinds.Fix else kinds.Deploy) ≡ true
+    deploying true = refl
+    deploying false = refl
+tells_source records (asks.Recreate inst) o planned = ap is_some planned.opens.source ∙ sym (ap deploys planned.opens.kind)
+tells_source records (asks.Start inst) o planned = ap is_some planned.opens.source ∙ sym (ap deploys planned.opens.kind)
+tells_source records (asks.Halt inst hard) o planned = ap is_some planned.opens.source ∙ sym (ap deploys planned.opens.kind)
+tells_source records (asks.Resolve inst) o planned = ap is_some planned.opens.source ∙ sym (ap deploys planned.opens.kind)
+tells_source records (asks.DeleteDeployment dep) o planned =
+    ap is_some planned.opens.source ∙ sym (ap deploys planned.opens.kind)
+tells_source records (asks.DeleteDisk disk) o planned = ap is_some planned.opens.source ∙ sym (ap deploys planned.opens.kind)
+tells_source records asks.CleanUp o planned = ap is_some planned.opens.source ∙ sym (ap deploys planned.opens.kind)

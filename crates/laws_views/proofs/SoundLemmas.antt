@@ -1,6 +1,8 @@
 -- The goal of a task that is planned over records that stand may be worked on.
-use Rattle.std.proofs.Common.{◌≡◌, ◌∙◌, ℕ, Bool, true, false, List, Option, Some, None, Result, Ok, Err, ap, refl, subst, sym}
-use Rattle.std.specs.Prelude.{if◌then◌else◌}
+use Rattle.std.proofs.Common.{◌≡◌, ◌∙◌, ℕ, Bool, true, false, List, Option, Some, None, Result, Ok, Err, ap, arith, length, not, refl, subst, sym}
+use Rattle.std.specs.Prelude.{◌≤◌, [], if◌then◌else◌}
+use Rattle.std.specs.Str.{bytes_eq}
+use Rattle.std.proofs.lemmas.Bool.{and_from, le-leb}
 use Rattle.bosh_asks.specs.Asked.{halting}
 use Rattle.bosh_asks.specs.Goals.{if_checked, if_read, nothing, recorded_config}
 use Rattle.bosh_asks.specs.Opened.{plan_of}
@@ -10,6 +12,7 @@ use Rattle.bosh_asks.specs.declared.ask.Ask.{Ask}
 use Rattle.bosh_asks.specs.declared.ask.Ask.TheVariants as asks
 use Rattle.bosh_asks.specs.declared.ask.Deploy.{Deploy}
 use Rattle.bosh_bands.specs.Apart.{AreApart}
+use Rattle.bosh_base.specs.declared.entry.Entry.TheVariants as entries
 use Rattle.bosh_base.specs.declared.entry.TaskOpen.{TaskOpen}
 use Rattle.bosh_base.specs.declared.goal.Goal.{Goal}
 use Rattle.bosh_base.specs.declared.inst.Inst.{Inst}
@@ -25,8 +28,10 @@ use Rattle.bosh_goal.specs.declared.change.Change.{Change}
 use Rattle.bosh_goal.specs.declared.change.Change.TheVariants as changes
 use Rattle.bosh_history.specs.Goals.{is_in, named_instance}
 use Rattle.bosh_history.specs.Held.{view}
+use Rattle.bosh_history.specs.Items.{slots_of}
 use Rattle.bosh_history.specs.Known.{Known}
 use Rattle.bosh_history.specs.Moments.{Moment}
+use Rattle.bosh_history.specs.Openings.{MayOpen}
 use Rattle.bosh_history.specs.Sound as sound
 use Rattle.bosh_history.specs.Sound.{is_sound, is_sound_goal}
 use Rattle.bosh_manifest.specs.Sound as manifests
@@ -36,9 +41,12 @@ use Rattle.bosh_views.specs.View.{view_of}
 use Rattle.bosh_yaml.specs.Reading.{reading}
 use Rattle.bosh_yaml.specs.Tree.{Tree}
 use Rattle.bosh_yaml.specs.declared.fault.ReadFault.{ReadFault}
+use Rattle.laws_facts.proofs.GoalLemmas.{OpensOf, of_dep, of_none, opens_of}
 use Rattle.laws_facts.specs.KnownFacts.{KnownFacts}
 use Rattle.laws_goals.proofs.RecordLemmas.{is-sound}
+use Rattle.laws_stands.proofs.DeploymentLemmas.{bytes_is}
 use Rattle.laws_views.proofs.OrderlyLemmas.{in_order}
+use Rattle.laws_views.proofs.ViewedLemmas.{KeepsViewed}
 use Rattle.laws_views.specs.Planned.{IsChecked, IsPlanned}
 
 -- ---- the cloud config
@@ -61,15 +69,37 @@ config_apart (Some bytes) config is = read (reading bytes) is
 
 -- ---- goals
 
--- the goal that a task opens with may be worked on
+-- it may be worked on, whatever it is called and however many slots it has
+abbrev pub is_goal_sound : Known → TaskKind → Option Goal → Bool
+is_goal_sound k kind (Some goal) = is_sound_goal k kind goal
+is_goal_sound k kind None = true
+
+-- the goal that a task opens with is such
 sound_with : (k : Known) (o : TaskOpen) (kind : TaskKind) (goal : Goal) → o.kind ≡ kind → o.goal ≡ Some goal
-    → is_sound_goal k kind goal ≡ true → sound.IsSound k o
-sound_with k o kind goal kind_is goal_is is =
-    (λ i. is_sound k (record o { kind = kind_is i; goal = goal_is i })) ∙ is
+    → is_sound_goal k kind goal ≡ true → is_goal_sound k o.kind o.goal ≡ true
+sound_with k o kind goal kind_is goal_is is = (λ i. is_goal_sound k (kind_is i) (goal_is i)) ∙ is
 
 -- one without a goal has nothing to be sound
-sound_without : (k : Known) (o : TaskOpen) → o.goal ≡ None → sound.IsSound k o
-sound_without k o none = λ i. is_sound k (record o { goal = none i })
+sound_without : (k : Known) (o : TaskOpen) → o.goal ≡ None → is_goal_sound k o.kind o.goal ≡ true
+sound_without k o none = λ i. is_goal_sound k o.kind (none i)
+
+-- so it may be worked on where it has a name and few slots
+pub sound_in_bounds : (k : Known) (o : TaskOpen) → MayOpen k o → KeepsViewed (entries.TaskOpen o)
+    → is_goal_sound k o.kind o.goal ≡ true → sound.IsSound k o
+sound_in_bounds k o may keeps is = by (opens_of k o may)
+  where
+    by : OpensOf o → sound.IsSound k o
+    by (of_dep dep goal dep_is goal_is same) =
+        (λ i. is_sound k (record o { goal = goal_is i }))
+        ∙ and_from (is_sound_goal k o.kind goal) _ ((λ i. is_goal_sound k o.kind (sym goal_is i)) ∙ is)
+        (and_from (not (bytes_eq goal.dep [])) _ (named (bytes_eq goal.dep []) refl)
+        (le-leb (length goal.slots) 4294967296
+        (subst (λ goal. length (slots_of goal) ≤ 4294967296) goal_is keeps.1)))
+      where
+        named : (b : Bool) → bytes_eq goal.dep [] ≡ b → not b ≡ true
+        named false apart = refl
+        named true is_empty = absurd (keeps.0 (dep_is ∙ ap Some (sym same ∙ bytes_is goal.dep [] is_empty)))
+    by (of_none dep_is goal_is) = λ i. is_sound k (record o { goal = goal_is i })
 
 -- a deploy
 sound_deploy : (m : Moment) (records : Records) → KnownFacts m → (it : Deploy)
@@ -101,14 +131,14 @@ pub sound_planned : (m : Moment) (records : Records) → KnownFacts m
     → is_in (m.known.goal inst.dep) inst ≡ true → RenewsOver records inst change (Ok goal)
     → is_sound_goal m.known kind goal ≡ true)
     → (wanted : (i : Inst) → is_wanted records i ≡ is_in (m.known.goal i.dep) i)
-    → (ask : Ask) (o : TaskOpen) → IsChecked ask → IsPlanned records ask o → sound.IsSound m.known o
+    → (ask : Ask) (o : TaskOpen) → IsChecked ask → IsPlanned records ask o → is_goal_sound m.known o.kind o.goal ≡ true
 sound_planned m records facts viewed renewed wanted (asks.Deploy it) o checked planned =
     by it.fix planned.opens.kind
   where
     over : DeploysOver records it (plan_of o)
     over = planned.over
 
-    by : (fix : Bool) → o.kind ≡ (if fix then kinds.Fix else kinds.Deploy) → sound.IsSound m.known o
+    by : (fix : Bool) → o.kind ≡ (if fix then kinds.Fix else kinds.Deploy) → is_goal_sound m.known o.kind o.goal ≡ true
     by true kind = sound_with m.known o kinds.Fix over.goal kind over.is
         (sound_deploy m records facts it (viewed it.manifest.name) checked over.goal over.given).1
     by false kind = sound_with m.known o kinds.Deploy over.goal kind over.is

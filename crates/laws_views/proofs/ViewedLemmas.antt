@@ -30,6 +30,7 @@ use Rattle.bosh_history.specs.Known.{Known, dep_of_task, nothing_known}
 use Rattle.bosh_history.specs.Learn.{learn}
 use Rattle.bosh_history.specs.Moments.{Moment}
 use Rattle.bosh_history.specs.Openings.{is_recorded}
+use Rattle.bosh_history.specs.Snapshots.{known_by}
 use Rattle.bosh_history.specs.Tasks.{goal_set, settles}
 use Rattle.bosh_history.specs.Words.{at}
 use Rattle.bosh_manifest_names.specs.declared.fault.GoalFault.TheVariants.{NoConfig}
@@ -43,9 +44,16 @@ use Rattle.laws_goals.proofs.PartLemmas.{IsMade, is-made}
 use Rattle.laws_stands.proofs.DeploymentLemmas.{bytes_is}
 use Rattle.laws_views.proofs.FewLemmas.{slots_few, workers_few}
 use Rattle.laws_views.proofs.OpenLemmas.{IsAnewOf, anew_known}
-use Rattle.laws_views.specs.Planned.{IsPlanned}
+use Rattle.laws_views.specs.Planned.{IsChecked, IsPlanned}
 use Rattle.laws_views.specs.Read.{AreReadAsKnown}
-use Rattle.laws_views.specs.Viewed.{CanBeViewed, HasName, KeepsViewed}
+use Rattle.laws_views.specs.Viewed.{CanBeViewed}
+
+-- an entry leaves it so: a task opens that is not of the empty name, with slots that have numbers; and what is told anew can
+-- be viewed
+abbrev pub KeepsViewed : Entry → Type 0
+KeepsViewed (entries.TaskOpen o) = (o.dep ≢ Some []) × (length (slots_of o.goal) ≤ 4294967296)
+KeepsViewed (entries.Snapshot s) = CanBeViewed (known_by s)
+KeepsViewed entry = Unit {0}
 
 -- ---- after an entry
 
@@ -166,24 +174,24 @@ module _ (m : Moment) (records : Records) (facts : KnownFacts m) (read : AreRead
         few_of o goal is (anew_few m.known records inst change goal made),
       )
 
-  pub planned_viewed : (ask : Ask) (o : TaskOpen) → HasName ask → IsPlanned records ask o → KeepsViewed (entries.TaskOpen o)
-  planned_viewed (asks.Deploy it) o name planned = (
-    λ empty. name (let both : Some it.manifest.name ≡ Some [] = sym planned.opens.dep ∙ empty in cc),
+  pub planned_viewed : (ask : Ask) (o : TaskOpen) → IsChecked ask → IsPlanned records ask o → KeepsViewed (entries.TaskOpen o)
+  planned_viewed (asks.Deploy it) o checked planned = (
+    λ empty. checked.named (let both : Some it.manifest.name ≡ Some [] = sym planned.opens.dep ∙ empty in cc),
     few_of o over.goal over.is (made_few records it over.goal over.given),
   )
     where
       over : DeploysOver records it (plan_of o)
       over = planned.over
-  planned_viewed (asks.Recreate inst) o name planned =
+  planned_viewed (asks.Recreate inst) o checked planned =
       one_viewed inst changes.Fresh o (planned.over).goal planned.opens.dep (planned.over).is planned.named (planned.over).given
-  planned_viewed (asks.Start inst) o name planned =
+  planned_viewed (asks.Start inst) o checked planned =
       one_viewed inst (changes.To Running) o (planned.over).goal planned.opens.dep (planned.over).is planned.named
       (planned.over).given
-  planned_viewed (asks.Halt inst hard) o name planned =
+  planned_viewed (asks.Halt inst hard) o checked planned =
       one_viewed inst (halting hard) o (planned.over).goal planned.opens.dep (planned.over).is planned.named (planned.over).given
-  planned_viewed (asks.Resolve inst) o name planned =
+  planned_viewed (asks.Resolve inst) o checked planned =
       one_viewed inst changes.Same o (planned.over).goal planned.opens.dep (planned.over).is planned.named (planned.over).given
-  planned_viewed (asks.DeleteDeployment dep) o name planned = (
+  planned_viewed (asks.DeleteDeployment dep) o checked planned = (
     has_name m.known dep o viewed planned.opens.dep
         (same (is_recorded m.known dep) (sym (read.recorded dep) ∙ planned.named) (facts.lists.deployment_listed dep)),
     few_of o (nothing dep) (planned.opens.does).goal (let low : 0 ≤ 64 = omega arith in low),
@@ -192,11 +200,11 @@ module _ (m : Moment) (records : Records) (facts : KnownFacts m) (read : AreRead
       same : (b : Bool) → b ≡ true → same_truth b (is_some (m.known.goal dep)) ≡ true → is_some (m.known.goal dep) ≡ true
       same true is listed = listed
       same false is listed = absurd (false≢true is)
-  planned_viewed (asks.DeleteDisk disk) o name planned = (
+  planned_viewed (asks.DeleteDisk disk) o checked planned = (
     λ empty. absurd (let both : None ≡ Some [] = sym planned.opens.dep ∙ empty in cc),
     subst (λ goal. length (slots_of goal) ≤ 4294967296) (sym (λ i. (planned.opens.does i).goal)) (omega arith),
   )
-  planned_viewed asks.CleanUp o name planned = (
+  planned_viewed asks.CleanUp o checked planned = (
     λ empty. absurd (let both : None ≡ Some [] = sym planned.opens.dep ∙ empty in cc),
     subst (λ goal. length (slots_of goal) ≤ 4294967296) (sym (λ i. (planned.opens.does.1 i).goal)) (omega arith),
   )

@@ -1,9 +1,10 @@
 //! What opens by the records.
 ghost use Rattle.std.specs.Prelude.{◌<◌, ◌≡◌, false, ℕ};
 ghost use Rattle.bosh_asks.specs.declared.ask.Ask.{Ask};
+ghost use Rattle.bosh_base.specs.declared.entry.Entry.TheVariants as entries;
 ghost use Rattle.bosh_base.specs.declared.entry.TaskOpen.{TaskOpen};
 ghost use Rattle.bosh_history.specs.Moments.{Moment};
-ghost use Rattle.bosh_history.specs.Openings.{MayOpen};
+ghost use Rattle.bosh_history.specs.Openings.{MayOpen, TellsSource};
 ghost use Rattle.bosh_history.specs.Recovered.{is_recovering};
 ghost use Rattle.bosh_history.specs.Sound.{IsSound};
 ghost use Rattle.bosh_records.specs.declared.records.Records.{Records};
@@ -22,11 +23,11 @@ pub fn openings_may_open()
         → MayOpen m.known o }
 {}
 
-/// .. and where no task is left that a stop interrupted, its goal may be worked on, so that the opening may be noted. The
-/// manifest of a deploy is a checked one.
+/// .. and where no task is left that a stop interrupted, its goal may be worked on, and a deploy tells its source, so that the
+/// opening may be noted. The manifest of a deploy is a checked one.
 pub fn openings_may_be_noted()
     ensures { (m : Moment) (told : Told) (records : Records) (ask : Ask) (o : TaskOpen) → Stands told records
         → Agrees m told → KnownFacts m → is_recovering m ≡ false → CanBeViewed m.known
         → m.known.tasks < 18446744073709551615 → IsChecked ask → IsPlanned records ask o
-        → MayOpen m.known o × IsSound m.known o }
+        → MayOpen m.known o × IsSound m.known o × TellsSource (entries.TaskOpen o) }
 {}

@@ -67,5 +67,5 @@ returns-clause-fault g c =
 pub returns-clause-pending : goal.returns-clause-pending
 returns-clause-pending g c =
     pends_told c.told.new.history.is_halted c.begin_task-task.new.self.journal
-    (IsOpening c.args.self.now.book.records c.args.ask.now) c.sprung.result c.begin_task-task.result c.told.ensures.follows.halted
-    (openings_as c.args.self.now.book.records c.args.ask.now c.begin_task-task.new.self.journal c.begin_task-task.result c.begin_task-task.ensures.pending)
+    (IsOpening c.args.self.now.book c.args.ask.now) c.sprung.result c.begin_task-task.result c.told.ensures.follows.halted
+    (openings_as c.args.self.now.book c.args.ask.now c.begin_task-task.new.self.journal c.begin_task-task.result c.begin_task-task.ensures.pending)
