@@ -3,3 +3,4 @@ pub mod FrameLemmas
 pub mod KnownLemmas
 pub mod LearnLemmas
 pub mod RunLemmas
+pub mod StoredLemmas

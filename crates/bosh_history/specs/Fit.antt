@@ -1,5 +1,5 @@
 -- What a director may be loaded on: nothing, or what a session left that began on such a pair (this project's profile).
-use Rattle.std.specs.Prelude.{◌≡◌, ◌⊎◌, Bool, true, false, None, List, [], ◌∷◌, map}
+use Rattle.std.specs.Prelude.{◌≡◌, ◌⊎◌, ◌&&◌, Bool, true, false, None, List, [], ◌∷◌, map, nat_le}
 use Rattle.bosh_base.specs.declared.entry.Entry.{Entry}
 use Rattle.bosh_base.specs.declared.entry.Entry.TheVariants as entries
 use Rattle.bosh_base.specs.declared.entry.TaskOpen.{TaskOpen}
@@ -7,6 +7,7 @@ use Rattle.bosh_base.specs.declared.moves.Move.{Move}
 use Rattle.bosh_base.specs.declared.moves.Move.TheVariants as moves
 use Rattle.bosh_base.specs.declared.snapshot.Snapshot.{Snapshot}
 use Rattle.bosh_base.specs.declared.task.TaskRow.{TaskRow}
+use Rattle.bosh_history.specs.Known.{Known}
 use Rattle.bosh_history.specs.Learn.{known_of}
 use Rattle.bosh_history.specs.Moments.{Opening, durable, effects_of, nothing}
 use Rattle.bosh_history.specs.Notes.{Outside}
@@ -59,12 +60,17 @@ ends_stopped [] = false
 ends_stopped (moves.Stop s ∷ []) = true
 ends_stopped (move ∷ more) = ends_stopped more
 
+-- no call and no task has a greater number than 2 ^ 62: no more are made then
+abbrev pub has_numbers : Known → Bool
+has_numbers k = nat_le k.last_call 4611686018427387904 && nat_le k.tasks 4611686018427387904
+
 -- a session that is permitted, and ends with a stop, leaves the pair
 pub record LeavesPair (outside : Outside) (o : Opening) (session : List Move) (next : Opening) : Type 0 where
   pub is_run : IsRun outside o session
   pub stopped : ends_stopped session ≡ true
   pub entries : StandFor next.entries (durable o session)
   pub effects : next.effects ≡ effects_of o session
+  pub has_numbers : has_numbers (known_of next.entries) ≡ true
 
 -- both stores are empty, or a session that began on a fit pair left them
 pub data IsFit (outside : Outside) : Opening → Type 0 where

@@ -1,7 +1,7 @@
 -- Manifests that were read are sound.
 use Rattle.std.proofs.Common.{◌≡◌, ℕ, ◌≤◌, nat_le, List, [], Result, Ok, Err, codes, refl, sym, ◌∙◌, ap, subst, inl, inr, sum_by}
-use Rattle.std.specs.Prelude.{IsTrue, if◌then◌else◌}
-use Rattle.std.proofs.lemmas.Bool.{cases_Bool, leb-true}
+use Rattle.std.specs.Prelude.{if◌then◌else◌}
+use Rattle.std.proofs.lemmas.Bool.{cases_Bool, false≢true, leb-true}
 use Rattle.bosh_base.specs.Name.{IsName, is_name}
 use Rattle.bosh_yaml.specs.Tree.{Tree}
 use Rattle.bosh_fields.specs.Answer.{◌>>=◌, both}
@@ -70,15 +70,15 @@ name-ok t name h =
     let (u, read) = required-ok a_name (codes "name") t name h in
     let (s, text, rest) = ok-parts (a_text (codes "name") u) (λ s. if is_name s then Ok s else Err (WrongKind (codes "name"))) name read in
     elim (cases_Bool (is_name s)) [
-      | inl yes ↦
-          let whole : ◌≡◌ {A = Result (List ℕ) FieldFault} (Ok s) (Ok name) = sym (rw yes refl) ∙ rest in
-          subst IsName (same-ok whole) (subst IsTrue (sym yes) tt)
-      | inr no ↦ let never : ◌≡◌ {A = Result (List ℕ) FieldFault} (Err (WrongKind (codes "name"))) (Ok name) = sym (rw no refl) ∙ rest in absurd (cc)
+      | inl sure ↦
+          let whole : ◌≡◌ {A = Result (List ℕ) FieldFault} (Ok s) (Ok name) = sym (rw sure refl) ∙ rest in
+          subst IsName (same-ok whole) sure
+      | inr none ↦ let never : ◌≡◌ {A = Result (List ℕ) FieldFault} (Err (WrongKind (codes "name"))) (Ok name) = sym (rw none refl) ∙ rest in absurd (cc)
     ]
 
 -- no name is empty
 empty-unnamed : IsName [] → ⊥
-empty-unnamed it = it
+empty-unnamed it = absurd (false≢true it)
 
 pub manifest-ok : (name : List ℕ) (t : Tree) (contents : Contents) → IsName name → a_manifest name t ≡ Ok contents
     → IsSound contents

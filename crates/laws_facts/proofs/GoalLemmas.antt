@@ -4,6 +4,7 @@ use Rattle.std.specs.Prelude.{is_some, if◌then◌else◌}
 use Rattle.std.specs.List.{list_all}
 use Rattle.std.specs.Option.{option_eq}
 use Rattle.std.specs.Str.{bytes_eq}
+use Rattle.std.proofs.lemmas.Bool.{and_parts}
 use Rattle.bosh_base.specs.declared.entry.Entry.{Entry}
 use Rattle.bosh_base.specs.declared.entry.Entry.TheVariants as entries
 use Rattle.bosh_base.specs.declared.entry.TaskOpen.{TaskOpen}

@@ -1,7 +1,7 @@
 -- What a store tells without what the older format has not: entries that are stored as they were written tell the same
 -- but for the sources of tasks and how many calls each began.
 use Rattle.std.proofs.Common.{◌≡◌, ◌∙◌, ℕ, suc, Bool, true, false, Option, Some, None, List, [], ◌∷◌, map, length}
-use Rattle.std.proofs.Common.{ap, refl, sym, arith, inl, inr}
+use Rattle.std.proofs.Common.{ap, refl, sym, arith}
 use Rattle.std.specs.Prelude.{◌==◌, eqb, find, fold, if◌then◌else◌, not}
 use Rattle.std.specs.Option.{option_map}
 use Rattle.bosh_base.specs.declared.answer.Answer.{Answer}
@@ -22,10 +22,11 @@ use Rattle.bosh_base.specs.declared.task.TaskEnd.TheVariants as ends
 use Rattle.bosh_base.specs.declared.task.TaskKind.{TaskKind}
 use Rattle.bosh_base.specs.declared.task.TaskKind.TheVariants as kinds
 use Rattle.bosh_base.specs.declared.task.TaskRow.{TaskRow}
+use Rattle.bosh_history.proofs.StoredLemmas.{all_plain}
 use Rattle.bosh_history.specs.Calls.{begins, call_ended, compiles, ends_of, failure_of, fails_gone, is_lost, least_failure}
 use Rattle.bosh_history.specs.Calls.{number_of, orphan_after, shows_gone, slot_answered, task_after_ping, task_told}
 use Rattle.bosh_history.specs.Calls.{task_with_call}
-use Rattle.bosh_history.specs.Fit.{AreStoredAs, IsStoredAs, plain, plain_entry, plain_opening, plain_row}
+use Rattle.bosh_history.specs.Fit.{AreStoredAs, plain, plain_entry, plain_opening, plain_row}
 use Rattle.bosh_history.specs.Known.{Known, Slot, Task, dep_of_task, nothing_known, want_in}
 use Rattle.bosh_history.specs.Learn.{known_of, learn}
 use Rattle.bosh_history.specs.Slots.{slot_after}
@@ -279,27 +280,6 @@ told_so : (k : Known) (more : List Entry)
 told_so k [] = refl
 told_so k (e ∷ more) =
     told_so (learn k e) more ∙ (λ j. plain_told (learned_plain k e j) (map plain_entry more))
-
--- the older format has nothing more to leave out
-plain_rows : (rows : List TaskRow) → map plain_row (map plain_row rows) ≡ map plain_row rows
-plain_rows [] = refl
-plain_rows (row ∷ more) = λ j. plain_row row ∷ plain_rows more j
-
-plain_once : (e : Entry) → plain_entry (plain_entry e) ≡ plain_entry e
-plain_once (entries.Snapshot s) = λ j. entries.Snapshot (record s { tasks = plain_rows s.tasks j })
-plain_once (entries.TaskOpen o) = refl
-plain_once entry = refl
-
--- an entry is stored as it was written, but for what the older format has not
-pub stored_plain : (stored written : Entry) → IsStoredAs stored written → plain_entry stored ≡ plain_entry written
-stored_plain stored written (inl same) = ap plain_entry same
-stored_plain stored written (inr older) = ap plain_entry older ∙ plain_once written
-
-all_plain : (stored written : List Entry) → AreStoredAs stored written → map plain_entry stored ≡ map plain_entry written
-all_plain [] [] all = refl
-all_plain (entry ∷ stored) (it ∷ written) all = λ j. stored_plain entry it all.0 j ∷ all_plain stored written all.1 j
-all_plain [] (it ∷ written) all = absurd all
-all_plain (entry ∷ stored) [] all = absurd all
 
 -- entries that are stored as they were written tell the same, but for that
 pub stored_told : (stored written : List Entry) → AreStoredAs stored written
