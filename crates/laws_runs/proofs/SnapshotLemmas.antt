@@ -358,7 +358,7 @@ module _ (m : Moment) (h : ListFacts m) where
           (λ j. if other j then Some (task_row k n) else find (λ (it : TaskRow). it.task == t) (map (task_row k) xs))
           ∙ rest more
 
-  task_again : (t : ℕ) → nat_le 1 t ≡ true → nat_le t k.tasks ≡ true
+  pub task_again : (t : ℕ) → nat_le 1 t ≡ true → nat_le t k.tasks ≡ true
       → task_of (snapshot_of k) t ≡ task (snapshot_of k) (task_row k t)
   task_again t first within =
       task_found (snapshot_of k) t (Some (task_row k t))
