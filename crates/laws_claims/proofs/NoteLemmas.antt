@@ -252,10 +252,9 @@ claims_note outside m t worker entry can noted = by (is_some (m.known.task t).en
 
 pub claims_are_permitted : (outside : Outside) (m : Moment) (t worker : ℕ) (entry : Entry) → CanNote m t
     → m.halted ≡ false → claim_at m t worker ≡ Noted entry → IsPermitted outside m (moves.Note entry)
-claims_are_permitted outside m t worker entry can goes noted =
-    (
-      goes,
-      (λ j. not (can.is_recovered j) || is_interruption entry),
-      claims_note outside m t worker entry can noted,
-      claims_tell m t worker entry noted,
-    )
+claims_are_permitted outside m t worker entry can goes noted = (
+  goes,
+  (λ j. not (can.is_recovered j) || is_interruption entry),
+  claims_note outside m t worker entry can noted,
+  claims_tell m t worker entry noted,
+)

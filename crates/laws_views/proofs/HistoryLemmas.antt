@@ -31,7 +31,7 @@ opening_keeps m o outside may = by (opens_of m.known o may.0)
   where
     by : OpensOf o → KeepsViewed (entries.TaskOpen o)
     by (of_dep dep goal dep_is goal_is same) = (
-      λ empty. absurd (false≢true (sym (ap not (named (let both : Some dep ≡ Some [] = sym dep_is ∙ empty in cc)) )
+      λ empty. absurd (false≢true (sym (ap not (named (let both : Some dep ≡ Some [] = sym dep_is ∙ empty in cc)))
           ∙ bounds.0)),
       subst (λ goal. length (slots_of goal) ≤ 4294967296) (sym goal_is) (leb-true (length goal.slots) 4294967296 bounds.1),
     )
