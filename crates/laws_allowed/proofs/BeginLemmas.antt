@@ -84,8 +84,8 @@ module _ (m : Moment) (records : Records) (b : Begin) (at : IsAtWork m records b
     (noted : Begins m b) where
   -- no call of the task failed, so its worker chooses
   pub choosing : CanChoose m b.task records at.swept at.work
-  choosing = can_choose m at.snapped b.task records at.swept at.work facts working numbers at.stands at.work_stands
-      at.are_swept
+  choosing = can_choose m at.snapped b.task records at.swept at.work facts working numbers at.stands at.later
+      at.work_stands at.are_swept
 
 -- a call may begin where it is the one that is to be made for its owner
 pub begins_by : (m : Moment) (records : Records) (b : Begin) (at : IsAtWork m records b.task) → Begins m b

@@ -55,8 +55,8 @@ module _ (m : Moment) (records : Records) (u : Update) (at : IsAtWork m records 
   t = m.known.task u.task
 
   can : CanChoose m u.task records at.swept at.work
-  can = can_choose m at.snapped u.task records at.swept at.work facts working numbers at.stands at.work_stands
-      at.are_swept
+  can = can_choose m at.snapped u.task records at.swept at.work facts working numbers at.stands at.later
+      at.work_stands at.are_swept
 
   parted : (is_among same_inst u.inst t.changed ≡ true) × (not (is_finished (t.upd u.inst)) ≡ true)
   parted = and_parts (is_among same_inst u.inst t.changed) (not (is_finished (t.upd u.inst))) noted.is_changed

@@ -51,8 +51,8 @@ module _ (m : Moment) (records : Records) (u : Update) (at : IsAtWork m records 
   t = m.known.task u.task
 
   can : CanChoose m u.task records at.swept at.work
-  can = can_choose m at.snapped u.task records at.swept at.work facts working numbers at.stands at.work_stands
-      at.are_swept
+  can = can_choose m at.snapped u.task records at.swept at.work facts working numbers at.stands at.later
+      at.work_stands at.are_swept
 
   numbered : WorksAt m u.task
   numbered = works_at m u.task working

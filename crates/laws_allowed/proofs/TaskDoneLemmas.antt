@@ -184,7 +184,8 @@ module _ (m : Moment) (records : Records) (n : ℕ) (at : IsAtWork m records n) 
   t = m.known.task n
 
   can : CanChoose m n records at.swept at.work
-  can = can_choose m at.snapped n records at.swept at.work facts working numbers at.stands at.work_stands at.are_swept
+  can = can_choose m at.snapped n records at.swept at.work facts working numbers at.stands at.later at.work_stands
+      at.are_swept
 
   -- no compile machine of its deployment is recorded
   no_machine : (u s : ℕ) (it : Slot) → k.slot u s ≡ Some it → t.dep ≡ Some it.dep → ⊥

@@ -89,8 +89,8 @@ module _ (m : Moment) (records : Records) (u : Update) (at : IsAtWork m records 
   none_failed = none_is t.failed (and_parts (not (is_some t.failed)) _ noted.may_begin).0
 
   can : CanChoose m u.task records at.swept at.work
-  can = can_choose m at.snapped u.task records at.swept at.work facts working numbers at.stands at.work_stands
-      at.are_swept
+  can = can_choose m at.snapped u.task records at.swept at.work facts working numbers at.stands at.later
+      at.work_stands at.are_swept
 
   -- one that changes does not go
   stays : is_to_go t u.inst ≡ false

@@ -24,6 +24,8 @@ pub record IsAtWork (m : Moment) (records : Records) (n : ℕ) : Type 0 where
   pub stands : Stands (told_at m snapped) records
   pub work : Work
   pub there : work_at records n ≡ Some work
+  -- no snapshot told the task
+  pub later : snapped < n
   pub swept : List MachineName
   pub work_stands : StandsFor (told_at m snapped) (m.known.task n) n swept work
   pub are_swept : AreSwept m.known n swept
@@ -43,11 +45,12 @@ at_work m told records n facts stands agrees working = by (work_at records n) re
     since low high = omega arith
 
     by : (o : Option Work) → work_at records n ≡ o → IsWork (told_at m told.snapped) n o → IsAtWork m records n
-    by (Some work) is (going, (swept, work_stands, are_swept)) = record {
+    by (Some work) is (going, later, (swept, work_stands, are_swept)) = record {
       snapped = told.snapped;
       stands = now;
       work = work;
       there = is;
+      later = later;
       swept = swept;
       work_stands = work_stands;
       are_swept = are_swept;

@@ -96,7 +96,8 @@ module _ (m : Moment) (told : Told) (records : Records) (t worker : ℕ) (agrees
         else (if is_some (m.known.task t).failed then (if has_no_call m t then Over else Waits)
         else by_items m t worker (items m.known t))
 
-    module _ (stands : Stands (told_at m told.snapped) records) (swept : List MachineName) (work : Work)
+    module _ (stands : Stands (told_at m told.snapped) records) (later : told.snapped < t) (swept : List MachineName)
+        (work : Work)
         (work_stands : StandsFor (told_at m told.snapped) (m.known.task t) t swept work)
         (are_swept : AreSwept m.known t swept) where
       failed_case : (o : Option TaskEnd) → work.failed ≡ o → (f : Option Failure) → (m.known.task t).failed ≡ f → o
@@ -123,7 +124,8 @@ module _ (m : Moment) (told : Told) (records : Records) (t worker : ℕ) (agrees
           by false = refl
       failed_case None is None failed same =
           choice_is m t worker records swept work
-          (can_choose m told.snapped t records swept work facts working numbers stands work_stands are_swept)
+          (can_choose m told.snapped t records swept work facts working numbers stands later work_stands
+          are_swept)
           failed
       failed_case (Some end) is None failed same = absurd cc
       failed_case None is (Some f) failed same = absurd cc
@@ -135,7 +137,8 @@ module _ (m : Moment) (told : Told) (records : Records) (t worker : ℕ) (agrees
     works_now stands = by (work_at records t) (stands.works t)
       where
         by : (o : Option Work) → IsWork (told_at m told.snapped) t o → chosen o
-        by (Some work) (going, (swept, work_stands, are_swept)) = has_work stands swept work work_stands are_swept
+        by (Some work) (going, later, (swept, work_stands, are_swept)) =
+            has_work stands later swept work work_stands are_swept
         by None gone = absurd (false≢true (sym (gone (before agrees.snapped)) ∙ going_is ∙ is_open_now))
           where
             before : told.snapped ≤ m.stopped → told.snapped < t

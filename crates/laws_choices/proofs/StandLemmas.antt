@@ -149,7 +149,7 @@ changed_apart t well = by (is_clean_up t.kind) well
 module _ (m : Moment) (snapped n : ℕ) (records : Records) (swept : List MachineName) (work : Work)
     (facts : KnownFacts m) (working : works m n ≡ true)
     (numbers : m.known.last_call < 18446744073709551615) (stands : Stands (told_at m snapped) records)
-    (work_stands : StandsFor (told_at m snapped) (m.known.task n) n swept work)
+    (later : snapped < n) (work_stands : StandsFor (told_at m snapped) (m.known.task n) n swept work)
     (are_swept : AreSwept m.known n swept) where
   abbrev k : Known
   k = m.known
@@ -303,7 +303,7 @@ module _ (m : Moment) (snapped n : ℕ) (records : Records) (swept : List Machin
     rows_are = row_is m snapped records facts stands;
     wants_are = wants_are;
     machine_rows = λ u s. stands.machines (record { task = u; slot = s });
-    machine_keys = λ s. stands.machine_keys (record { task = n; slot = s });
+    machine_keys = λ s. stands.machine_keys (record { task = n; slot = s }) later;
     machine_idle = machine_idle;
     orphans_are = stands.orphans;
     digests_are = stands.digests;

@@ -161,6 +161,6 @@ module _ {K L : Type 0} {k : keeper.Ghosts K} {l : keeper.Ghosts L} (outside : O
 
           entry_is : closing t end ≡ ending t (m.known.task t).failed
           entry_is =
-              closing_is recorded.told site.book.records t work (recorded.told.known.task t).failed end it.1.1.failed_is
+              closing_is recorded.told site.book.records t work (recorded.told.known.task t).failed end it.2.1.failed_is
               begun called comes
               ∙ (λ i. ending t ((known i).task t).failed)

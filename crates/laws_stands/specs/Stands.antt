@@ -67,10 +67,11 @@ AreSwept k t swept =
     (filter (λ name. is_some (k.slot name.task name.slot)) swept)
     ≡ filter (is_leftover k t) k.machines
 
--- an open task has its work, but for one that a snapshot told
+-- an open task has its work, but for one that a snapshot told, which has none
 abbrev pub IsWork : Told → ℕ → Option Work → Type 0
 IsWork told t (Some work) =
     (is_going told.known t ≡ true)
+    × (told.snapped < t)
     × ((swept : List MachineName) × StandsFor told (told.known.task t) t swept work × AreSwept told.known t swept)
 IsWork told t None = told.snapped < t → is_going told.known t ≡ false
 
@@ -86,7 +87,8 @@ pub record StandsIn (told : Told) (it : Recorded) : Type 0 where
   pub machines : (name : MachineName) →
       option_map (λ machine. machine.row) (reading.machine_of it name)
       ≡ option_map (row_of_slot name.task name.slot) (told.known.slot name.task name.slot)
-  pub machine_keys : (name : MachineName) →
+  -- what a machine was made for is told by no snapshot, and only its own task asks for it
+  pub machine_keys : (name : MachineName) → told.snapped < name.task →
       option_and_then (λ machine. machine.key) (reading.machine_of it name)
       ≡ key_place told.known name.task (key_of_slot (told.known.slot name.task name.slot))
   pub machine_calls : (name : MachineName) →

@@ -253,8 +253,9 @@ module _ (told : Told) (was : Records) (it : Recorded) (n number worker : ℕ) (
 
   own_work : (o : Option Work) → work_of it n ≡ o → IsWork told n o
       → IsWork new n (option_map (λ work. taken work (places_in noted (Disk d))) o)
-  own_work (Some work) is (going, (swept, work_stands, are_swept)) = (
+  own_work (Some work) is (going, later, (swept, work_stands, are_swept)) = (
     going_same told it b next stands n ∙ going,
+    later,
     (
       swept,
       subst (λ places. StandsFor new (new.known.task n) n swept (taken work places))
@@ -286,8 +287,9 @@ module _ (told : Told) (was : Records) (it : Recorded) (n number worker : ℕ) (
   }
 
   other_work : (t : ℕ) → eqb n t ≡ false → (o : Option Work) → IsWork told t o → IsWork new t o
-  other_work t other (Some work) (going, (swept, work_stands, are_swept)) = (
+  other_work t other (Some work) (going, later, (swept, work_stands, are_swept)) = (
     going_same told it b next stands t ∙ going,
+    later,
     (
       swept,
       subst (λ (it : Task). StandsFor new it t swept work)
@@ -367,7 +369,7 @@ module _ (told : Told) (was : Records) (it : Recorded) (n number worker : ℕ) (
     rows = stands.rows;
     row_calls = λ x. stands.row_calls x ∙ sym (other_calls told it b next stands (Instance x) refl);
     machines = stands.machines;
-    machine_keys = λ name. stands.machine_keys name
+    machine_keys = λ name later. stands.machine_keys name later
         ∙ sym (task_same told it b next stands
         (λ (it : Task). option_and_then
         (λ key. first_marked (map (λ work. same_key work.key key) (keys_of it.goal)))

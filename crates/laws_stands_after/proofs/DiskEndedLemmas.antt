@@ -393,8 +393,9 @@ module _ (told : Told) (was : Records) (it : Recorded) (n number worker : ℕ) (
 
   own_work : (o : Option Work) → work_of it n ≡ o → IsWork told n o
       → IsWork new n (option_map (λ w. gone_by goes d place (ended_work asked places fail w)) o)
-  own_work (Some work) is (going, (swept, work_stands, are_swept)) = (
+  own_work (Some work) is (going, later, (swept, work_stands, are_swept)) = (
     going_same told it b answer (k.task n).pinged only stands n ∙ going,
+    later,
     (
       swept,
       subst (λ w. StandsFor new (new.known.task n) n swept w) (sym work_last)
@@ -442,8 +443,9 @@ module _ (told : Told) (was : Records) (it : Recorded) (n number worker : ℕ) (
 
   other_work : (t : ℕ) → eqb n t ≡ false → (o : Option Work) → IsWork told t o
       → IsWork new t (option_map (gone_by goes d place) o)
-  other_work t other (Some work) (going, (swept, work_stands, are_swept)) = (
+  other_work t other (Some work) (going, later, (swept, work_stands, are_swept)) = (
     going_same told it b answer (k.task n).pinged only stands t ∙ going,
+    later,
     (
       swept,
       subst (λ w. StandsFor new (new.known.task t) t swept w)
@@ -551,7 +553,7 @@ module _ (told : Told) (was : Records) (it : Recorded) (n number worker : ℕ) (
     row_calls = λ x. stands.row_calls x
         ∙ sym (other_calls told it b answer (k.task n).pinged only stands (Instance x) refl);
     machines = stands.machines;
-    machine_keys = λ name. stands.machine_keys name
+    machine_keys = λ name later. stands.machine_keys name later
         ∙ sym (task_same told it b answer (k.task n).pinged only stands
         (λ (it : Task). option_and_then
         (λ key. first_marked (map (λ work. same_key work.key key) (keys_of it.goal)))

@@ -285,8 +285,9 @@ module _ (told : Told) (it : Recorded) (n number worker : ℕ) (call : Call) (t 
 
   own_work : (o : Option Work) → work_of it n ≡ o → IsWork told n o
       → IsWork new n (option_map (λ work. taken work (places_in noted (Compile t s))) o)
-  own_work (Some work) is (going, (swept, work_stands, are_swept)) = (
+  own_work (Some work) is (going, later, (swept, work_stands, are_swept)) = (
     going_same told it b next stands n ∙ going,
+    later,
     (
       swept,
       subst (λ places. StandsFor new (new.known.task n) n swept (taken work places))
@@ -321,8 +322,9 @@ module _ (told : Told) (it : Recorded) (n number worker : ℕ) (call : Call) (t 
           (swept_never k u swept are name some_there (allows.not_left u other going)) is
 
   other_work : (u : ℕ) → eqb n u ≡ false → (o : Option Work) → IsWork told u o → IsWork new u o
-  other_work u other (Some work) (going, (swept, work_stands, are_swept)) = (
+  other_work u other (Some work) (going, later, (swept, work_stands, are_swept)) = (
     going_same told it b next stands u ∙ going,
+    later,
     (
       swept,
       subst (λ (it : Task). StandsFor new it u swept work)
@@ -399,10 +401,10 @@ module _ (told : Told) (it : Recorded) (n number worker : ℕ) (call : Call) (t 
     rows = stands.rows;
     row_calls = λ x. stands.row_calls x ∙ sym (other_calls told it b next stands (Instance x) refl);
     machines = λ x. parts_same (λ (machine : Machine). machine.row) (λ machine. refl) x ∙ stands.machines x;
-    machine_keys = λ x. joined (λ (machine : Machine). machine.key) (machine_of begun x)
+    machine_keys = λ x later. joined (λ (machine : Machine). machine.key) (machine_of begun x)
         ∙ ap (option_and_then (λ x. x)) (parts_same (λ (machine : Machine). machine.key) (λ machine. refl) x)
         ∙ sym (joined (λ (machine : Machine). machine.key) (machine_of it x))
-        ∙ stands.machine_keys x
+        ∙ stands.machine_keys x later
         ∙ sym (task_same told it b next stands
         (λ (it : Task). option_and_then
         (λ key. first_marked (map (λ work. same_key work.key key) (keys_of it.goal)))

@@ -177,8 +177,9 @@ module _ (t : ℕ) (end : TaskEnd) (told : Told) (it : Recorded) (allows : Allow
             k.machines) refl x)
 
         other : eqb t x ≡ false → (o : Option Work) → IsWork told x o → IsWork new x o
-        other differs (Some work) (going, (swept, work_stands, are_swept)) = (
+        other differs (Some work) (going, later, (swept, work_stands, are_swept)) = (
           going_other x differs ∙ going,
+          later,
           (
             swept,
             subst (λ (it : Task). StandsFor new it x swept work) (sym (λ j. if differs j then ended else k.task x))
@@ -203,7 +204,7 @@ module _ (t : ℕ) (end : TaskEnd) (told : Told) (it : Recorded) (allows : Allow
     was_other x w is = by (eqb t x) refl (sym (work_is x) ∙ is)
       where
         open_ : (o : Option Work) → o ≡ Some w → IsWork told x o → is_going k x ≡ true
-        open_ (Some work) is (going, rest) = going
+        open_ (Some work) is (going, later, rest) = going
         open_ None is gone = absurd cc
 
         by : (b : Bool) → eqb t x ≡ b → (if b then None else work_of it x) ≡ Some w → WasOther x w
@@ -265,7 +266,7 @@ module _ (t : ℕ) (end : TaskEnd) (told : Told) (it : Recorded) (allows : Allow
     instance_other : (x : ℕ) → eqb t x ≡ false → is_going k x ≡ true → (i : Inst) → (k.task x).dep ≡ Some i.dep
         → (o : Option Work) → IsWork told t o → found inst_cmp (cleared o it).instances i ≡ instance_of it i
     instance_other x other going i dep None work = refl
-    instance_other x other going i dep (Some work) (open_, (swept, ws, are_swept)) =
+    instance_other x other going i dep (Some work) (open_, later, (swept, ws, are_swept)) =
         each_other inst_cmp inst_keys (with_change None) same_inst inst_as work.changed _ i
         (ap (is_among same_inst i) ws.changed_are ∙ none_listed x other going i dep (k.task t).changed (allows.changing i))
         ∙ each_other inst_cmp inst_keys (with_leaving None) same_inst inst_as work.obsolete.items _ i
@@ -286,7 +287,7 @@ module _ (t : ℕ) (end : TaskEnd) (told : Told) (it : Recorded) (allows : Allow
     orphan_other : (x : ℕ) → eqb t x ≡ false → is_going k x ≡ true → (d : ℕ) → (k.task x).dep ≡ None
         → (o : Option Work) → IsWork told t o → thing_in nat_cmp (cleared o it).orphans d ≡ orphan_of it d
     orphan_other x other going d dep None work = refl
-    orphan_other x other going d dep (Some work) (open_, (swept, ws, are_swept)) =
+    orphan_other x other going d dep (Some work) (open_, later, (swept, ws, are_swept)) =
         ap (option_and_then (λ place. place))
         (each_other nat_cmp nat_keys (option_map (with_deleting None)) eqb nat_as work.disks.items it.orphans d
         (ap (is_among eqb d) (ws.disks).items_are ∙ by (is_among eqb d (k.task t).disks) refl))
@@ -302,7 +303,7 @@ module _ (t : ℕ) (end : TaskEnd) (told : Told) (it : Recorded) (allows : Allow
         → (k.task x).dep ≡ Some machine.row.dep → (o : Option Work) → IsWork told t o
         → thing_in machine_cmp (cleared o it).machines name ≡ Some machine → machine_of it name ≡ Some machine
     machine_other x other going name machine dep None work there = there
-    machine_other x other going name machine dep (Some work) (open_, (swept, ws, are_swept)) there =
+    machine_other x other going name machine dep (Some work) (open_, later, (swept, ws, are_swept)) there =
         by (is_among same_machine name work.sweep.items) refl
       where
         kept : option_map (λ (machine : Machine). machine.row)
@@ -404,8 +405,8 @@ module _ (t : ℕ) (end : TaskEnd) (told : Told) (it : Recorded) (allows : Allow
       machines = λ name. mapped (λ (machine : Machine). machine.row) (machine_of closed name)
           ∙ machine_kept (λ machine. Some machine.row) (λ machine. refl) (work_of it t) name
           ∙ sym (mapped (λ (machine : Machine). machine.row) (machine_of it name)) ∙ stands.machines name;
-      machine_keys = λ name. machine_kept (λ machine. machine.key) (λ machine. refl) (work_of it t) name
-          ∙ stands.machine_keys name
+      machine_keys = λ name later. machine_kept (λ machine. machine.key) (λ machine. refl) (work_of it t) name
+          ∙ stands.machine_keys name later
           ∙ sym (task_same
           (λ (it : Task). option_and_then
           (λ key. first_marked (map (λ work. same_key work.key key) (keys_of it.goal)))

@@ -51,8 +51,8 @@ module _ (deployments : List (List ℕ)) (goal : List ℕ → Option Goal) (shar
   same t swept = untouched told new.known refl refl refl refl refl refl (told.known.task t) t swept
 
   work_stands : (t : ℕ) (o : Option Work) → IsWork told t o → IsWork new t o
-  work_stands t (Some work) (going, (swept, work_is, are_swept)) =
-      (going, (swept, listed_goes_on told new (told.known.task t) t swept work (same t swept) work_is, are_swept))
+  work_stands t (Some work) (going, later, (swept, work_is, are_swept)) =
+      (going, later, (swept, listed_goes_on told new (told.known.task t) t swept work (same t swept) work_is, are_swept))
   work_stands t None gone = gone
 
   -- it stands where the rows are those that are told, and each want is that of the goal

@@ -156,8 +156,8 @@ module _ (told : Told) (it : Recorded) (t s : ℕ) (allows : AllowsDrop told t s
       ap (option_map (λ (machine : Machine). machine.row)) (sym is) ∙ stands.machines name
       ∙ ap (option_map (row_of_slot t s)) allows.there in cc
 
-  key_is : machine.key ≡ key_place k t (allows.row).key
-  key_is = ap (option_and_then (λ (machine : Machine). machine.key)) (sym is) ∙ stands.machine_keys name
+  key_is : told.snapped < t → machine.key ≡ key_place k t (allows.row).key
+  key_is later = ap (option_and_then (λ (machine : Machine). machine.key)) (sym is) ∙ stands.machine_keys name later
       ∙ ap (λ slot. key_place k t (key_of_slot slot)) allows.there
 
   -- it is finished where it is swept
@@ -263,18 +263,18 @@ module _ (told : Told) (it : Recorded) (t s : ℕ) (allows : AllowsDrop told t s
   }
 
   -- .. and of its own
-  own_stands : (swept : List MachineName) (work : Work) → is_going k t ≡ true → AreSwept k t swept
+  own_stands : (swept : List MachineName) (work : Work) → is_going k t ≡ true → told.snapped < t → AreSwept k t swept
       → StandsFor told (k.task t) t swept work
       → StandsFor new (k.task t) t swept
       (record (less machine work) { sweep = finished_line work.sweep (place_of same_machine name swept) })
-  own_stands swept work going are work_stands = record {
+  own_stands swept work going later are work_stands = record {
     task_is = work_stands.task_is;
     pings = work_stands.pings;
     obsolete = work_stands.obsolete;
     disks = work_stands.disks;
     sweep = sweep_now t swept work are work_stands.sweep;
     keys = subst (λ place. LineStands (keys_in (k.task t).goal) (λ key. not (is_compiled k key))
-        (λ key. not (is_worked_for new.known t key)) (given_line work.keys place)) (sym key_is)
+        (λ key. not (is_worked_for new.known t key)) (given_line work.keys place)) (sym (key_is later))
         (keys_given told t s allows going work.keys work_stands.keys);
     slots_are = work_stands.slots_are;
     machines_are = ap (λ c. c - 1) (work_stands.machines_are ∙ fewer)
@@ -289,20 +289,21 @@ module _ (told : Told) (it : Recorded) (t s : ℕ) (allows : AllowsDrop told t s
       one_less c = omega arith
 
   work_stands_on : (u : ℕ) (swept : List MachineName) (work : Work) → work_of it u ≡ Some work
-      → is_going k u ≡ true → AreSwept k u swept → StandsFor told (k.task u) u swept work
+      → is_going k u ≡ true → told.snapped < u → AreSwept k u swept → StandsFor told (k.task u) u swept work
       → StandsFor new (k.task u) u swept (change t s machine u work)
-  work_stands_on u swept work there going are work_stands =
+  work_stands_on u swept work there going later are work_stands =
       subst (λ line. StandsFor new (k.task u) u swept (record (of_task t (less machine) u work) { sweep = line }))
       (sym (line_is u swept work there going are (work_stands.sweep).items_are)) (by (eqb t u) refl)
     where
       own : t ≡ u → StandsFor new (k.task u) u swept (record (less machine work) {
         sweep = finished_line work.sweep (place_of same_machine name swept);
       })
-      own same = subst (λ u. is_going k u ≡ true → AreSwept k u swept → StandsFor told (k.task u) u swept work
+      own same = subst (λ u. is_going k u ≡ true → told.snapped < u → AreSwept k u swept
+          → StandsFor told (k.task u) u swept work
           → StandsFor new (k.task u) u swept (record (less machine work) {
             sweep = finished_line work.sweep (place_of same_machine name swept);
           })) same
-          (own_stands swept work) going are work_stands
+          (own_stands swept work) going later are work_stands
 
       by : (b : Bool) → eqb t u ≡ b
           → StandsFor new (k.task u) u swept (record (if b then less machine work else work) {
@@ -315,8 +316,9 @@ module _ (told : Told) (it : Recorded) (t s : ℕ) (allows : AllowsDrop told t s
   works u = subst (IsWork new u) (sym (work_is it t s machine u)) (by (work_of it u) refl (stands.works u))
     where
       by : (o : Option Work) → work_of it u ≡ o → IsWork told u o → IsWork new u (option_map (change t s machine u) o)
-      by (Some work) there (going, (swept, work_stands, are)) = (
+      by (Some work) there (going, later, (swept, work_stands, are)) = (
         going,
-        (swept, work_stands_on u swept work there going are work_stands, swept_now told t s allows u swept are),
+        later,
+        (swept, work_stands_on u swept work there going later are work_stands, swept_now told t s allows u swept are),
       )
       by None there gone = gone

@@ -70,13 +70,12 @@ module _ (told : Told) (it : Recorded) (t s : ℕ) (allows : AllowsDrop told t s
   read_now : {X : Type 0} (read : Option Machine → Option X) → read None ≡ None → (tells : MachineName → Option X)
       → (tells_now : MachineName → Option X) → tells_now name ≡ None
       → ((x : MachineName) → same_machine name x ≡ false → tells_now x ≡ tells x)
-      → ((x : MachineName) → read (machine_of it x) ≡ tells x) → (x : MachineName)
-      → read (machine_of now x) ≡ tells_now x
-  read_now read nothing tells tells_now own others was x = ap read (machine_is x) ∙ by (same_machine name x) refl
+      → (x : MachineName) → read (machine_of it x) ≡ tells x → read (machine_of now x) ≡ tells_now x
+  read_now read nothing tells tells_now own others x was = ap read (machine_is x) ∙ by (same_machine name x) refl
     where
       by : (b : Bool) → same_machine name x ≡ b → read (if b then None else machine_of it x) ≡ tells_now x
       by true same = nothing ∙ sym own ∙ ap tells_now (same_machine_is name x same)
-      by false other = was x ∙ sym (others x other)
+      by false other = was ∙ sym (others x other)
 
   own_slot : new.known.slot t s ≡ None
   own_slot = slot_now told t s allows t s ∙ (λ j. if eq-eqb t t refl j && eq-eqb s s refl j then None else k.slot t s)
@@ -128,23 +127,23 @@ module _ (told : Told) (it : Recorded) (t s : ℕ) (allows : AllowsDrop told t s
     deployments = stands.deployments;
     rows = stands.rows;
     row_calls = stands.row_calls;
-    machines = read_now (option_map (λ machine. machine.row)) refl
+    machines = λ x. read_now (option_map (λ machine. machine.row)) refl
         (λ x. option_map (row_of_slot x.task x.slot) (k.slot x.task x.slot))
         (λ x. option_map (row_of_slot x.task x.slot) (new.known.slot x.task x.slot))
         (ap (option_map (row_of_slot t s)) own_slot)
         (λ x other. ap (option_map (row_of_slot x.task x.slot))
         (slot_other told t s allows (named x.task x.slot) other))
-        stands.machines;
-    machine_keys = read_now (option_and_then (λ machine. machine.key)) refl
+        x (stands.machines x);
+    machine_keys = λ x later. read_now (option_and_then (λ machine. machine.key)) refl
         (λ x. key_place k x.task (key_of_slot (k.slot x.task x.slot)))
         (λ x. key_place k x.task (key_of_slot (new.known.slot x.task x.slot)))
         (ap (λ slot. key_place k t (key_of_slot slot)) own_slot)
         (λ x other. ap (λ slot. key_place k x.task (key_of_slot slot))
         (slot_other told t s allows (named x.task x.slot) other))
-        stands.machine_keys;
-    machine_calls = read_now (option_and_then (λ machine. machine.call)) refl
+        x (stands.machine_keys x later);
+    machine_calls = λ x. read_now (option_and_then (λ machine. machine.call)) refl
         (λ x. call_of told (Compile x.task x.slot)) (λ x. call_of told (Compile x.task x.slot)) no_call
-        (λ x other. refl) stands.machine_calls;
+        (λ x other. refl) x (stands.machine_calls x);
     orphans = stands.orphans;
     orphan_calls = stands.orphan_calls;
     digests = stands.digests;

@@ -149,13 +149,14 @@ module _ (t : ℕ) (told : Told) (it : Recorded) (own : TellsOwn told) (apart : 
         ∙ (λ j. if eqb t x then option_map (marked t told) (work_left x j) else work_left x j)
 
     own_work : (o : Option Work) → IsWork told t o → IsWork new t (option_map (marked t told) o)
-    own_work (Some work) (going, (swept, work_stands, are)) =
-        (going, (swept, marked_work t told swept work work_stands, are))
+    own_work (Some work) (going, later, (swept, work_stands, are)) =
+        (going, later, (swept, marked_work t told swept work work_stands, are))
     own_work None gone = gone
 
     other_work : (x : ℕ) → eqb t x ≡ false → (o : Option Work) → IsWork told x o → IsWork new x o
-    other_work x other (Some work) (going, (swept, work_stands, are)) = (
+    other_work x other (Some work) (going, later, (swept, work_stands, are)) = (
       going,
+      later,
       (
         swept,
         listed_goes_on told new (k.task x) x swept work (other_listed t told own apart x other going swept are) work_stands,
@@ -250,7 +251,8 @@ module _ (t : ℕ) (told : Told) (it : Recorded) (own : TellsOwn told) (apart : 
       machines = λ name. mapped (λ (machine : Machine). machine.row) (machine_of (folded t it) name)
           ∙ machine_read t it (λ machine. Some machine.row) (λ machine. refl) name
           ∙ sym (mapped (λ (machine : Machine). machine.row) (machine_of it name)) ∙ stands.machines name;
-      machine_keys = λ name. machine_read t it (λ machine. machine.key) (λ machine. refl) name ∙ stands.machine_keys name;
+      machine_keys = λ name later. machine_read t it (λ machine. machine.key) (λ machine. refl) name
+          ∙ stands.machine_keys name later;
       machine_calls = λ name. machine_call t it name
           ∙ (λ j. if list_any (is_of (owners.Compile name.task name.slot)) (begins t it) then None
           else stands.machine_calls name j)

@@ -94,10 +94,19 @@ module _ (outside : Outside) (m : Moment) (told : Told) (was now : Records) (who
         same_number : o.task ≤ o.task
         same_number = omega arith
 
+    -- no snapshot told it
+    later : told.snapped < o.task
+    later =
+        let e : o.task ≡ told.known.tasks + 1 = number in
+        let a : told.snapped ≤ m.stopped = agrees.snapped in
+        let b : m.stopped ≤ told.known.tasks =
+        leb-true m.stopped told.known.tasks (ap (nat_le m.stopped) (ap (λ (k : Known). k.tasks) agrees.known_is)
+        ∙ facts.lists.stopped_past) in omega arith
+
     pub opening_stands : Stands opening now × Fits opening (recorded now)
     opening_stands =
         task_opened_stands m told was now o whole.stands agrees facts whole.own whole.fits may sound learns
-        (going, (swept_by learns.roomy o, work.stands, work.are_swept))
+        (going, later, (swept_by learns.roomy o, work.stands, work.are_swept))
         (λ t one other is. others_go_on told o t one number other is)
         (λ name among. work.ended name
         (ap (is_among same_machine name) (sym ((work.stands).sweep).items_are) ∙ among))

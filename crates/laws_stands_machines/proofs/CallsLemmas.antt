@@ -291,7 +291,7 @@ module _ (m : Moment) (snapped : ℕ) (was now : Records) (b : Begin) (whole : S
             ap (option_and_then (keys.next_key was)) here.there
             ∙ next_placed m b.task b.worker was here.swept here.work
             (can_choose m here.snapped b.task was here.swept here.work facts working numbers here.stands
-            here.work_stands here.are_swept)
+            here.later here.work_stands here.are_swept)
             (keys_apart m facts b.task working snapped b.task (going m b.task facts working)) s nothing_there
 
     made_begins : Stands (telling told (entries.Begin b)) now

@@ -65,10 +65,11 @@ module _ (told : Told) (it : Recorded) (t s : ℕ) (slot : Slot) (allows : Allow
   none_more n = omega arith
 
   other_work : (u : ℕ) → eqb t u ≡ false → (o : Option Work) → work_of it u ≡ o → IsWork told u o → IsWork new u o
-  other_work u other (Some work) is (going, (swept, work_stands, are)) =
+  other_work u other (Some work) is (going, later, (swept, work_stands, are)) =
       let away : is_among same_machine name swept ≡ false =
       unswept u work swept is (work_stands.sweep).items_are in (
         going,
+        later,
         (
           swept,
           listed_goes_on told new (k.task u) u swept work (record {
@@ -118,10 +119,11 @@ module _ (told : Told) (it : Recorded) (t s : ℕ) (slot : Slot) (allows : Allow
       within n few = omega arith
 
   own_work : (o : Option Work) → work_of it t ≡ o → IsWork told t o → IsWork new t (option_map change o)
-  own_work (Some work) is (going, (swept, work_stands, are)) =
+  own_work (Some work) is (going, later, (swept, work_stands, are)) =
       let away : is_among same_machine name swept ≡ false =
       unswept t work swept is (work_stands.sweep).items_are in (
         going,
+        later,
         (
           swept,
           own_stands swept work away work_stands,

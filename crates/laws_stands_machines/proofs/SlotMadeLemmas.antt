@@ -81,14 +81,13 @@ module _ (told : Told) (it : Recorded) (t s : ℕ) (slot : Slot) (allows : Allow
   read_now : {X : Type 0} (read : Option Machine → X) → (tells : MachineName → X)
       → (tells_now : MachineName → X) → tells_now name ≡ read (Some machine_made)
       → ((x : MachineName) → same_machine name x ≡ false → tells_now x ≡ tells x)
-      → ((x : MachineName) → read (machine_of it x) ≡ tells x) → (x : MachineName)
-      → read (machine_of now x) ≡ tells_now x
-  read_now read tells tells_now own others was x = ap read (machine_is x) ∙ by (same_machine name x) refl
+      → (x : MachineName) → read (machine_of it x) ≡ tells x → read (machine_of now x) ≡ tells_now x
+  read_now read tells tells_now own others x was = ap read (machine_is x) ∙ by (same_machine name x) refl
     where
       by : (b : Bool) → same_machine name x ≡ b
           → read (if b then Some machine_made else machine_of it x) ≡ tells_now x
       by true same = sym own ∙ ap tells_now (same_machine_is name x same)
-      by false other = was x ∙ sym (others x other)
+      by false other = was ∙ sym (others x other)
 
   no_call : call_of told (Compile t s) ≡ None
   no_call = none_is_found (λ c. holds (λ (b : Begin). same_owner (Compile t s) b.owner) (told.calls c))
@@ -147,23 +146,23 @@ module _ (told : Told) (it : Recorded) (t s : ℕ) (slot : Slot) (allows : Allow
     deployments = stands.deployments;
     rows = stands.rows;
     row_calls = stands.row_calls;
-    machines = read_now (option_map (λ machine. machine.row))
+    machines = λ x. read_now (option_map (λ machine. machine.row))
         (λ x. option_map (row_of_slot x.task x.slot) (k.slot x.task x.slot))
         (λ x. option_map (row_of_slot x.task x.slot) (new.known.slot x.task x.slot))
         (ap (option_map (row_of_slot t s)) (own_slot told it t s slot allows))
         (λ x other. ap (option_map (row_of_slot x.task x.slot))
         (slot_other told it t s slot allows (named x.task x.slot) other))
-        stands.machines;
-    machine_keys = read_now (option_and_then (λ machine. machine.key))
+        x (stands.machines x);
+    machine_keys = λ x later. read_now (option_and_then (λ machine. machine.key))
         (λ x. key_place k x.task (key_of_slot (k.slot x.task x.slot)))
         (λ x. key_place k x.task (key_of_slot (new.known.slot x.task x.slot)))
         (ap (λ o. key_place k t (key_of_slot o)) (own_slot told it t s slot allows))
         (λ x other. ap (λ o. key_place k x.task (key_of_slot o))
         (slot_other told it t s slot allows (named x.task x.slot) other))
-        stands.machine_keys;
-    machine_calls = read_now (option_and_then (λ machine. machine.call))
+        x (stands.machine_keys x later);
+    machine_calls = λ x. read_now (option_and_then (λ machine. machine.call))
         (λ x. call_of told (Compile x.task x.slot)) (λ x. call_of told (Compile x.task x.slot)) no_call
-        (λ x other. refl) stands.machine_calls;
+        (λ x other. refl) x (stands.machine_calls x);
     orphans = stands.orphans;
     orphan_calls = stands.orphan_calls;
     digests = stands.digests;

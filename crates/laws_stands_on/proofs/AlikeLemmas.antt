@@ -207,8 +207,8 @@ module _ (told : Told) (was now : Recorded) (ordered : AreOrdered now) (alike : 
     rows = λ i. instance_same (λ it. it.row) (λ it says. says.row) i ∙ stands.rows i;
     row_calls = λ i. instance_same (λ it. it.call) (λ it says. says.call) i ∙ stands.row_calls i;
     machines = λ name. ap (option_map (λ machine. machine.row)) (machine_same name) ∙ stands.machines name;
-    machine_keys = λ name. ap (option_and_then (λ machine. machine.key)) (machine_same name)
-        ∙ stands.machine_keys name;
+    machine_keys = λ name later. ap (option_and_then (λ machine. machine.key)) (machine_same name)
+        ∙ stands.machine_keys name later;
     machine_calls = λ name. ap (option_and_then (λ machine. machine.call)) (machine_same name)
         ∙ stands.machine_calls name;
     orphans = λ d. ap (option_map (λ loose. loose.orphan)) (orphan_same d) ∙ stands.orphans d;

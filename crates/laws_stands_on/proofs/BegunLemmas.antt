@@ -279,8 +279,9 @@ module _ (told : Told) (it : Recorded) (n number worker : ℕ) (call : Call) (i 
 
   own_work : (o : Option Work) → work_of it n ≡ o → IsWork told n o
       → IsWork new n (option_map (λ work. taken work (places_in noted (Instance i))) o)
-  own_work (Some work) is (going, (swept, work_stands, are_swept)) = (
+  own_work (Some work) is (going, later, (swept, work_stands, are_swept)) = (
     next_call.going_same told it b next stands n ∙ going,
+    later,
     (
       swept,
       after_call_begun told n number worker call swept work (taken work (places_in noted (Instance i))) i
@@ -314,8 +315,9 @@ module _ (told : Told) (it : Recorded) (n number worker : ℕ) (call : Call) (i 
   }
 
   other_work : (t : ℕ) → eqb n t ≡ false → (o : Option Work) → IsWork told t o → IsWork new t o
-  other_work t other (Some work) (going, (swept, work_stands, are_swept)) = (
+  other_work t other (Some work) (going, later, (swept, work_stands, are_swept)) = (
     next_call.going_same told it b next stands t ∙ going,
+    later,
     (
       swept,
       subst (λ (it : Task). StandsFor new it t swept work)
@@ -349,7 +351,7 @@ module _ (told : Told) (it : Recorded) (n number worker : ℕ) (call : Call) (i 
     rows = rows;
     row_calls = row_calls;
     machines = stands.machines;
-    machine_keys = λ name. stands.machine_keys name
+    machine_keys = λ name later. stands.machine_keys name later
         ∙ sym (next_call.task_same told it b next stands
         (λ (it : Task). option_and_then
         (λ key. first_marked (map (λ work. same_key work.key key) (keys_of it.goal)))

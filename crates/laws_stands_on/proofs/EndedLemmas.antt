@@ -359,8 +359,9 @@ module _ (told : Told) (was : Records) (it : Recorded) (n number worker : ℕ) (
 
   own_work : (o : Option Work) → work_of it n ≡ o → IsWork told n o
       → IsWork new n (option_map (ended_work asked places fail) o)
-  own_work (Some work) is (open_, (swept, work_stands, are_swept)) = (
+  own_work (Some work) is (open_, later, (swept, work_stands, are_swept)) = (
     only_call.going_same told it b answer pinged only stands n ∙ open_,
+    later,
     (
       swept,
       subst (λ (it : Told). StandsFor it (it.known.task n) n swept (ended_work asked places fail work)) told_is
@@ -408,8 +409,9 @@ module _ (told : Told) (was : Records) (it : Recorded) (n number worker : ℕ) (
   }
 
   other_work : (t : ℕ) → eqb n t ≡ false → (o : Option Work) → IsWork told t o → IsWork new t o
-  other_work t other (Some work) (open_, (swept, work_stands, are_swept)) = (
+  other_work t other (Some work) (open_, later, (swept, work_stands, are_swept)) = (
     only_call.going_same told it b answer pinged only stands t ∙ open_,
+    later,
     (
       swept,
       subst (λ (it : Task). StandsFor new it t swept work) (sym (λ j. if other j then task_now else k.task t))
@@ -437,7 +439,7 @@ module _ (told : Told) (was : Records) (it : Recorded) (n number worker : ℕ) (
     rows = rows;
     row_calls = row_calls;
     machines = stands.machines;
-    machine_keys = λ name. stands.machine_keys name
+    machine_keys = λ name later. stands.machine_keys name later
         ∙ sym (only_call.task_same told it b answer pinged only stands
         (λ (it : Task). option_and_then
         (λ key. first_marked (map (λ work. same_key work.key key) (keys_of it.goal)))

@@ -83,8 +83,9 @@ module _ (u : Update) (told : Told) (it : Recorded) (allows : AllowsUpdate told 
   -- the work of the task itself
   own_work : (o : Option Work) → work_of it n ≡ o → IsWork told n o
       → IsWork new n (option_map (λ work. work_specs.update_begun work (part_of it i).change) o)
-  own_work (Some work) is (going, (swept, work_stands, are_swept)) = (
+  own_work (Some work) is (going, later, (swept, work_stands, are_swept)) = (
     going_same n ∙ going,
+    later,
     (
       swept,
       after_update_begun told n swept work (work_specs.update_begun work (part_of it i).change) i work_stands
@@ -102,8 +103,9 @@ module _ (u : Update) (told : Told) (it : Recorded) (allows : AllowsUpdate told 
 
   -- .. and of another task
   other_work : (t : ℕ) → eqb n t ≡ false → (o : Option Work) → IsWork told t o → IsWork new t o
-  other_work t other (Some work) (going, (swept, work_stands, are_swept)) = (
+  other_work t other (Some work) (going, later, (swept, work_stands, are_swept)) = (
     going_same t ∙ going,
+    later,
     (
       swept,
       subst (λ (it : Task). StandsFor new it t swept work)
@@ -161,7 +163,7 @@ module _ (u : Update) (told : Told) (it : Recorded) (allows : AllowsUpdate told 
     rows = stands.rows;
     row_calls = stands.row_calls;
     machines = stands.machines;
-    machine_keys = λ name. stands.machine_keys name
+    machine_keys = λ name later. stands.machine_keys name later
         ∙ sym (task_same
         (λ (it : Task). option_and_then
         (λ key. first_marked (map (λ work. same_key work.key key) (keys_of it.goal)))

@@ -28,8 +28,11 @@ works_go_on told new it now change on stood t =
     subst (IsWork new t) (sym (on.works t)) (by (work_of it t) refl (stood t))
   where
     by : (o : Option Work) → work_of it t ≡ o → IsWork told t o → IsWork new t (option_map (change t) o)
-    by (Some work) is (going, (swept, stands, are_swept)) =
-        (on.going t ∙ going, (swept, on.stands t swept work is going stands, on.swept t swept are_swept))
+    by (Some work) is (going, later, (swept, stands, are_swept)) = (
+      on.going t ∙ going,
+      subst (λ n. n < t) (sym on.snapped) later,
+      (swept, on.stands t swept work is going stands, on.swept t swept are_swept),
+    )
     by None is gone = λ later. on.going t ∙ gone (subst (λ n. n < t) on.snapped later)
 
 -- each lists what it listed

@@ -261,7 +261,7 @@ module _ (told : Told) (it : Recorded) (o : TaskOpen) (work : Work) (opens : Ope
   work_going t w is = by (work_of it t) is ((opens.stands).works t)
     where
       by : (o : Option Work) → o ≡ Some w → IsWork told t o → is_going k t ≡ true
-      by (Some work) is (open_, rest) = open_
+      by (Some work) is (open_, later, rest) = open_
       by None is gone = absurd cc
 
   -- no open task is of its deployment yet

@@ -253,8 +253,8 @@ module _ (told : Told) (it : Recorded) (o : TaskOpen) (work : Work) (opens : Ope
     machines = λ name. mapped (λ (machine : Machine). machine.row) (machine_of it_now name)
         ∙ machine_kept told it o work opens (λ machine. Some machine.row) (λ p machine. refl) name
         ∙ sym (mapped (λ (machine : Machine). machine.row) (machine_of it name)) ∙ (opens.stands).machines name;
-    machine_keys = λ name. machine_kept told it o work opens (λ machine. machine.key) (λ p machine. refl) name
-        ∙ (opens.stands).machine_keys name ∙ machine_keys_now name;
+    machine_keys = λ name later. machine_kept told it o work opens (λ machine. machine.key) (λ p machine. refl) name
+        ∙ (opens.stands).machine_keys name later ∙ machine_keys_now name;
     machine_calls = λ name. machine_kept told it o work opens (λ machine. machine.call) (λ p machine. refl) name
         ∙ (opens.stands).machine_calls name;
     orphans = λ d. mapped (λ (loose : LooseDisk). loose.orphan) (orphan_of it_now d)

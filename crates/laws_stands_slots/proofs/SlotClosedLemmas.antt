@@ -347,8 +347,9 @@ module _ (told : Told) (was : Records) (it : Recorded) (n number worker : ℕ) (
 
   own_work : (o : Option Work) → work_of it n ≡ o → IsWork told n o
       → IsWork new n (option_map (ended_work asked places fail) o)
-  own_work (Some work) is (going, (swept, work_stands, are_swept)) = (
+  own_work (Some work) is (going, later, (swept, work_stands, are_swept)) = (
     going_same told it b answer (k.task n).pinged only stands n ∙ going,
+    later,
     (
       swept,
       subst (λ w. StandsFor new (new.known.task n) n swept w)
@@ -386,8 +387,9 @@ module _ (told : Told) (was : Records) (it : Recorded) (n number worker : ℕ) (
           (swept_never k u swept are name some_there (allows.not_left u other going)) is
 
   other_work : (u : ℕ) → eqb n u ≡ false → (o : Option Work) → IsWork told u o → IsWork new u o
-  other_work u other (Some work) (going, (swept, work_stands, are_swept)) = (
+  other_work u other (Some work) (going, later, (swept, work_stands, are_swept)) = (
     going_same told it b answer (k.task n).pinged only stands u ∙ going,
+    later,
     (
       swept,
       subst (λ (it : Task). StandsFor new it u swept work) (sym (λ j. if other j then task_now else k.task u))
@@ -462,10 +464,10 @@ module _ (told : Told) (was : Records) (it : Recorded) (n number worker : ℕ) (
     row_calls = λ x. stands.row_calls x
         ∙ sym (other_calls told it b answer (k.task n).pinged only stands (Instance x) refl);
     machines = λ x. parts_same (λ (machine : Machine). machine.row) (λ machine. refl) x ∙ stands.machines x;
-    machine_keys = λ x. joined (λ (machine : Machine). machine.key) (machine_of ended x)
+    machine_keys = λ x later. joined (λ (machine : Machine). machine.key) (machine_of ended x)
         ∙ ap (option_and_then (λ x. x)) (parts_same (λ (machine : Machine). machine.key) (λ machine. refl) x)
         ∙ sym (joined (λ (machine : Machine). machine.key) (machine_of it x))
-        ∙ stands.machine_keys x
+        ∙ stands.machine_keys x later
         ∙ sym (task_same told it b answer (k.task n).pinged only stands
         (λ (it : Task). option_and_then
         (λ key. first_marked (map (λ work. same_key work.key key) (keys_of it.goal)))

@@ -167,8 +167,9 @@ module _ (told : Told) (it : Recorded) (t s : ℕ) (f : Slot → Slot) (g : Comp
   works u = by (work_of it u) (stands.works u)
     where
       by : (o : Option Work) → IsWork told u o → IsWork new u o
-      by (Some work) (going, (swept, work_stands, are_swept)) = (
+      by (Some work) (going, later, (swept, work_stands, are_swept)) = (
         going,
+        later,
         (
           swept,
           listed_goes_on told new (k.task u) u swept work (same_for u swept) work_stands,
@@ -231,7 +232,7 @@ module _ (told : Told) (it : Recorded) (t s : ℕ) (f : Slot → Slot) (g : Comp
     rows = stands.rows;
     row_calls = stands.row_calls;
     machines = machines;
-    machine_keys = λ x. joined_parts (λ machine. machine.key) (λ machine. refl) x ∙ stands.machine_keys x
+    machine_keys = λ x later. joined_parts (λ machine. machine.key) (λ machine. refl) x ∙ stands.machine_keys x later
         ∙ ap (key_place k x.task) (sym (keys_same x.task x.slot));
     machine_calls = λ x. joined_parts (λ machine. machine.call) (λ machine. refl) x ∙ stands.machine_calls x;
     orphans = stands.orphans;

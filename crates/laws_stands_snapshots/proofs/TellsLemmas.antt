@@ -307,7 +307,7 @@ module _ (told : Told) (s : Snapshot) (r : IsReadable s) where
     rows = rows_are s r;
     row_calls = λ i. no_call s r i ∙ no_open_call (Instance i);
     machines = machines_are;
-    machine_keys = machine_keys_are;
+    machine_keys = λ name later. machine_keys_are name;
     machine_calls = machine_calls_are;
     orphans = orphans_are;
     orphan_calls = orphan_calls_are;

@@ -81,8 +81,9 @@ module _ (told : Told) (it : Recorded) (i : Inst) (disks : List DiskRow) (listed
   }
 
   works : (t : ℕ) (o : Option Work) → IsWork told t o → IsWork told_left t o
-  works t (Some work) (going, (swept, work_stands, are_swept)) = (
+  works t (Some work) (going, later, (swept, work_stands, are_swept)) = (
     going,
+    later,
     (
       swept,
       listed_goes_on told told_left (k.task t) t swept work (same_for t swept going) work_stands,
@@ -111,7 +112,7 @@ module _ (told : Told) (it : Recorded) (i : Inst) (disks : List DiskRow) (listed
           ∙ ap (λ x. is_among eqb x (numbers_of disks)) (sym (eqb-true d found.0 found.2)) ∙ among))
 
       by : IsWork told t (Some w) → place_of eqb d w.disks.items ≡ None
-      by (going, (swept, work_stands, are_swept)) =
+      by (going, later, (swept, work_stands, are_swept)) =
           ap (place_of eqb d) (work_stands.disks).items_are
           ∙ none going (place_of eqb d (k.task t).disks) refl
 

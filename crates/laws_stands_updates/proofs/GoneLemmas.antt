@@ -254,7 +254,7 @@ module _ (u : Update) (told : Told) (it : Recorded) (going : is_going told.known
     row_calls = λ x. kept_of i said it.instances left.instances instance_is (λ known. known.call) (λ known. refl) x
         ∙ stands.row_calls x;
     machines = stands.machines;
-    machine_keys = λ name. stands.machine_keys name
+    machine_keys = λ name later. stands.machine_keys name later
         ∙ sym (task_same
         (λ (it : Task). option_and_then
         (λ key. first_marked (map (λ work. same_key work.key key) (keys_of it.goal)))

@@ -41,8 +41,9 @@ module _ (told : Told) (o : TaskOpen) (t : ℕ) (next : o.task ≡ told.known.ta
       (sym same_task) are
 
   go_on : (work : Option Work) → IsWork told t work → IsWork new t work
-  go_on (Some work) (going, (swept, stands, are)) = (
+  go_on (Some work) (going, later, (swept, stands, are)) = (
     same_going ∙ going,
+    later,
     (
       swept,
       subst (λ task. StandsFor new task t swept work) (sym same_task)
