@@ -1,12 +1,13 @@
 -- What a site is that was loaded.
 use Rattle.std.proofs.Common.{◌≡◌, ◌≤◌, ℕ, ◌-◌, Bool, true, false, Option, None, List, [], ◌++◌, sym, ◌∙◌, ap, subst, inr}
 use Rattle.std.proofs.Common.{Result, Ok, Err, append-nil, arith, length, map, drop}
-use Rattle.std.specs.Prelude.{◌⊎◌, IfErr, IfOk}
+use Rattle.std.specs.Prelude.{◌⊎◌, IfErr, IfOk, IfSome}
 use Rattle.bosh_base.specs.declared.moves.Move.TheVariants.{Note}
 use Rattle.bosh_asks.specs.declared.fault.BookFault.{BookFault}
 use Rattle.bosh_book.specs.Starts.{IsNotLoaded, StartsFrom}
 use Rattle.bosh_book.specs.declared.book.Book.{Book}
 use Rattle.bosh_cloud.specs.CloudView.{CloudView}
+use Rattle.bosh_journal.specs.Kept.{IsKept}
 use Rattle.bosh_moves.proofs.TellLemmas.{of_on, story_all, story_on}
 use Rattle.bosh_moves.specs.Story.{HistoryView, halts, story}
 use Rattle.bosh_ports.specs.Rigged.{RigState, broken_of, faults_of}
@@ -49,14 +50,17 @@ begins book history count effects stopped stale is read running fresh = record {
 pub joins : {K L : Type 0} {k : keeper.Ghosts K} {l : keeper.Ghosts L} (bodies : K → Option (List (List ℕ))) (faults : K → ℕ)
     (is_broken : K → Bool) (store : K) (cloud : CloudView L) (book : Book (RigState K)) (was site : Site K L k l) →
     StartsFrom {T = Unit {0}} (bodies_of bodies) (faults_of faults) (broken_of is_broken) true (without_rigs store) (Ok tt) book →
+    IfSome (bodies store) (λ _. IsKept (bodies_of bodies) book.journal) →
     IsJoined book cloud was → Comes was [] site → KeepsBooks was site → IsAllTold site →
     Joins bodies faults is_broken store cloud site
-joins bodies faults is_broken store cloud book was site starts joined comes keeps told =
+joins bodies faults is_broken store cloud book was site starts kept joined comes keeps told =
     let same : site.book ≡ book = keeps.same_book ∙ joined.same_book in
     record {
       book =
           subst (λ (it : Book (RigState _)). StartsFrom {T = Unit {0}} (bodies_of bodies) (faults_of faults)
           (broken_of is_broken) true (without_rigs store) (Ok tt) it) (sym same) starts;
+      book_kept =
+          subst (λ (it : Book (RigState _)). IfSome (bodies store) (λ _. IsKept (bodies_of bodies) it.journal)) (sym same) kept;
       same_cloud = keeps.same_cloud ∙ joined.same_cloud;
       opening = keeps.same_opening ∙ joined.opening ∙ ap (λ it. (read_count it, length cloud.effects)) (sym same);
       moves_of =
@@ -79,11 +83,12 @@ pub joins_if : {K L F : Type 0} {k : keeper.Ghosts K} {l : keeper.Ghosts L} (bod
     (faults : K → ℕ) (is_broken : K → Bool) (store : K) (cloud : CloudView L) (book : Book (RigState K))
     (was : Site K L k l) (result : Result (Site K L k l) F) →
     StartsFrom {T = Unit {0}} (bodies_of bodies) (faults_of faults) (broken_of is_broken) true (without_rigs store) (Ok tt) book →
+    IfSome (bodies store) (λ _. IsKept (bodies_of bodies) book.journal) →
     IsJoined book cloud was → IfOk result (λ site. Comes was [] site × KeepsBooks was site × IsAllTold site) →
     IfOk result (Joins bodies faults is_broken store cloud)
-joins_if bodies faults is_broken store cloud book was (Ok site) starts joined begun =
-    joins bodies faults is_broken store cloud book was site starts joined begun.0 begun.1 begun.2
-joins_if bodies faults is_broken store cloud book was (Err back) starts joined begun = tt
+joins_if bodies faults is_broken store cloud book was (Ok site) starts kept joined begun =
+    joins bodies faults is_broken store cloud book was site starts kept joined begun.0 begun.1 begun.2
+joins_if bodies faults is_broken store cloud book was (Err back) starts kept joined begun = tt
 
 -- there was no memory to tell them
 pub untold : {K L : Type 0} {k : keeper.Ghosts K} {l : keeper.Ghosts L} (bodies : K → Option (List (List ℕ)))
@@ -113,6 +118,13 @@ untold_if bodies faults is_broken store cloud book was (Err back) starts joined 
     untold bodies faults is_broken store cloud book was back.store back.cloud back.fault starts joined refused
 
 -- the store of the load was without rigs
+pub kept_unrigged : {K : Type 0} (bodies : K → Option (List (List ℕ))) (store : K) (rigged : RigState K)
+    (book : Book (RigState K)) → rigged ≡ without_rigs store →
+    IfSome (bodies_of bodies rigged) (λ _. IsKept (bodies_of bodies) book.journal) →
+    IfSome (bodies store) (λ _. IsKept (bodies_of bodies) book.journal)
+kept_unrigged bodies store rigged book is kept =
+    subst (λ (it : RigState _). IfSome (bodies_of bodies it) (λ _. IsKept (bodies_of bodies) book.journal)) is kept
+
 pub starts_unrigged : {K : Type 0} (bodies : K → Option (List (List ℕ))) (faults : K → ℕ) (is_broken : K → Bool) (store : K)
     (rigged : RigState K) (book : Book (RigState K)) → rigged ≡ without_rigs store →
     StartsFrom {T = Unit {0}} (bodies_of bodies) (faults_of faults) (broken_of is_broken) true rigged (Ok tt) book →

@@ -9,6 +9,7 @@ use Rattle.bosh_cloud.specs.CloudView.{CloudView}
 use Rattle.bosh_cloud.specs.Loading.{IsKept}
 use Rattle.bosh_cloud.specs.Reads.{Reads}
 use Rattle.bosh_cloud.specs.declared.fault.CloudFault.{CloudFault}
+use Rattle.bosh_journal.specs.Kept as journal
 use Rattle.bosh_ports.specs.Rigged.{RigState, broken_of, faults_of}
 use Rattle.bosh_world.specs.Faults.{of_book, of_cloud}
 use Rattle.bosh_world.specs.Restarts.{read_count}
@@ -30,6 +31,7 @@ pub record Loads {K L : Type 0} {k : keeper.Ghosts K} {l : keeper.Ghosts L}
     Type 0 where
   pub book : StartsFrom {T = Unit {0}} (bodies_of bodies) (faults_of faults) (broken_of is_broken) true (without_rigs store)
       (Ok tt) site.book
+  pub book_kept : IfSome (bodies store) (λ _. journal.IsKept (bodies_of bodies) site.book.journal)
   pub cloud_of : Reads cloud_bodies cloud_faults cloud (Ok site.cloud.effects) site.cloud.store
   pub cloud_kept : IfSome (cloud_bodies cloud) (λ _. IsKept cloud_bodies site.cloud)
   pub fresh : site.cloud ≡ record site.cloud { dooms = []; fired = 0; is_stale = false }
@@ -88,6 +90,7 @@ pub record Joins {K L : Type 0} {k : keeper.Ghosts K} {l : keeper.Ghosts L}
     (site : Site K L k l) : Type 0 where
   pub book : StartsFrom {T = Unit {0}} (bodies_of bodies) (faults_of faults) (broken_of is_broken) true (without_rigs store)
       (Ok tt) site.book
+  pub book_kept : IfSome (bodies store) (λ _. journal.IsKept (bodies_of bodies) site.book.journal)
   pub same_cloud : site.cloud ≡ cloud
   pub opening : site.opening ≡ (read_count site.book, length cloud.effects)
   pub moves_of : site.history.moves ≡ map moves.Note (drop (read_count site.book) site.book.journal.entries)

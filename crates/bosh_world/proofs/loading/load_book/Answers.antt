@@ -1,5 +1,5 @@
 use Rattle.std.proofs.Common.{inl}
-use Rattle.bosh_world.proofs.LoadLemmas.{joins_if, starts_unrigged, unloaded_unrigged, untold_if}
+use Rattle.bosh_world.proofs.LoadLemmas.{joins_if, kept_unrigged, starts_unrigged, unloaded_unrigged, untold_if}
 use Rattle.bosh_world.proofs.loading.load_book.Goals as goal
 
 pub returns-in-Ok-clause-loaded : goal.returns-in-Ok-clause-loaded
@@ -8,6 +8,7 @@ returns-in-Ok-clause-loaded g c =
     c.joined.result c.begin.result
     (starts_unrigged g.K.Keeper.bodies g.K.Keeper.faults g.K.Keeper.is_broken c.args.store c.new.result c.in-Ok.book
     c.new.ensures c.in-Ok.ensures.loaded)
+    (kept_unrigged g.K.Keeper.bodies c.args.store c.new.result c.in-Ok.book c.new.ensures c.in-Ok.ensures.kept)
     c.joined.ensures.joined c.begin.ensures.begun
 
 pub returns-in-Ok-clause-refused : goal.returns-in-Ok-clause-refused
