@@ -15,7 +15,7 @@ moment_of_last o moves move = fold-append later (beginning o) moves (move ∷ []
 run_front : (outside : Outside) (m : Moment) (moves more : List Move)
     → IsRunFrom outside m (moves ++ more) → IsRunFrom outside m moves
 run_front outside m [] more run = tt
-run_front outside m (move ∷ moves) more run = (run.0, run_front outside (later m move) moves more run.1)
+run_front outside m (move ∷ moves) more run = (run.0, run_front outside (later m move) moves more run.1, run.2)
 
 pub front_of_run : (outside : Outside) (o : Opening) (moves more : List Move)
     → IsRun outside o (moves ++ more) → IsRun outside o moves
@@ -35,7 +35,8 @@ rest_of_run outside o moves more run = run_rest outside (beginning o) moves more
 run_append : (outside : Outside) (m : Moment) (moves more : List Move)
     → IsRunFrom outside m moves → IsRunFrom outside (fold later m moves) more → IsRunFrom outside m (moves ++ more)
 run_append outside m [] more run rest = rest
-run_append outside m (move ∷ moves) more run rest = (run.0, run_append outside (later m move) moves more run.1 rest)
+run_append outside m (move ∷ moves) more run rest =
+    (run.0, run_append outside (later m move) moves more run.1 rest, run.2)
 
 pub run_goes_on : (outside : Outside) (o : Opening) (moves more : List Move)
     → IsRun outside o moves → IsRunFrom outside (moment o moves) more → IsRun outside o (moves ++ more)

@@ -55,9 +55,9 @@ names_what_is_there k kind goal = deploys kind || (is_recorded k goal.dep && by_
     by_name None = true
 
 -- a deploy tells its source, and no other task does
-abbrev pub TellsSource : Entry → Type 0
-TellsSource (entries.TaskOpen o) = is_some o.source ≡ deploys o.kind
-TellsSource entry = Unit {0}
+abbrev pub HasSource : Entry → Type 0
+HasSource (entries.TaskOpen o) = is_some o.source ≡ deploys o.kind
+HasSource entry = Unit {0}
 
 -- a task of a deployment opens: a deploy, or one of its instances, or its deletion
 pub record OpensWith (k : Known) (o : TaskOpen) (goal : Goal) : Type 0 where

@@ -16,7 +16,7 @@ use Rattle.bosh_base.specs.declared.owner.Owner.{Owner}
 use Rattle.bosh_base.specs.declared.owner.Owner.TheVariants.{Instance}
 use Rattle.bosh_history.specs.Moments.{Opening, Moment, OpenCall, beginning, later, taking, with_written}
 use Rattle.bosh_history.specs.Notes.{Outside, MayNote}
-use Rattle.bosh_history.specs.Openings.{TellsSource}
+use Rattle.bosh_history.specs.Openings.{HasSource}
 use Rattle.bosh_history.specs.Recovered.{may_follow}
 use Rattle.bosh_history.specs.Words.{holds}
 use Rattle.bosh_rows.specs.Disks.{active}
@@ -57,7 +57,7 @@ can_lose effects loss = is_vm_there effects loss.vm && is_instances (vm_creation
 
 -- the entry whose append was not answered was permitted at the halt
 abbrev pub MayKeep : Outside → Moment → Option Entry → Type 0
-MayKeep outside m (Some entry) = MayNote outside m entry × (may_follow m entry ≡ true) × TellsSource entry
+MayKeep outside m (Some entry) = MayNote outside m entry × (may_follow m entry ≡ true)
 MayKeep outside m None = Unit {0}
 
 -- the write or loss whose append was not answered was
@@ -92,8 +92,7 @@ pub record Stops (outside : Outside) (m : Moment) (s : stop.Stop) : Type 0 where
 
 -- the move is permitted at the moment; between a halt and the next stop only replies stand
 abbrev pub IsPermitted : Outside → Moment → Move → Type 0
-IsPermitted outside m (moves.Note entry) =
-    (m.halted ≡ false) × (may_follow m entry ≡ true) × MayNote outside m entry × TellsSource entry
+IsPermitted outside m (moves.Note entry) = (m.halted ≡ false) × (may_follow m entry ≡ true) × MayNote outside m entry
 IsPermitted outside m (moves.Did d) = (m.halted ≡ false) × PerformsOpen outside m.effects d (m.calls d.n)
 IsPermitted outside m (moves.Wrote w) = (m.halted ≡ false) × (can_write m w.inst ≡ true)
 IsPermitted outside m (moves.Halt cause) = m.halted ≡ false
@@ -101,10 +100,21 @@ IsPermitted outside m (moves.Stop s) = Stops outside m s
 IsPermitted outside m (moves.Lost loss) = (m.halted ≡ false) × (can_lose m.effects loss ≡ true)
 IsPermitted outside m (moves.Said said) = Unit {0}
 
--- each move is permitted after those before it
+abbrev pub HasSourceWhere : Option Entry → Type 0
+HasSourceWhere (Some entry) = HasSource entry
+HasSourceWhere None = Unit {0}
+
+-- a deploy that opens tells its source: the older format alone has none
+abbrev pub TellsSource : Move → Type 0
+TellsSource (moves.Note entry) = HasSource entry
+TellsSource (moves.Stop s) = HasSourceWhere s.kept
+TellsSource move = Unit {0}
+
+-- each move is permitted after those before it, and tells what the present format tells
 abbrev pub IsRunFrom : Outside → Moment → List Move → Type 0
 IsRunFrom outside m [] = Unit {0}
-IsRunFrom outside m (move ∷ moves) = IsPermitted outside m move × IsRunFrom outside (later m move) moves
+IsRunFrom outside m (move ∷ moves) =
+    IsPermitted outside m move × IsRunFrom outside (later m move) moves × TellsSource move
 
 abbrev pub IsRun : Outside → Opening → List Move → Type 0
 IsRun outside o moves = IsRunFrom outside (beginning o) moves

@@ -278,10 +278,10 @@ module _ (m : Moment) (t worker : ℕ) (can : CanEnd m t) where
   pub over_is_done : (outside : Outside) → m.halted ≡ false → (m.known.task t).failed ≡ None
       → claim_at m t worker ≡ Over
       → IsPermitted outside m (moves.Note (entries.TaskDone t))
-  over_is_done outside goes good over = (goes, follows (entries.TaskDone t), over_ends good over, tt)
+  over_is_done outside goes good over = (goes, follows (entries.TaskDone t), over_ends good over)
 
   pub over_is_failed : (outside : Outside) (cause : Failure) → m.halted ≡ false → (m.known.task t).failed ≡ Some cause
       → claim_at m t worker ≡ Over
       → IsPermitted outside m (moves.Note (entries.TaskError (record { task = t; cause = cause })))
   over_is_failed outside cause goes is over =
-      (goes, follows (entries.TaskError (record { task = t; cause = cause })), over_fails cause is over, tt)
+      (goes, follows (entries.TaskError (record { task = t; cause = cause })), over_fails cause is over)

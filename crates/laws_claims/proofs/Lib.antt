@@ -12,7 +12,6 @@ pub mod PhaseLemmas
 pub mod Premises
 pub mod ProgressLemmas
 pub mod SlotLemmas
-pub mod SourceLemmas
 pub mod StageLemmas
 pub mod StepLemmas
 pub mod ToldLemmas

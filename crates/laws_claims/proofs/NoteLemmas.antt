@@ -38,7 +38,6 @@ use Rattle.laws_items.proofs.ListLemmas.{not_false}
 use Rattle.laws_claims.proofs.ListLemmas.{of_filtered}
 use Rattle.laws_items.proofs.PhaseLemmas.{IsLeft, of_item}
 use Rattle.laws_claims.proofs.StepLemmas.{no_step}
-use Rattle.laws_claims.proofs.SourceLemmas.{claims_tell}
 
 -- an update that neither waits nor is finished began
 goes : (upd : Upd) → (upd ≡ Failed → ⊥) → is_waiting upd ≡ false → is_finished upd ≡ false → is_busy upd ≡ true
@@ -252,9 +251,5 @@ claims_note outside m t worker entry can noted = by (is_some (m.known.task t).en
 
 pub claims_are_permitted : (outside : Outside) (m : Moment) (t worker : ℕ) (entry : Entry) → CanNote m t
     → m.halted ≡ false → claim_at m t worker ≡ Noted entry → IsPermitted outside m (moves.Note entry)
-claims_are_permitted outside m t worker entry can goes noted = (
-  goes,
-  (λ j. not (can.is_recovered j) || is_interruption entry),
-  claims_note outside m t worker entry can noted,
-  claims_tell m t worker entry noted,
-)
+claims_are_permitted outside m t worker entry can goes noted =
+    (goes, (λ j. not (can.is_recovered j) || is_interruption entry), claims_note outside m t worker entry can noted)

@@ -163,7 +163,7 @@ module _ (m : Moment) (effects : List Entry) (calls : ℕ → Option OpenCall) (
 
   -- .. the entry that is kept
   pub kept_stays : (outside : Outside) (kept : Option Entry) → MayKeep outside m kept → MayKeep outside now kept
-  kept_stays outside (Some e) may = (note_stays outside e may.0, may.1, may.2)
+  kept_stays outside (Some e) may = (note_stays outside e may.0, may.1)
   kept_stays outside None may = may
 
 -- nothing was performed

@@ -22,6 +22,7 @@ use Rattle.bosh_history.specs.Fit.{IsFit}
 use Rattle.bosh_history.specs.Held.{is_open}
 use Rattle.bosh_history.specs.Moments.{Moment, Opening}
 use Rattle.bosh_history.specs.Notes.{Outside}
+use Rattle.bosh_history.specs.Openings.{HasSource}
 use Rattle.bosh_history.specs.Permitted.{IsPermitted}
 use Rattle.bosh_history.specs.Tasks as history
 use Rattle.bosh_ports.specs.declared.keeper.Keeper as keeper
@@ -100,6 +101,13 @@ closing_is told records t work (Some failure) end is begun stopped comes =
     by true is = ap (closing t) (sym (some_end (end_of told.known failure) end is))
         ∙ of_failure failure (told.known.begun (number_of failure)) (begun failure refl) (stopped failure refl)
     by false is = absurd (let no = is in cc)
+
+-- the end of a task opens none, so that it has no source to tell
+pub closing_tells : (task : ℕ) (end : TaskEnd) → HasSource (closing task end)
+closing_tells task ends.Finished = tt
+closing_tells task (ends.Fault n method owner) = tt
+closing_tells task ends.Interrupted = tt
+closing_tells task (ends.Gone n method owner) = tt
 
 module _ {K L : Type 0} {k : keeper.Ghosts K} {l : keeper.Ghosts L} (outside : Outside) (bodies : K → Option (List (List ℕ)))
     (cloud_bodies : L → Option (List (List ℕ))) (o : Opening) (site : Site K L k l) (t : ℕ) (fit : IsFit outside o)

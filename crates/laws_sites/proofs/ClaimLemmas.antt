@@ -73,7 +73,7 @@ run_then outside m [] other may = (tt, may)
 run_then outside m (e ∷ one) other may =
     let rest : IsRunFrom outside (noting m e) (map moves.Note one)
     × IsRunFrom outside (fold later (noting m e) (map moves.Note one)) (map moves.Note other) =
-    run_then outside (noting m e) one other may.1 in ((may.0, rest.0), rest.1)
+    run_then outside (noting m e) one other may.1 in ((may.0, rest.0, may.2), rest.1)
 
 -- ---- what notes leave
 

@@ -1,5 +1,5 @@
 -- A site stays good as a task ends.
-use Rattle.std.proofs.Common.{◌≡◌, ◌∙◌, ◌<◌, ◌≤◌, ℕ, Bool, true, false, List, [], ◌∷◌, Option, Some, None, arith, refl, subst, sym, inl, inr}
+use Rattle.std.proofs.Common.{◌≡◌, ◌∙◌, ◌<◌, ◌≤◌, ℕ, Bool, true, false, List, [], ◌∷◌, Option, Some, None, arith, map, refl, subst, sym, inl, inr}
 use Rattle.std.specs.Prelude.{◌&&◌, nat_le, nat_lt}
 use Rattle.std.specs.Option.{option_and_then}
 use Rattle.std.proofs.lemmas.Bool.{and_from, and_parts, leb-true, ltb-false, true≢false}
@@ -16,7 +16,7 @@ use Rattle.bosh_history.specs.Known.{Known}
 use Rattle.bosh_history.specs.Learn.{learn}
 use Rattle.bosh_history.specs.Moments.{Moment, Opening, noting}
 use Rattle.bosh_history.specs.Notes.{Outside}
-use Rattle.bosh_history.specs.Permitted.{IsPermitted}
+use Rattle.bosh_history.specs.Permitted.{IsPermitted, IsRunFrom}
 use Rattle.bosh_history.specs.Recovered.{is_recovering}
 use Rattle.bosh_ports.specs.Rigged.{RigState}
 use Rattle.bosh_ports.specs.declared.keeper.Keeper as keeper
@@ -32,7 +32,7 @@ use Rattle.laws_facts.proofs.WorkLemmas.{none_to}
 use Rattle.laws_facts.specs.Owners.{works}
 use Rattle.laws_held.proofs.HeldLemmas.{run_holds}
 use Rattle.laws_sites.proofs.CallLemmas.{calls_on}
-use Rattle.laws_sites.proofs.ChoiceLemmas.{end_lawful}
+use Rattle.laws_sites.proofs.ChoiceLemmas.{closing_tells, end_lawful}
 use Rattle.laws_sites.proofs.NoteLemmas.{OneMoreStands, noted_good, noted_recorded}
 use Rattle.laws_sites.proofs.StepLemmas.{book_goes_on}
 use Rattle.laws_sites.specs.Calls.{AreCalls, AreRising}
@@ -103,9 +103,9 @@ module _ (one_more : OneMoreStands) {K L : Type 0} {k : keeper.Ghosts K} {l : ke
   closed_good : coming_end was.book.records task ≡ Some end → Notes bodies faults was (closing task end ∷ []) None now
       → IsGood outside bodies cloud_bodies o now
   closed_good comes notes =
-      noted_good outside bodies cloud_bodies faults o was now (closing task end ∷ []) good notes (may, tt)
+      noted_good outside bodies cloud_bodies faults o was now (closing task end ∷ []) good notes run
       (λ read. noted_recorded one_more outside bodies cloud_bodies faults o was now (closing task end ∷ []) None
-      fit good notes (may, tt) (few m.known.last_call (goes.numbers task working), tt))
+      fit good notes run (few m.known.last_call (goes.numbers task working), tt))
       (still_recovered outside m (run_holds outside o (story_of was) fit good.run).holds.known (closing task end) may.2
       goes.recovered)
       (λ t working_on. subst (λ (n : ℕ). n ≤ 4611686018427387904) (sym (closing_count m task end))
@@ -141,6 +141,9 @@ module _ (one_more : OneMoreStands) {K L : Type 0} {k : keeper.Ghosts K} {l : ke
 
       may : IsPermitted outside m (moves.Note (closing task end))
       may = end_lawful outside bodies cloud_bodies o was task fit good notes.running working end comes
+
+      run : IsRunFrom outside m (map moves.Note (closing task end ∷ []))
+      run = (may, tt, closing_tells task end)
 
   pub ended_good : EndsTask bodies faults was task end now → IsGood outside bodies cloud_bodies o now
   ended_good (inl (told, notes, same)) = told_good notes same

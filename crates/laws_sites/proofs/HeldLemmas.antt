@@ -67,7 +67,6 @@ held_may_end outside bodies cloud_bodies o site call good running held = (
       (told_first site.history site.book.journal.entries site.cloud.effects) call.permit.n call.answer
       (find (is_of call.permit.n) site.calls.unsettled) ((moment_of o site).calls call.permit.n)
       (goes.calls call.permit.n) held.1,
-  tt,
 )
   where
     goes : GoesOn bodies cloud_bodies (moment_of o site) site

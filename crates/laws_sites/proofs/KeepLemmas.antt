@@ -159,7 +159,7 @@ module _ {K L : Type 0} {k : keeper.Ghosts K} {l : keeper.Ghosts L} (outside : O
 
   pub said_good : (reply : said.Said) → Says was reply now → IsGood outside bodies cloud_bodies o now
   said_good reply says =
-      kept_good (moves.Said reply ∷ []) refl (tt, tt) refl (books_keep (moves.Said reply ∷ []) says.comes says.keeps)
+      kept_good (moves.Said reply ∷ []) refl (tt, tt, tt) refl (books_keep (moves.Said reply ∷ []) says.comes says.keeps)
 
   pub unsaid_good : Comes was [] now → KeepsBooks was now → IsGood outside bodies cloud_bodies o now
   unsaid_good comes keeps = kept_good [] refl tt refl (books_keep [] comes keeps)

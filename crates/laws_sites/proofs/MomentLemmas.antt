@@ -4,14 +4,20 @@ use Rattle.std.specs.Prelude.{fold}
 use Rattle.std.specs.List.{filter_map}
 use Rattle.bosh_base.specs.declared.entry.Entry.{Entry}
 use Rattle.bosh_base.specs.declared.moves.Move.{Move}
+use Rattle.bosh_base.specs.declared.moves.Move.TheVariants as moves
 use Rattle.bosh_history.specs.Moments.{Moment, Opening, beginning, durable, durable_entry, later, moment}
 use Rattle.bosh_history.specs.Notes.{Outside}
-use Rattle.bosh_history.specs.Permitted.{IsRun, IsRunFrom}
+use Rattle.bosh_history.specs.Openings.{HasSource}
+use Rattle.bosh_history.specs.Permitted.{IsPermitted, IsRun, IsRunFrom}
+
+-- the entry may come next: it is permitted, and tells its source
+abbrev pub MayBeNext : Outside → Moment → Entry → Type 0
+MayBeNext outside m e = IsPermitted outside m (moves.Note e) × HasSource e
 
 pub run_from : (outside : Outside) (m : Moment) (one other : List Move) → IsRunFrom outside m one
     → IsRunFrom outside (fold later m one) other → IsRunFrom outside m (one ++ other)
 run_from outside m [] other was now = now
-run_from outside m (move ∷ one) other was now = (was.0, run_from outside (later m move) one other was.1 now)
+run_from outside m (move ∷ one) other was now = (was.0, run_from outside (later m move) one other was.1 now, was.2)
 
 pub run_on : (outside : Outside) (o : Opening) (one other : List Move) → IsRun outside o one
     → IsRunFrom outside (moment o one) other → IsRun outside o (one ++ other)

@@ -171,8 +171,8 @@ module _ (one_more : OneMoreStands) where
       → Notes bodies faults was (entries.End (record { n = call.permit.n; answer = call.answer }) ∷ []) None now
       → now.calls.unsettled ≡ without call.permit.n was.calls.unsettled → IsGood outside bodies cloud_bodies o now
   settled_good outside bodies cloud_bodies faults o was now call fit good numbers held notes calls =
-      noted_good outside bodies cloud_bodies faults o was now (ends ∷ []) good notes (may, tt)
-      (λ read. noted_recorded outside bodies cloud_bodies faults o was now (ends ∷ []) None fit good notes (may, tt)
+      noted_good outside bodies cloud_bodies faults o was now (ends ∷ []) good notes (may, tt, tt)
+      (λ read. noted_recorded outside bodies cloud_bodies faults o was now (ends ∷ []) None fit good notes (may, tt, tt)
       (numbers, tt))
       recovered numbers_next
       (subst (λ (all : List Move). AreCalls all now.calls.unsettled (later (moment_of o was) (moves.Note ends)).calls)

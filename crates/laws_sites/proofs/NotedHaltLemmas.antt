@@ -21,7 +21,7 @@ use Rattle.bosh_world.specs.declared.site.Site.{Site}
 use Rattle.laws_held.proofs.PartLemmas.{whole_moves}
 use Rattle.laws_held.specs.Whole.{Whole}
 use Rattle.laws_sites.proofs.HaltLemmas.{may_come_none}
-use Rattle.laws_sites.proofs.MomentLemmas.{later_from, run_from}
+use Rattle.laws_sites.proofs.MomentLemmas.{MayBeNext, later_from, run_from}
 use Rattle.laws_sites.proofs.NoteLemmas.{effects_noted, halted_noted}
 use Rattle.laws_sites.proofs.StepLemmas.{IsAfter, good_on, stopped}
 use Rattle.laws_sites.specs.Good.{GoesOn, IsGood, IsRecorded, MayPend, moment_of}
@@ -105,12 +105,12 @@ note_stopped outside m e may = absurd may
 
 -- what is pending may be kept
 pub pending_stopped : (outside : Outside) (m : Moment) (e : Entry) (is_broken : Bool) (pending : Option Pending)
-    → IsPermitted outside m (moves.Note e) → pending ≡ Some (added e) → MayPend outside (stopped m) is_broken pending
+    → MayBeNext outside m e → pending ≡ Some (added e) → MayPend outside (stopped m) is_broken pending
 pending_stopped outside m e is_broken pending may is =
     subst (MayPend outside (stopped m) is_broken) (sym is) (by is_broken)
   where
     by : (b : Bool) → MayPend outside (stopped m) b (Some (added e))
-    by true = (refl, (note_stopped outside m e may.2, may.1, may.3))
+    by true = (refl, (note_stopped outside m e may.0.2, may.0.1), may.1)
     by false = tt
 
 -- ---- moves that note, and then a halt
@@ -158,7 +158,7 @@ module _ {K L : Type 0} {k : keeper.Ghosts K} {l : keeper.Ghosts L} (outside : O
   noted_halt_good =
       good_on outside bodies cloud_bodies o was now (map moves.Note noted ++ moves.Halt cause ∷ []) good
       notes.comes.story notes.same_opening
-      (run_from outside (moment_of o was) (map moves.Note noted) (moves.Halt cause ∷ []) may (runs, tt))
+      (run_from outside (moment_of o was) (map moves.Note noted) (moves.Halt cause ∷ []) may (runs, tt, tt))
       (notes.book.entries ∙ ap (λ es. was.book.journal.entries ++ es) (sym (durable_halt noted cause)))
       (subst (λ (m : Moment). IsAfter outside bodies cloud_bodies m now) (sym last) (record {
         halted = sym notes.halted;

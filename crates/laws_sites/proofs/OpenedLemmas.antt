@@ -1,5 +1,5 @@
 -- A site stays good as a task opens that may, and where that is refused.
-use Rattle.std.proofs.Common.{◌≡◌, ◌∙◌, ◌<◌, ◌≤◌, ℕ, false, List, [], ◌∷◌, Option, None, arith, subst, sym}
+use Rattle.std.proofs.Common.{◌≡◌, ◌∙◌, ◌<◌, ◌≤◌, ℕ, false, List, [], ◌∷◌, Option, None, arith, map, subst, sym}
 use Rattle.std.specs.Prelude.{not, ◌||◌}
 use Rattle.bosh_asks.specs.declared.ask.Ask.{Ask}
 use Rattle.bosh_base.specs.declared.entry.Entry.{Entry}
@@ -13,8 +13,8 @@ use Rattle.bosh_calls.specs.CallsView.{CallsView}
 use Rattle.bosh_history.specs.Fit.{IsFit}
 use Rattle.bosh_history.specs.Moments.{Moment, Opening}
 use Rattle.bosh_history.specs.Notes.{MayNote, Outside}
-use Rattle.bosh_history.specs.Openings.{TellsSource}
-use Rattle.bosh_history.specs.Permitted.{IsPermitted}
+use Rattle.bosh_history.specs.Openings.{HasSource}
+use Rattle.bosh_history.specs.Permitted.{IsRunFrom}
 use Rattle.bosh_history.specs.Recovered.{is_interruption}
 use Rattle.bosh_ports.specs.declared.keeper.Keeper as keeper
 use Rattle.bosh_world.specs.Pending.{IsOpening, Pends}
@@ -25,6 +25,7 @@ use Rattle.bosh_world.specs.declared.fault.SiteFault.{SiteFault}
 use Rattle.bosh_world.specs.declared.site.Site.{Site}
 use Rattle.laws_held.proofs.HeldLemmas.{run_holds}
 use Rattle.laws_sites.proofs.CallLemmas.{calls_on}
+use Rattle.laws_sites.proofs.MomentLemmas.{MayBeNext}
 use Rattle.laws_sites.proofs.NoteLemmas.{OneMoreStands, noted_good, noted_recorded}
 use Rattle.laws_sites.proofs.NumberLemmas.{numbers_left, tasks_left}
 use Rattle.laws_sites.proofs.OpeningLemmas.{task_may_open}
@@ -42,12 +43,14 @@ module _ {K L : Type 0} {k : keeper.Ghosts K} {l : keeper.Ghosts L} (outside : O
   abbrev m : Moment
   m = moment_of o was
 
-  opening_permitted : (opening : TaskOpen) → was.history.is_halted ≡ false → MayNote outside m (entries.TaskOpen opening)
-      × TellsSource (entries.TaskOpen opening) → IsPermitted outside m (moves.Note (entries.TaskOpen opening))
-  opening_permitted opening running may = (
-    good.halted ∙ running,
-    (λ i. not ((good.runs running).recovered i) || is_interruption (entries.TaskOpen opening)),
-    may.0,
+  opening_next : (opening : TaskOpen) → was.history.is_halted ≡ false → MayNote outside m (entries.TaskOpen opening)
+      × HasSource (entries.TaskOpen opening) → MayBeNext outside m (entries.TaskOpen opening)
+  opening_next opening running may = (
+    (
+      good.halted ∙ running,
+      (λ i. not ((good.runs running).recovered i) || is_interruption (entries.TaskOpen opening)),
+      may.0,
+    ),
     may.1,
   )
 
@@ -58,7 +61,7 @@ module _ {K L : Type 0} {k : keeper.Ghosts K} {l : keeper.Ghosts L} (outside : O
   -- what opens by the records may be noted
   may_note : (ask : Ask) → IsChecked ask → is_full was.book ≡ false → was.history.is_halted ≡ false → (opening : TaskOpen)
       → IsOpeningOf was.book.records ask opening
-      → MayNote outside m (entries.TaskOpen opening) × TellsSource (entries.TaskOpen opening)
+      → MayNote outside m (entries.TaskOpen opening) × HasSource (entries.TaskOpen opening)
   may_note ask checked room running =
       let it : IsRecorded m was = good.recorded (book_goes_on was running).1 in
       task_may_open outside m it.told was.book.records it.whole.stands it.agrees
@@ -69,12 +72,12 @@ module _ {K L : Type 0} {k : keeper.Ghosts K} {l : keeper.Ghosts L} (outside : O
   pub task_good : (one_more : OneMoreStands) (ask : Ask) (task : ℕ) → IsChecked ask
       → OpensTask bodies faults was ask task now → IsGood outside bodies cloud_bodies o now
   task_good one_more ask task checked opens =
-      noted_good outside bodies cloud_bodies faults o was now (entries.TaskOpen opens.opening ∷ []) good opens.notes (may, tt)
+      noted_good outside bodies cloud_bodies faults o was now (entries.TaskOpen opens.opening ∷ []) good opens.notes run
       (λ read. noted_recorded one_more outside bodies cloud_bodies faults o was now (entries.TaskOpen opens.opening ∷ []) None
-      fit good opens.notes (may, tt)
+      fit good opens.notes run
       (fewer m.known.last_call left, tt))
       (still_recovered outside m (run_holds outside o (story_of was) fit good.run).holds.known
-      (entries.TaskOpen opens.opening) may.2 goes.recovered)
+      (entries.TaskOpen opens.opening) next.0.2 goes.recovered)
       (λ t working. enough m.known.last_call left)
       (subst (λ (all : List Move). AreCalls all now.calls.unsettled m.calls) (sym opens.notes.comes.story)
       (calls_on (story_of was) (moves.Note (entries.TaskOpen opens.opening) ∷ []) now.calls.unsettled m.calls
@@ -84,9 +87,12 @@ module _ {K L : Type 0} {k : keeper.Ghosts K} {l : keeper.Ghosts L} (outside : O
       goes : GoesOn bodies cloud_bodies m was
       goes = good.runs opens.notes.running
 
-      may : IsPermitted outside m (moves.Note (entries.TaskOpen opens.opening))
-      may = opening_permitted opens.opening opens.notes.running
+      next : MayBeNext outside m (entries.TaskOpen opens.opening)
+      next = opening_next opens.opening opens.notes.running
           (may_note ask checked opens.has_room opens.notes.running opens.opening opens.is_opening)
+
+      run : IsRunFrom outside m (map moves.Note (entries.TaskOpen opens.opening ∷ []))
+      run = (next.0, tt, next.1)
 
       left : m.known.last_call < 4611686018427387904
       left = numbers_left outside bodies cloud_bodies o was good opens.notes.running opens.has_room
@@ -102,7 +108,7 @@ module _ {K L : Type 0} {k : keeper.Ghosts K} {l : keeper.Ghosts L} (outside : O
       (λ i. (calls i).unsettled) pends may) refuses
     where
       may : was.history.is_halted ≡ false → (entry : Entry) → IsOpening was.book ask entry
-          → IsPermitted outside m (moves.Note entry)
+          → MayBeNext outside m entry
       may running entry (opening, is, room, same) =
-          subst (λ (e : Entry). IsPermitted outside m (moves.Note e)) (sym same)
-          (opening_permitted opening running (may_note ask checked room running opening is))
+          subst (MayBeNext outside m) (sym same)
+          (opening_next opening running (may_note ask checked room running opening is))

@@ -6,7 +6,7 @@ use Rattle.bosh_base.specs.declared.entry.TaskOpen.{TaskOpen}
 use Rattle.bosh_book.specs.Opens.{IsOpeningOf}
 use Rattle.bosh_history.specs.Moments.{Moment}
 use Rattle.bosh_history.specs.Notes.{MayNote, Outside}
-use Rattle.bosh_history.specs.Openings.{MayOpen, TellsSource}
+use Rattle.bosh_history.specs.Openings.{HasSource, MayOpen}
 use Rattle.bosh_history.specs.Recovered.{is_recovering}
 use Rattle.bosh_records.specs.declared.records.Records.{Records}
 use Rattle.laws_facts.specs.KnownFacts.{KnownFacts}
@@ -14,7 +14,7 @@ use Rattle.laws_stands.specs.Agrees.{Agrees}
 use Rattle.laws_stands.specs.Stands.{Stands}
 use Rattle.laws_stands.specs.Told.{Told}
 use Rattle.laws_views.proofs.CurrentLemmas.{renewed_sound}
-use Rattle.laws_views.proofs.OpenLemmas.{may_open, tells_source}
+use Rattle.laws_views.proofs.OpenLemmas.{has_source, may_open}
 use Rattle.laws_views.proofs.ReadLemmas.{next_known, reads_known}
 use Rattle.laws_views.proofs.SoundLemmas.{sound_in_bounds, sound_planned}
 use Rattle.laws_views.proofs.ViewLemmas.{stands_at, views_known}
@@ -46,7 +46,7 @@ module _ (outside : Outside) (m : Moment) (told : Told) (records : Records) (sta
   -- whatever is asked
   pub task_may_open : is_recovering m ≡ false → CanBeViewed m.known → (ask : Ask) → IsChecked ask → (opening : TaskOpen)
       → IsOpeningOf records ask opening → MayNote outside m (entries.TaskOpen opening)
-      × TellsSource (entries.TaskOpen opening)
+      × HasSource (entries.TaskOpen opening)
   task_may_open recovered viewed ask checked opening is =
       let may : MayOpen m.known opening = opens ask opening is in (
         (
@@ -58,5 +58,5 @@ module _ (outside : Outside) (m : Moment) (told : Told) (records : Records) (sta
               (λ dep. views_known m told records dep stands agrees facts viewed)) read.wanted ask opening checked
               (planned records ask opening is)),
         ),
-        tells_source records ask opening (planned records ask opening is),
+        has_source records ask opening (planned records ask opening is),
       )

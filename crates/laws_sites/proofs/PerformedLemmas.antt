@@ -96,7 +96,7 @@ module _ {K L : Type 0} {k : keeper.Ghosts K} {l : keeper.Ghosts L} (outside : O
 
   run : IsRun outside o (story_of now)
   run = subst (λ (moves : List Move). IsRun outside o moves) (sym story)
-      (run_on outside o (story_of was) (Did d ∷ []) good.run (may, tt))
+      (run_on outside o (story_of was) (Did d ∷ []) good.run (may, tt, tt))
 
   entries : durable o (story_of now) ≡ now.book.journal.entries
   entries = ap (durable o) story ∙ durable_on o (story_of was) (Did d ∷ []) ∙ append-nil (durable o (story_of was))

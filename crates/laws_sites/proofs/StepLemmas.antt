@@ -67,7 +67,7 @@ pub halted_good : {K L : Type 0} {k : keeper.Ghosts K} {l : keeper.Ghosts L} (ou
     → HasHalted outside bodies cloud_bodies (stopped (moment_of o was)) now
     → IsGood outside bodies cloud_bodies o now
 halted_good outside bodies cloud_bodies o was now cause fit good ran halted story opening entries records read halts =
-    good_on outside bodies cloud_bodies o was now (moves.Halt cause ∷ []) good story opening (good.halted ∙ ran, tt)
+    good_on outside bodies cloud_bodies o was now (moves.Halt cause ∷ []) good story opening (good.halted ∙ ran, tt, tt)
     (entries ∙ sym (append-nil was.book.journal.entries))
     (record {
       halted = sym halted;

@@ -33,11 +33,12 @@ use Rattle.bosh_world.specs.declared.site.Site.{Site}
 use Rattle.laws_facts.specs.Owners.{works}
 use Rattle.laws_held.proofs.HeldLemmas.{run_holds}
 use Rattle.laws_sites.proofs.CallLemmas.{calls_on}
-use Rattle.laws_sites.proofs.ChoiceLemmas.{end_lawful}
+use Rattle.laws_sites.proofs.ChoiceLemmas.{closing_tells, end_lawful}
 use Rattle.laws_sites.proofs.EndLemmas.{working_is}
 use Rattle.laws_sites.proofs.HaltLemmas.{gives_up_good, same_good}
 use Rattle.laws_sites.proofs.HeldLemmas.{held_may_end}
 use Rattle.laws_sites.proofs.KeepLemmas.{same_parts_good}
+use Rattle.laws_sites.proofs.MomentLemmas.{MayBeNext}
 use Rattle.laws_sites.proofs.NoteLemmas.{noted_good}
 use Rattle.laws_sites.proofs.NotedHaltLemmas.{noted_halt_good, pending_stopped}
 use Rattle.laws_sites.proofs.StepLemmas.{book_goes_on, stopped}
@@ -111,7 +112,7 @@ module _ {K L : Type 0} {k : keeper.Ghosts K} {l : keeper.Ghosts L}
   pub left_still : (was now : Site K L k l) (e : Entry → Type 0) → IsGood outside bodies cloud_bodies o was
       → now.calls.unsettled ≡ was.calls.unsettled → Pends was e now
       → (was.history.is_halted ≡ false → (entry : Entry) → e entry
-      → IsPermitted outside (moment_of o was) (moves.Note entry))
+      → MayBeNext outside (moment_of o was) entry)
       → (halt : Option Cause) → Notes bodies faults was [] halt now
       → Left outside bodies cloud_bodies o faults was now [] halt
   left_still was now e good calls pends may halt notes = record {
@@ -135,10 +136,10 @@ module _ {K L : Type 0} {k : keeper.Ghosts K} {l : keeper.Ghosts L}
       (left_still was now (IsClosing was.book.records task) good (λ i. (calls i).unsettled) pends may) refuses
     where
       may : was.history.is_halted ≡ false → (entry : Entry) → IsClosing was.book.records task entry
-          → IsPermitted outside (moment_of o was) (moves.Note entry)
+          → MayBeNext outside (moment_of o was) entry
       may running entry (end, comes, is) =
-          subst (λ (e : Entry). IsPermitted outside (moment_of o was) (moves.Note e)) (sym is)
-          (end_lawful outside bodies cloud_bodies o was task fit good running working end comes)
+          subst (MayBeNext outside (moment_of o was)) (sym is)
+          (end_lawful outside bodies cloud_bodies o was task fit good running working end comes, closing_tells task end)
         where
           recorded : IsRecorded (moment_of o was) was
           recorded = good.recorded (book_goes_on was running).1
@@ -166,8 +167,8 @@ module _ {K L : Type 0} {k : keeper.Ghosts K} {l : keeper.Ghosts L}
       refused_book_good outside bodies cloud_bodies o faults was now [] why fit good
       (left_still was now (IsAllowed (MayEnd was.book call.permit call.answer) ends) good calls pends
       (λ running entry is.
-      subst (λ (e : Entry). IsPermitted outside (moment_of o was) (moves.Note e)) (sym is.1)
-      (held_may_end outside bodies cloud_bodies o was call good running held))) refuses
+      subst (MayBeNext outside (moment_of o was)) (sym is.1)
+      (held_may_end outside bodies cloud_bodies o was call good running held, tt))) refuses
     where
       ends : Entry
       ends = entries.End (record { n = call.permit.n; answer = call.answer })

@@ -41,7 +41,7 @@ use Rattle.laws_facts.specs.Owners.{works}
 use Rattle.laws_held.proofs.HeldLemmas.{run_holds}
 use Rattle.laws_held.specs.Whole.{Whole}
 use Rattle.laws_runs.proofs.ClaimLemmas.{claims_are_lawful}
-use Rattle.laws_sites.proofs.MomentLemmas.{later_on, run_on}
+use Rattle.laws_sites.proofs.MomentLemmas.{MayBeNext, later_on, run_on}
 use Rattle.laws_sites.proofs.NoteLemmas.{OneMoreStands, all_stand}
 use Rattle.laws_stands.specs.Agrees.{Agrees, claimed_of}
 use Rattle.laws_stands.specs.Told.{Told, telling}
@@ -115,7 +115,7 @@ module _ (one_more : OneMoreStands) {K : Type 0} (bodies : K → Option (List (L
   -- where the store failed in a claim, the entry that was to come next may be noted then, and is pending
   abbrev pub Pends : Moment → List Entry → Result Claim BookFault → Book K → Type 0
   Pends m noted (Err StoreFault) now =
-      (e : Entry) × IsPermitted outside (fold later m (map moves.Note noted)) (moves.Note e)
+      (e : Entry) × MayBeNext outside (fold later m (map moves.Note noted)) e
       × (now.journal.pending ≡ Some (added e))
   Pends m noted result now = Unit {0}
 
@@ -154,22 +154,22 @@ module _ (one_more : OneMoreStands) {K : Type 0} (bodies : K → Option (List (L
   }
 
   -- an entry is noted, and that is all
-  one_noted : (m : Moment) (told : Told) (was now : Book K) (e : Entry) → IsAt m told was → IsPermitted outside m (moves.Note e)
+  one_noted : (m : Moment) (told : Told) (was now : Book K) (e : Entry) → IsAt m told was → MayBeNext outside m e
       → Adds bodies faults was (e ∷ []) now → HasNoted m told was now
   one_noted m told was now e at may adds =
       let both : StandsWhole (telling told e) now.records × Agrees (noting m e) (telling told e) =
       all_stand one_more outside m told was.records now.records (e ∷ []) (holds_at m told was at) at.whole at.agrees
-      (may, tt) (at.numbers, tt) adds.learns in
-      record { noted = e ∷ []; entries = adds.entries; may = (may, tt); whole = both.0; agrees = both.1 }
+      (may.0, tt, may.1) (at.numbers, tt) adds.learns in
+      record { noted = e ∷ []; entries = adds.entries; may = (may.0, tt, may.1); whole = both.0; agrees = both.1 }
 
   -- .. or more is noted after it
-  more_noted : (m : Moment) (told : Told) (was mid now : Book K) (e : Entry) → IsPermitted outside m (moves.Note e)
+  more_noted : (m : Moment) (told : Told) (was mid now : Book K) (e : Entry) → MayBeNext outside m e
       → Adds bodies faults was (e ∷ []) mid → HasNoted (noting m e) (telling told e) mid now → HasNoted m told was now
   more_noted m told was mid now e may adds more = record {
     noted = e ∷ more.noted;
     entries = more.entries ∙ ap (λ es. es ++ more.noted) adds.entries
         ∙ append_assoc was.journal.entries (e ∷ []) more.noted;
-    may = (may, more.may);
+    may = (may.0, more.may, may.1);
     whole = more.whole;
     agrees = more.agrees;
   }
@@ -180,7 +180,7 @@ module _ (one_more : OneMoreStands) {K : Type 0} (bodies : K → Option (List (L
   pends_on m e noted result now pends = tt
 
   more_turned : (m : Moment) (told : Told) (was mid : Book K) (result : Result Claim BookFault) (now : Book K) (e : Entry)
-      → IsPermitted outside m (moves.Note e) → Adds bodies faults was (e ∷ []) mid
+      → MayBeNext outside m e → Adds bodies faults was (e ∷ []) mid
       → HasTurned (noting m e) (telling told e) mid result now → HasTurned m told was result now
   unfolding more_noted
   more_turned m told was mid result now e may adds more = record {
@@ -199,18 +199,18 @@ module _ (one_more : OneMoreStands) {K : Type 0} (bodies : K → Option (List (L
   full_turned m told was at = record { notes = none_noted m told was was at refl; pends = tt }
 
   -- the task works on after an update, and calls have the numbers that they had
-  at_next : (m : Moment) (told : Told) (was mid : Book K) (e : Entry) → IsAt m told was → IsPermitted outside m (moves.Note e)
+  at_next : (m : Moment) (told : Told) (was mid : Book K) (e : Entry) → IsAt m told was → MayBeNext outside m e
       → Adds bodies faults was (e ∷ []) mid → works (noting m e) task ≡ true
       → (learn m.known e).last_call ≡ m.known.last_call → IsAt (noting m e) (telling told e) mid
   at_next m told was mid e at may adds working same =
       let both : StandsWhole (telling told e) mid.records × Agrees (noting m e) (telling told e) =
       all_stand one_more outside m told was.records mid.records (e ∷ []) (holds_at m told was at) at.whole at.agrees
-      (may, tt) (at.numbers, tt) adds.learns in
+      (may.0, tt, may.1) (at.numbers, tt) adds.learns in
       record {
         moves = at.moves ++ moves.Note e ∷ [];
         is = later_on o at.moves (moves.Note e ∷ []) ∙ ap (λ (it : Moment). later it (moves.Note e)) at.is;
         run = run_on outside o at.moves (moves.Note e ∷ []) at.run
-            (subst (λ (it : Moment). IsPermitted outside it (moves.Note e)) (sym at.is) may, tt);
+            (subst (λ (it : Moment). IsPermitted outside it (moves.Note e)) (sym at.is) may.0, tt, may.1);
         running = at.running;
         working = working;
         numbers = subst (λ (n : ℕ). n < 18446744073709551615) (sym same) at.numbers;
@@ -245,7 +245,7 @@ module _ (one_more : OneMoreStands) {K : Type 0} (bodies : K → Option (List (L
         by None begins = none_noted m told was mid at begins.1
         by (Some dep) (inl lacks) = absurd (no_turn (Some claim) Memory lacks.0)
         by (Some dep) (inr (value, whole, adds)) =
-            one_noted m told was mid (entries.Begin b) at (chosen (choices.Noted (entries.Begin b)) is) adds
+            one_noted m told was mid (entries.Begin b) at (chosen (choices.Noted (entries.Begin b)) is, tt) adds
     answers claim (choices.Noted (entries.UpdBegin u)) is follows = absurd (no_claim claim follows.0)
     answers claim (choices.Noted (entries.UpdDone u)) is follows = absurd (no_claim claim follows.0)
     answers claim (choices.Noted (entries.Gone u)) is follows = absurd (no_claim claim follows.0)
@@ -254,7 +254,7 @@ module _ (one_more : OneMoreStands) {K : Type 0} (bodies : K → Option (List (L
     -- one that gives none notes an update
     goes_on : {R : Type 0} (choice : Choice) → choice_of was.records task worker ≡ choice
         → claims.Follows bodies faults choice was (Ok None) mid
-        → ((e : Entry) → IsUpdate e → IsPermitted outside m (moves.Note e) → Adds bodies faults was (e ∷ []) mid → R) → R
+        → ((e : Entry) → IsUpdate e → MayBeNext outside m e → Adds bodies faults was (e ∷ []) mid → R) → R
     goes_on choices.Waits is follows more = absurd (no_end Wait follows.0)
     goes_on choices.Over is follows more = absurd (no_end Over follows.0)
     goes_on {R} (choices.Noted (entries.Begin b)) is follows more = by (dep_of was.records b.owner) follows
@@ -264,15 +264,15 @@ module _ (one_more : OneMoreStands) {K : Type 0} (bodies : K → Option (List (L
         by (Some dep) (inl lacks) = absurd (no_turn None Memory lacks.0)
         by (Some dep) (inr (value, whole, adds)) = absurd (let no = value in cc)
     goes_on (choices.Noted (entries.UpdBegin u)) is follows more =
-        more (entries.UpdBegin u) tt (chosen (choices.Noted (entries.UpdBegin u)) is) follows.2
+        more (entries.UpdBegin u) tt (chosen (choices.Noted (entries.UpdBegin u)) is, tt) follows.2
     goes_on (choices.Noted (entries.UpdDone u)) is follows more =
-        more (entries.UpdDone u) tt (chosen (choices.Noted (entries.UpdDone u)) is) follows.2
+        more (entries.UpdDone u) tt (chosen (choices.Noted (entries.UpdDone u)) is, tt) follows.2
     goes_on (choices.Noted (entries.Gone u)) is follows more =
-        more (entries.Gone u) tt (chosen (choices.Noted (entries.Gone u)) is) follows.2
+        more (entries.Gone u) tt (chosen (choices.Noted (entries.Gone u)) is, tt) follows.2
     goes_on (choices.Noted e) is follows more = absurd (no_end Wait follows.0)
 
     -- .. and one that is refused nothing: the entry may be pending
-    left_behind : (e : Entry) (fault : BookFault) → IsPermitted outside m (moves.Note e) → Adds bodies faults was [] mid
+    left_behind : (e : Entry) (fault : BookFault) → MayBeNext outside m e → Adds bodies faults was [] mid
         → LeavesPending {T = Option Claim} (Err fault) e mid.journal → HasTurned m told was (Err fault) mid
     left_behind e fault may adds leaves = record { notes = left; pends = by fault leaves }
       where
@@ -315,13 +315,13 @@ module _ (one_more : OneMoreStands) {K : Type 0} (bodies : K → Option (List (L
         by None begins = absurd (no_refusal fault (Some Wait) begins.0)
         by (Some dep) (inl lacks) = lacked fault lacks.0 lacks.1
         by (Some dep) (inr (note, fails, adds, leaves)) =
-            left_behind (entries.Begin b) fault (chosen (choices.Noted (entries.Begin b)) is) adds leaves
+            left_behind (entries.Begin b) fault (chosen (choices.Noted (entries.Begin b)) is, tt) adds leaves
     refused fault (choices.Noted (entries.UpdBegin u)) is (note, fails, adds, leaves) =
-        left_behind (entries.UpdBegin u) fault (chosen (choices.Noted (entries.UpdBegin u)) is) adds leaves
+        left_behind (entries.UpdBegin u) fault (chosen (choices.Noted (entries.UpdBegin u)) is, tt) adds leaves
     refused fault (choices.Noted (entries.UpdDone u)) is (note, fails, adds, leaves) =
-        left_behind (entries.UpdDone u) fault (chosen (choices.Noted (entries.UpdDone u)) is) adds leaves
+        left_behind (entries.UpdDone u) fault (chosen (choices.Noted (entries.UpdDone u)) is, tt) adds leaves
     refused fault (choices.Noted (entries.Gone u)) is (note, fails, adds, leaves) =
-        left_behind (entries.Gone u) fault (chosen (choices.Noted (entries.Gone u)) is) adds leaves
+        left_behind (entries.Gone u) fault (chosen (choices.Noted (entries.Gone u)) is, tt) adds leaves
     refused fault (choices.Noted e) is follows = absurd (no_refusal fault (Some Wait) follows.0)
 
     turn_refused : (fault : BookFault) → claims.Turn bodies faults task worker was (Err fault) mid

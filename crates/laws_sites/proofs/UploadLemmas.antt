@@ -25,7 +25,7 @@ use Rattle.bosh_history.specs.Learn.{learn}
 use Rattle.bosh_history.specs.Moments.{Moment, Opening, noting}
 use Rattle.bosh_history.specs.Notes as history
 use Rattle.bosh_history.specs.Notes.{MayNote, Outside}
-use Rattle.bosh_history.specs.Openings.{TellsSource}
+use Rattle.bosh_history.specs.Openings.{HasSource}
 use Rattle.bosh_history.specs.Permitted.{IsPermitted}
 use Rattle.bosh_history.specs.Recovered.{is_interruption}
 use Rattle.bosh_ports.specs.declared.keeper.Keeper as keeper
@@ -40,6 +40,7 @@ use Rattle.laws_addresses.proofs.WorkLemmas.{less_works}
 use Rattle.laws_facts.proofs.LockLemmas.{is_opening, note_stays}
 use Rattle.laws_held.proofs.HeldLemmas.{run_holds}
 use Rattle.laws_sites.proofs.CallLemmas.{calls_on}
+use Rattle.laws_sites.proofs.MomentLemmas.{MayBeNext}
 use Rattle.laws_sites.proofs.NoteLemmas.{noted_good}
 use Rattle.laws_sites.proofs.StepLemmas.{book_goes_on}
 use Rattle.laws_sites.proofs.StoppedLemmas.{left_still, refused_book_good, still_good}
@@ -178,21 +179,21 @@ module _ {K L : Type 0} {k : keeper.Ghosts K} {l : keeper.Ghosts L} (outside : O
   m = moment_of o was
 
   -- an upload opens no task, so that it has no source to tell
-  none_told : (e : Entry) → is_upload e ≡ true → TellsSource e
+  none_told : (e : Entry) → is_upload e ≡ true → HasSource e
   none_told (entries.Release release) is = tt
   none_told (entries.Stemcell stemcell) is = tt
   none_told (entries.Config file) is = tt
   none_told e is = absurd (false≢true is)
 
-  upload_permitted : (e : Entry) → is_upload e ≡ true → was.history.is_halted ≡ false → MayNote outside m e
-      → IsPermitted outside m (moves.Note e)
-  upload_permitted e is running may =
-      (good.halted ∙ running, (λ i. not ((good.runs running).recovered i) || is_interruption e), may, none_told e is)
+  upload_next : (e : Entry) → is_upload e ≡ true → was.history.is_halted ≡ false → MayNote outside m e
+      → MayBeNext outside m e
+  upload_next e is running may =
+      ((good.halted ∙ running, (λ i. not ((good.runs running).recovered i) || is_interruption e), may), none_told e is)
 
   upload_good : (e : Entry) → is_upload e ≡ true → MayNote outside m e → Notes bodies faults was (e ∷ []) None now
       → IsGood outside bodies cloud_bodies o now
   upload_good e is may_note notes =
-      noted_good outside bodies cloud_bodies faults o was now (e ∷ []) good notes (may, tt) (λ read. recorded)
+      noted_good outside bodies cloud_bodies faults o was now (e ∷ []) good notes (next.0, tt, next.1) (λ read. recorded)
       (still_recovered outside m (run_holds outside o (story_of was) fit good.run).holds.known e may_note goes.recovered)
       (λ t working. subst (λ (n : ℕ). n ≤ 4611686018427387904) (sym (upload_count m.known e is))
       (goes.numbers t (less_works m e t (note_stays outside m e may_note (upload_opens e is) t) working)))
@@ -208,14 +209,14 @@ module _ {K L : Type 0} {k : keeper.Ghosts K} {l : keeper.Ghosts L} (outside : O
       it : IsRecorded m was
       it = good.recorded (book_goes_on was notes.running).1
 
-      may : IsPermitted outside m (moves.Note e)
-      may = upload_permitted e is notes.running may_note
+      next : MayBeNext outside m e
+      next = upload_next e is notes.running may_note
 
       recorded : IsRecorded (noting m e) now
       recorded = record {
         told = telling it.told e;
         agrees = move_agrees outside m it.told (moves.Note e) it.agrees
-            (run_holds outside o (story_of was) fit good.run).holds.known it.whole.stands.tells_well may;
+            (run_holds outside o (story_of was) fit good.run).holds.known it.whole.stands.tells_well next.0;
         whole = learned_whole outside m it.told was.book.records now.book.records e is may_note it.agrees it.whole
             notes.book.learns;
       }
@@ -234,8 +235,8 @@ module _ {K L : Type 0} {k : keeper.Ghosts K} {l : keeper.Ghosts L} (outside : O
   upload_refused e upload Allowed why may refuses pends =
       refused_book_good outside bodies cloud_bodies o faults was now [] why fit good
       (left_still bodies cloud_bodies faults outside o was now (IsAllowed Allowed e) good (λ i. (calls i).unsettled) pends
-      (λ running entry is. subst (λ (it : Entry). IsPermitted outside m (moves.Note it)) (sym is.1)
-      (upload_permitted e upload running (may running is.0)))) refuses
+      (λ running entry is. subst (MayBeNext outside m) (sym is.1)
+      (upload_next e upload running (may running is.0)))) refuses
 
   -- ---- releases, stemcells, configs
 

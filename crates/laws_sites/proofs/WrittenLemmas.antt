@@ -19,7 +19,7 @@ use Rattle.bosh_calls.specs.CallsView.{CallsView}
 use Rattle.bosh_history.specs.Fit.{IsFit}
 use Rattle.bosh_history.specs.Moments.{Moment, Opening, durable_entry, later, with_written, write_to}
 use Rattle.bosh_history.specs.Notes.{Outside}
-use Rattle.bosh_history.specs.Permitted.{IsPermitted, MayWrite, can_lose, can_write, has_active}
+use Rattle.bosh_history.specs.Permitted.{IsPermitted, TellsSource, MayWrite, can_lose, can_write, has_active}
 use Rattle.bosh_history.specs.Permitted as history
 use Rattle.bosh_history.specs.Recovered.{is_recovering}
 use Rattle.bosh_history.specs.Words.{holds, is_among}
@@ -75,15 +75,15 @@ module _ {K L : Type 0} {k : keeper.Ghosts K} {l : keeper.Ghosts L} (outside : O
   -- ---- the cloud changes as a move tells that is permitted
 
   changed_good : (done : Entry) (move : Move) → Changes cloud_bodies faults was done move now
-      → IsPermitted outside m move
+      → IsPermitted outside m move → TellsSource move
       → filter_map durable_entry (move ∷ []) ≡ [] → (later m move).halted ≡ m.halted
       → is_recovering (later m move) ≡ is_recovering m → ((t : ℕ) → works (later m move) t ≡ works m t)
       → (later m move).known.last_call ≡ m.known.last_call → (later m move).calls ≡ m.calls
       → (later m move).effects ≡ m.effects ++ done ∷ []
       → ((told : Told) → Agrees m told → TellsWell told → Agrees (later m move) told)
       → IsGood outside bodies cloud_bodies o now
-  changed_good done move changes may nothing same_halt same_recovery same_work same_number same_calls effects agrees =
-      good_on outside bodies cloud_bodies o was now (move ∷ []) good changes.comes.story changes.same_opening (may, tt)
+  changed_good done move changes may source nothing same_halt same_recovery same_work same_number same_calls effects agrees =
+      good_on outside bodies cloud_bodies o was now (move ∷ []) good changes.comes.story changes.same_opening (may, tt, source)
       ((λ i. (changes.same_book i).journal.entries) ∙ sym (append-nil was.book.journal.entries)
       ∙ ap (λ es. was.book.journal.entries ++ es) (sym nothing))
       (record {
@@ -193,7 +193,7 @@ module _ {K L : Type 0} {k : keeper.Ghosts K} {l : keeper.Ghosts L} (outside : O
         (moves.Wrote (record { inst = inst; text = text })) now → IsGood outside bodies cloud_bodies o now
     wrote_good changes =
         changed_good (entries.Write (record { disk = disk; text = text }))
-        (moves.Wrote (record { inst = inst; text = text })) changes (good.halted ∙ ran, can) refl refl refl (λ t. refl) refl
+        (moves.Wrote (record { inst = inst; text = text })) changes (good.halted ∙ ran, can) tt refl refl refl (λ t. refl) refl
         refl is_written
         (λ told agrees well. move_agrees outside m told (moves.Wrote (record { inst = inst; text = text })) agrees
         (run_facts outside o (story_of was) fit good.run) well (good.halted ∙ ran, can))
@@ -218,7 +218,7 @@ module _ {K L : Type 0} {k : keeper.Ghosts K} {l : keeper.Ghosts L} (outside : O
     pub lost_good : Changes cloud_bodies faults was (entries.Lost loss) (moves.Lost loss) now
         → IsGood outside bodies cloud_bodies o now
     lost_good changes =
-        changed_good (entries.Lost loss) (moves.Lost loss) changes (good.halted ∙ ran, can_be_lost) refl refl refl
+        changed_good (entries.Lost loss) (moves.Lost loss) changes (good.halted ∙ ran, can_be_lost) tt refl refl refl
         (λ t. refl) refl refl refl
         (λ told agrees well. move_agrees outside m told (moves.Lost loss) agrees
         (run_facts outside o (story_of was) fit good.run) well (good.halted ∙ ran, can_be_lost))

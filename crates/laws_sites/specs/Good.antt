@@ -7,6 +7,7 @@ use Rattle.bosh_cloud.specs.Loading as cloud
 use Rattle.bosh_entry.specs.Body.{spelling}
 use Rattle.bosh_history.specs.Moments.{Moment, Opening, durable, moment, taking, with_written}
 use Rattle.bosh_history.specs.Notes.{Outside}
+use Rattle.bosh_history.specs.Openings.{HasSource}
 use Rattle.bosh_history.specs.Permitted.{IsRun, MayKeep, MayTake, MayWrite}
 use Rattle.bosh_history.specs.Recovered.{is_recovering}
 use Rattle.bosh_journal.specs.JournalView.{Pending}
@@ -40,7 +41,7 @@ pub record GoesOn {K L : Type 0} {k : keeper.Ghosts K} {l : keeper.Ghosts L}
 
 -- what the director's store may have besides was permitted at the halt
 abbrev pub MayPend : Outside → Moment → Bool → Option Pending → Type 0
-MayPend outside m true (Some it) = (it.is_alone ≡ false) × MayKeep outside m (Some it.entry)
+MayPend outside m true (Some it) = (it.is_alone ≡ false) × MayKeep outside m (Some it.entry) × HasSource it.entry
 MayPend outside m is_broken pending = Unit {0}
 
 -- .. and what the cloud's store may have besides, after what was done in the stop

@@ -263,7 +263,7 @@ module _ (outside : Outside) (m : Moment) (told : Told) (agrees : Agrees m told)
         live = λ n call is. absurd cc;
         left = λ n b is gone. subst (λ k. b.task ≤ k) (ap (λ k. k.tasks) (sym known_is)) (was_opened n b is);
       }
-      by (Some entry) (may, follows, source) = record {
+      by (Some entry) (may, follows) = record {
         known_is = ap (λ k. learn k entry) (agrees.known_is ∙ sym known_is);
         snapped = subst (λ k. snapped_after entry told.snapped ≤ (learn k entry).tasks) (sym known_is)
             (subst (λ n. n ≤ (learn m.known entry).tasks) (sym (not_snapshot entry may))
@@ -281,7 +281,7 @@ module _ (outside : Outside) (m : Moment) (told : Told) (agrees : Agrees m told)
 
 pub move_agrees : (outside : Outside) (m : Moment) (told : Told) (move : Move) → Agrees m told → KnownFacts m
     → TellsWell told → IsPermitted outside m move → Agrees (later m move) (told_later told move)
-move_agrees outside m told (moves.Note entry) agrees facts well (halted, follows, may, source) =
+move_agrees outside m told (moves.Note entry) agrees facts well (halted, follows, may) =
     noted_agrees outside m told entry agrees facts may
 move_agrees outside m told (moves.Did d) agrees facts well may =
     same_agrees m (performing m d) told (performed_same m d) agrees

@@ -35,7 +35,7 @@ use Rattle.bosh_history.specs.Goals.{does_not_stand, inst_of, is_in, out_of_goal
 use Rattle.bosh_history.specs.Held.{is_offered}
 use Rattle.bosh_history.specs.Known.{Known, offers_in}
 use Rattle.bosh_history.specs.Moments.{Moment}
-use Rattle.bosh_history.specs.Openings.{MayOpen, OpensBy, OpensDisks, OpensFor, OpensOn, TellsSource, deploys, is_free}
+use Rattle.bosh_history.specs.Openings.{HasSource, MayOpen, OpensBy, OpensDisks, OpensFor, OpensOn, deploys, is_free}
 use Rattle.bosh_history.specs.Openings.{is_offered_still, is_recorded, keeps_ties, names_what_is_there, ties_of, withdraws_nothing}
 use Rattle.bosh_history.specs.Words.{is_among}
 use Rattle.bosh_records.specs.declared.records.Records.{Records}
@@ -298,19 +298,19 @@ may_open m records facts read next asks.CleanUp o planned =
     does = planned.opens.does
 
 -- a deploy tells its source, and no other task does
-pub tells_source : (records : Records) (ask : Ask) (o : TaskOpen) → IsPlanned records ask o
-    → TellsSource (entries.TaskOpen o)
-tells_source records (asks.Deploy it) o planned =
+pub has_source : (records : Records) (ask : Ask) (o : TaskOpen) → IsPlanned records ask o
+    → HasSource (entries.TaskOpen o)
+has_source records (asks.Deploy it) o planned =
     ap is_some planned.opens.source ∙ sym (ap deploys planned.opens.kind ∙ deploying it.fix)
   where
     deploying : (fix : Bool) → deploys (if fix then kinds.Fix else kinds.Deploy) ≡ true
     deploying true = refl
     deploying false = refl
-tells_source records (asks.Recreate inst) o planned = ap is_some planned.opens.source ∙ sym (ap deploys planned.opens.kind)
-tells_source records (asks.Start inst) o planned = ap is_some planned.opens.source ∙ sym (ap deploys planned.opens.kind)
-tells_source records (asks.Halt inst hard) o planned = ap is_some planned.opens.source ∙ sym (ap deploys planned.opens.kind)
-tells_source records (asks.Resolve inst) o planned = ap is_some planned.opens.source ∙ sym (ap deploys planned.opens.kind)
-tells_source records (asks.DeleteDeployment dep) o planned =
+has_source records (asks.Recreate inst) o planned = ap is_some planned.opens.source ∙ sym (ap deploys planned.opens.kind)
+has_source records (asks.Start inst) o planned = ap is_some planned.opens.source ∙ sym (ap deploys planned.opens.kind)
+has_source records (asks.Halt inst hard) o planned = ap is_some planned.opens.source ∙ sym (ap deploys planned.opens.kind)
+has_source records (asks.Resolve inst) o planned = ap is_some planned.opens.source ∙ sym (ap deploys planned.opens.kind)
+has_source records (asks.DeleteDeployment dep) o planned =
     ap is_some planned.opens.source ∙ sym (ap deploys planned.opens.kind)
-tells_source records (asks.DeleteDisk disk) o planned = ap is_some planned.opens.source ∙ sym (ap deploys planned.opens.kind)
-tells_source records asks.CleanUp o planned = ap is_some planned.opens.source ∙ sym (ap deploys planned.opens.kind)
+has_source records (asks.DeleteDisk disk) o planned = ap is_some planned.opens.source ∙ sym (ap deploys planned.opens.kind)
+has_source records asks.CleanUp o planned = ap is_some planned.opens.source ∙ sym (ap deploys planned.opens.kind)

@@ -4,7 +4,7 @@ ghost use Rattle.bosh_asks.specs.declared.ask.Ask.{Ask};
 ghost use Rattle.bosh_base.specs.declared.entry.Entry.TheVariants as entries;
 ghost use Rattle.bosh_base.specs.declared.entry.TaskOpen.{TaskOpen};
 ghost use Rattle.bosh_history.specs.Moments.{Moment};
-ghost use Rattle.bosh_history.specs.Openings.{MayOpen, TellsSource};
+ghost use Rattle.bosh_history.specs.Openings.{HasSource, MayOpen};
 ghost use Rattle.bosh_history.specs.Recovered.{is_recovering};
 ghost use Rattle.bosh_history.specs.Sound.{IsSound};
 ghost use Rattle.bosh_records.specs.declared.records.Records.{Records};
@@ -29,5 +29,5 @@ pub fn openings_may_be_noted()
     ensures { (m : Moment) (told : Told) (records : Records) (ask : Ask) (o : TaskOpen) → Stands told records
         → Agrees m told → KnownFacts m → is_recovering m ≡ false → CanBeViewed m.known
         → m.known.tasks < 18446744073709551615 → IsChecked ask → IsPlanned records ask o
-        → MayOpen m.known o × IsSound m.known o × TellsSource (entries.TaskOpen o) }
+        → MayOpen m.known o × IsSound m.known o × HasSource (entries.TaskOpen o) }
 {}

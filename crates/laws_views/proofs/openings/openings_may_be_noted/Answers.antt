@@ -1,5 +1,5 @@
 use Rattle.laws_views.proofs.CurrentLemmas.{renewed_sound}
-use Rattle.laws_views.proofs.OpenLemmas.{may_open, tells_source}
+use Rattle.laws_views.proofs.OpenLemmas.{has_source, may_open}
 use Rattle.laws_views.proofs.ReadLemmas.{next_known, reads_known}
 use Rattle.laws_views.proofs.SoundLemmas.{sound_in_bounds, sound_planned}
 use Rattle.laws_views.proofs.ViewLemmas.{stands_at, views_known}
@@ -16,5 +16,5 @@ returns c = λ m told records ask o stands agrees facts recovered viewed few che
           (sound_planned m records facts (λ dep. views_known m told records dep stands agrees facts viewed)
           (renewed_sound m records facts viewed recovered read (λ dep. views_known m told records dep stands agrees facts viewed))
           read.wanted ask o checked planned),
-      tells_source records ask o planned,
+      has_source records ask o planned,
     )
