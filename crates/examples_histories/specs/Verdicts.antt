@@ -8,7 +8,7 @@ use Rattle.bosh_history.specs.Exact.{is_exact}
 use Rattle.bosh_history.specs.Links.{are_links_kept}
 use Rattle.bosh_history.specs.Moments.{Moment, durable_entry, later}
 use Rattle.bosh_history.specs.Notes.{Outside}
-use Rattle.bosh_history.specs.Permitted.{IsPermitted, IsRunFrom}
+use Rattle.bosh_history.specs.Permitted.{IsPermitted, IsRunFrom, TellsSource}
 use Rattle.bosh_history.specs.Recovered.{follows}
 use Rattle.bosh_history.specs.Addresses.{shares_no_address}
 use Rattle.bosh_history.specs.CompileKeys.{compiles_once}
@@ -44,6 +44,14 @@ abbrev pub IsRefusedAt : Moment → ℕ → History → Type 0
 IsRefusedAt m k history =
     (built : Builder) → IsFirstRefused (outside built) (after m (k - 1) (history built))
     (drop (k - 1) (history built))
+
+abbrev pub IsFirstUntold : List Move → Type 0
+IsFirstUntold [] = ⊥
+IsFirstUntold (move ∷ history) = TellsSource move → ⊥
+
+-- it does not tell what the present format tells
+abbrev pub IsUntoldAt : ℕ → History → Type 0
+IsUntoldAt k history = (built : Builder) → IsFirstUntold (drop (k - 1) (history built))
 
 -- the first place at which a test fails, counted on from one
 abbrev pub first_failure : (Moment → Move → Bool) → ℕ → Moment → List Move → Option ℕ

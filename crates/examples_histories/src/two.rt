@@ -1,7 +1,7 @@
 ghost use Rattle.std.specs.Prelude.{Some, true, false};
 ghost use Rattle.examples_histories.specs.Scenes.{prepared};
 ghost use Rattle.examples_histories.specs.Two.{two, answers_without_asking, did_otherwise, did_without_effect, did_twice, did_twice_unseen, not_the_next_step, owner_busy, number_skipped, not_begun, begun_twice, done_too_early, task_done_too_early, lock_taken, number_of_task, no_source, changed_left_out, interrupted_without_stop, one_address, goal_of_nobody, failed_for_nothing, halt_for_nothing};
-ghost use Rattle.examples_histories.specs.Verdicts.{good, IsPermittedFrom, IsRefusedAt, HasVerdict, IsExactAt, AreCallsWithin};
+ghost use Rattle.examples_histories.specs.Verdicts.{good, IsPermittedFrom, IsRefusedAt, HasVerdict, IsExactAt, AreCallsWithin, IsUntoldAt};
 
 /// Two bare instances.
 pub fn two_examples()
@@ -39,7 +39,7 @@ pub fn two_examples()
     ensures lock_taken_breaks { HasVerdict prepared lock_taken good }
     ensures number_of_task { IsRefusedAt prepared 1 number_of_task }
     ensures number_of_task_breaks { HasVerdict prepared number_of_task good }
-    ensures no_source { IsRefusedAt prepared 1 no_source }
+    ensures no_source { IsUntoldAt 1 no_source }
     ensures no_source_breaks { HasVerdict prepared no_source good }
     ensures changed_left_out { IsRefusedAt prepared 1 changed_left_out }
     ensures changed_left_out_breaks { HasVerdict prepared changed_left_out good }

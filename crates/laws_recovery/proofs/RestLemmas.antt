@@ -52,9 +52,9 @@ use Rattle.laws_stands.specs.Told.{TellsWell, Told, is_going, telling}
 use Rattle.laws_stands_fits.specs.Fits.{Fits}
 use Rattle.laws_stands_fits.specs.Own.{TellsOwn}
 use Rattle.laws_stands_fits.specs.Whole.{StandsWhole}
-use Rattle.laws_stands_shortened.proofs.EndedLemmas.{Stays, calls_after, ends_same, none_after, task_stays, tasks_after}
-use Rattle.laws_stands_shortened.proofs.EndedLemmas.{told_after, told_ended}
-use Rattle.laws_stands_shortened.specs.Interrupted.{interruptions}
+use Rattle.laws_recovery.proofs.EndedLemmas.{Stays, calls_after, ends_same, none_after, task_stays, tasks_after}
+use Rattle.laws_recovery.proofs.EndedLemmas.{told_after, told_ended}
+use Rattle.laws_recovery.specs.Interrupted.{interruptions}
 use Rattle.laws_stands_snapshots.proofs.AnewLemmas.{deployments_are, things_are}
 use Rattle.laws_stands_snapshots.proofs.BuiltLemmas.{built_are}
 use Rattle.laws_stands_snapshots.proofs.CanReadLemmas.{can_be_read}

@@ -10,7 +10,7 @@ ghost use Rattle.laws_facts.specs.KnownFacts.{KnownFacts};
 ghost use Rattle.laws_stands.specs.Agrees.{Agrees};
 ghost use Rattle.laws_stands.specs.Told.{Told, is_going, telling};
 ghost use Rattle.laws_stands_fits.specs.Whole.{StandsWhole};
-ghost use Rattle.laws_stands_shortened.specs.Interrupted.{interruptions};
+ghost use Rattle.laws_recovery.specs.Interrupted.{interruptions};
 ghost use Rattle.laws_stands_snapshots.specs.Built.{BuiltStand};
 
 /// A snapshot is made of records that stand for what is told at a moment, and then tasks are ended as interrupted. Where the

@@ -11,7 +11,7 @@ use Rattle.bosh_history.specs.Known.{Known, Task}
 use Rattle.bosh_history.specs.Words.{at}
 use Rattle.bosh_roll.specs.declared.upd.Upd.{Upd}
 use Rattle.laws_stands.specs.Told.{Told, of_others, telling}
-use Rattle.laws_stands_shortened.specs.Interrupted.{interruption, interruptions}
+use Rattle.laws_recovery.specs.Interrupted.{interruption, interruptions}
 
 -- a task that ended as interrupted
 abbrev pub ended : Task → Task

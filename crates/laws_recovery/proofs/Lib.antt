@@ -1,2 +1,3 @@
 pub mod EndedLemmas
+pub mod OpenLemmas
 pub mod RestLemmas
