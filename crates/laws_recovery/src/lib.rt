@@ -2,7 +2,7 @@
 #![tactic(auto)]
 
 mod ended;
-mod open;
+mod ending;
 
 pub use ended::what_is_recorded_stands_for_a_snapshot_of_it;
-pub use open::tasks_that_are_open_come_to_their_ends;
+pub use ending::tasks_that_are_open_come_to_their_ends;

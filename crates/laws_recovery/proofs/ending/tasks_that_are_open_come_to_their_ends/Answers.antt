@@ -1,5 +1,5 @@
 use Rattle.laws_recovery.proofs.OpenLemmas.{none_going, open_end, recovered_then}
-use Rattle.laws_recovery.proofs.open.tasks_that_are_open_come_to_their_ends.Goals as goal
+use Rattle.laws_recovery.proofs.ending.tasks_that_are_open_come_to_their_ends.Goals as goal
 
 pub returns-clause-run : goal.returns-clause-run
 returns-clause-run c = open_end
