@@ -32,7 +32,7 @@ always [] = refl
 always (x ∷ xs) = always xs
 
 -- what holds of each number up to the last holds of all of them
-every : (p : ℕ → Bool) (n : ℕ) → ((t : ℕ) → 1 ≤ t → t ≤ n → p t ≡ true) → list_all p (numbers_to n) ≡ true
+pub every : (p : ℕ → Bool) (n : ℕ) → ((t : ℕ) → 1 ≤ t → t ≤ n → p t ≡ true) → list_all p (numbers_to n) ≡ true
 every p zero each = refl
 every p (suc n) each =
     list_all-append p (numbers_to n) (suc n ∷ [])

@@ -1,13 +1,14 @@
 -- What is recorded once tasks were ended as interrupted, and none goes on, stands for a snapshot of what was told before.
-use Rattle.std.proofs.Common.{◌≡◌, ◌∙◌, ◌<◌, ◌≤◌, ℕ, ◌+◌, Bool, true, false, ◌&&◌, not, List, [], Option, Some, None}
+use Rattle.std.proofs.Common.{◌≡◌, ◌∙◌, ◌<◌, ◌≤◌, ℕ, ◌+◌, Bool, true, false, ◌&&◌, not, List, [], ◌∷◌, Option, Some, None}
 use Rattle.std.proofs.Common.{ap, arith, length, refl, subst, sym}
-use Rattle.std.specs.Prelude.{eqb, find, fold, if◌then◌else◌, is_some, nat_le}
-use Rattle.std.specs.List.{filter_map}
+use Rattle.std.specs.Prelude.{eqb, filter, find, fold, if◌then◌else◌, is_some, nat_le}
+use Rattle.std.specs.List.{filter_map, list_all}
 use Rattle.std.specs.Option.{option_and_then, option_eq, option_map}
 use Rattle.std.specs.Str.{bytes_eq}
 use Rattle.std.specs.declared.cmp.Ordering.{Ordering}
 use Rattle.std.specs.declared.cmp.Ordering.TheVariants.{Less}
-use Rattle.std.proofs.lemmas.Bool.{and_parts, false≢true, leb-true, true≢false}
+use Rattle.std.proofs.lemmas.Bool.{and_parts, false≢true, le-leb, leb-true, true≢false}
+use Rattle.bosh_base.specs.Cloud.{numbers_to}
 use Rattle.bosh_base.specs.declared.digest.Digest.{Digest}
 use Rattle.bosh_base.specs.declared.entry.Begin.{Begin}
 use Rattle.bosh_base.specs.declared.entry.Entry.TheVariants as entries
@@ -38,6 +39,7 @@ use Rattle.bosh_records.specs.declared.records.Since.TheVariants as sinces
 use Rattle.bosh_roll.specs.Upd.{is_busy}
 use Rattle.bosh_rows.specs.Same.{same_inst}
 use Rattle.bosh_rows.specs.SoundSnapshot.{are_distinct}
+use Rattle.bosh_rows.specs.Standing.{same_truth}
 use Rattle.bosh_views.specs.Snapshot.{IsSnapshot}
 use Rattle.bosh_work.specs.declared.part.MachineName.{MachineName}
 use Rattle.bosh_work.specs.declared.work.Work.{Work}
@@ -54,7 +56,8 @@ use Rattle.laws_stands_fits.specs.Own.{TellsOwn}
 use Rattle.laws_stands_fits.specs.Whole.{StandsWhole}
 use Rattle.laws_recovery.proofs.EndedLemmas.{Stays, calls_after, ends_same, none_after, task_stays, tasks_after}
 use Rattle.laws_recovery.proofs.EndedLemmas.{told_after, told_ended}
-use Rattle.laws_recovery.specs.Interrupted.{interruptions}
+use Rattle.laws_recovery.proofs.OpenLemmas.{every}
+use Rattle.laws_recovery.specs.Interrupted.{interruptions, open_at}
 use Rattle.laws_stands_snapshots.proofs.AnewLemmas.{deployments_are, things_are}
 use Rattle.laws_stands_snapshots.proofs.BuiltLemmas.{built_are}
 use Rattle.laws_stands_snapshots.proofs.CanReadLemmas.{can_be_read}
@@ -302,6 +305,55 @@ module _ (m : Moment) (facts : KnownFacts m) (tasks : List ℕ) (readable : IsRe
         was : TellsOwn (telling one (entries.Snapshot s))
         was = own one s readable
 
+-- ---- a snapshot of what is recorded
+
+-- it is that of what is known
+pub same_snapshot : (m : Moment) (told : Told) (was : Records) (s : Snapshot) → StandsWhole told was → Agrees m told
+    → KnownFacts m → BuiltStand m.known.built (recorded was) → IsSnapshot was s → s ≡ snapshot_of m.known
+same_snapshot m told was s whole agrees facts built is =
+    snapshot_is m told was s whole.stands agrees.known_is facts.lists is
+    (built_are (recorded was) s.built_keys m.known.built whole.stands.ordered.keys built is.built_keys is.order)
+
+-- it tells as many tasks, of which the same are open
+pub record HasSameTasks (k : Known) : Type 0 where
+  pub tasks : length (snapshot_of k).tasks ≡ k.tasks
+  pub open_same : open_at (known_by (snapshot_of k)) ≡ open_at k
+
+pub same_ends : (m : Moment) → KnownFacts m → HasSameTasks m.known
+same_ends m facts = record {
+  tasks = lasts.tasks;
+  open_same = (λ i. filter (is_open (known_by (snapshot_of m.known))) (numbers_to (lasts.tasks i)))
+      ∙ alike (numbers_to m.known.tasks)
+      (every (λ t. same_truth (is_open (known_by (snapshot_of m.known)) t) (is_open m.known t)) m.known.tasks
+      (λ t low high. ap (λ end. same_truth (not (is_some end)) (is_open m.known t))
+      (lasts.end t (le-leb 1 t low) (le-leb t m.known.tasks high)) ∙ itself (is_open m.known t)));
+}
+  where
+    lasts : Outlasts m.known (known_by (snapshot_of m.known))
+    lasts = snapshot_outlasts m facts.lists
+
+    itself : (b : Bool) → same_truth b b ≡ true
+    itself true = refl
+    itself false = refl
+
+    alike : (xs : List ℕ)
+        → list_all (λ t. same_truth (is_open (known_by (snapshot_of m.known)) t) (is_open m.known t)) xs ≡ true
+        → filter (is_open (known_by (snapshot_of m.known))) xs ≡ filter (is_open m.known) xs
+    alike [] all = refl
+    alike (t ∷ xs) all =
+        let (first, rest) = and_parts (same_truth (is_open (known_by (snapshot_of m.known)) t) (is_open m.known t)) _ all in
+        by (is_open (known_by (snapshot_of m.known)) t) (is_open m.known t) first (alike xs rest)
+      where
+        by : (a b : Bool) → same_truth a b ≡ true
+            → filter (is_open (known_by (snapshot_of m.known))) xs ≡ filter (is_open m.known) xs
+            → (if a then t ∷ filter (is_open (known_by (snapshot_of m.known))) xs
+            else filter (is_open (known_by (snapshot_of m.known))) xs)
+            ≡ (if b then t ∷ filter (is_open m.known) xs else filter (is_open m.known) xs)
+        by true true first rest = ap (λ ys. t ∷ ys) rest
+        by false false first rest = rest
+        by true false first rest = absurd (false≢true first)
+        by false true first rest = absurd (false≢true first)
+
 -- ---- the law
 
 pub stands_shortened : (m : Moment) (told : Told) (was now : Records) (s : Snapshot) (tasks : List ℕ) → StandsWhole told was
@@ -326,9 +378,7 @@ stands_shortened m told was now s tasks whole agrees facts built is ended none =
         (λ key. whole.stands.digests key ∙ ap (λ (known : Known). known.digest key) agrees.known_is) built
 
     same : s ≡ snapshot_of m.known
-    same =
-        snapshot_is m told was s whole.stands agrees.known_is facts.lists is
-        (built_are (recorded was) s.built_keys m.known.built whole.stands.ordered.keys built is.built_keys is.order)
+    same = same_snapshot m told was s whole agrees facts built is
 
     one_is : fold telling told (interruptions tasks) ≡ one m facts tasks readable digests told.snapped
     one_is =

@@ -6,9 +6,11 @@ pub mod ClaimStoppedLemmas
 pub mod EndLemmas
 pub mod FirstLemmas
 pub mod FoundLemmas
+pub mod FoundOpenLemmas
 pub mod HaltLemmas
 pub mod HeldLemmas
 pub mod KeepLemmas
+pub mod LoadLemmas
 pub mod MomentLemmas
 pub mod NoteLemmas
 pub mod NotedHaltLemmas

@@ -115,7 +115,7 @@ module _ (told : Told) (m : Moment) (same : told.known ≡ m.known) (h : ListFac
       ∙ where_listed (is_among eqb d k.orphans) (k.orphan d) (orphan_truth d))
       (λ d. listed_some (is_among eqb d k.orphans) (k.orphan d) (orphan_truth d))
 
-  tasks_are : things it.tasks ≡ map (task_row k) (numbers_to k.tasks)
+  pub tasks_are : things it.tasks ≡ map (task_row k) (numbers_to k.tasks)
   tasks_are =
       table_lists nat_cmp eqb number_order (λ (place : Option TaskRow). place) it.tasks (numbers_to k.tasks)
       (λ t. Some (task_row k t)) stands.ordered.tasks (numbers_rise k.tasks)

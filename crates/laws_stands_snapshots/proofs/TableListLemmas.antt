@@ -74,7 +74,7 @@ module _ {K : Type 0} {cmp : K → K → Ordering} {same : K → K → Bool} (or
 module _ {K X R : Type 0} (cmp : K → K → Ordering) (same : K → K → Bool) (order : TellsApart cmp same)
     (f : X → Option R) where
   -- each entry is found at its key
-  all_found : (es : List (K × X)) → IsOnce cmp es → AllByRecursion (λ (e : K × X). found cmp es e.0 ≡ Some e.1) es
+  pub all_found : (es : List (K × X)) → IsOnce cmp es → AllByRecursion (λ (e : K × X). found cmp es e.0 ≡ Some e.1) es
   all_found [] once = tt
   all_found (e ∷ es) (none, once) =
       ((λ i. cond ((order.at_is e.0 e.0 ∙ order.own e.0) i) (Some e.1) (found cmp es e.0)), later es (all_found es once))
