@@ -22,6 +22,7 @@ use Rattle.laws_stands.specs.Reading.{work_of}
 use Rattle.laws_stands.specs.Stands.{IsWork, StandsIn}
 use Rattle.laws_stands.specs.Told.{Told}
 use Rattle.laws_stands_on.proofs.ListedLemmas.{SameListed, listed_goes_on, untouched}
+use Rattle.laws_stands_on.proofs.TellsLemmas.{tells_as_well}
 
 -- other deployments, with other goals and offers, are told of
 abbrev pub settled : List (List ℕ) → (List ℕ → Option Goal) → (List ℕ → List Offer) → Told → Told
@@ -88,19 +89,5 @@ module _ (deployments : List (List ℕ)) (goal : List ℕ → Option Goal) (shar
       deletions = stands.linked.deletions;
     };
     ordered = kept;
-    tells_well = record {
-      number = stands.tells_well.number;
-      low = stands.tells_well.low;
-      past = stands.tells_well.past;
-      begun = stands.tells_well.begun;
-      begun_past = stands.tells_well.begun_past;
-      failed = stands.tells_well.failed;
-      going = stands.tells_well.going;
-      one_owner = stands.tells_well.one_owner;
-      one_key = stands.tells_well.one_key;
-      recorded = stands.tells_well.recorded;
-      counted = stands.tells_well.counted;
-      disks_apart = stands.tells_well.disks_apart;
-      updates = stands.tells_well.updates;
-    };
+    tells_well = tells_as_well told new refl refl refl refl refl refl stands.tells_well;
   }

@@ -25,7 +25,7 @@ use Rattle.laws_stands.specs.LineStands.{place_of}
 use Rattle.laws_stands.specs.Linked.{IsLinked, same_machine}
 use Rattle.laws_stands.specs.Reading.{machine_of, work_of}
 use Rattle.laws_stands.specs.Stands.{StandsIn, StandsInOrder, call_of, key_of_slot, key_place, row_of_slot}
-use Rattle.laws_stands.specs.Told.{TellsWell, Told}
+use Rattle.laws_stands.specs.Told.{Told}
 use Rattle.laws_stands_ends.proofs.DroppedToldLemmas.{slot_now, slot_other}
 use Rattle.laws_stands_ends.proofs.DroppedWorksLemmas.{change, less, lists_same, recorded_now, swept_works}
 use Rattle.laws_stands_ends.proofs.DroppedWorksLemmas.{work_is, works}
@@ -34,6 +34,7 @@ use Rattle.laws_stands_on.proofs.FindLemmas.{none_is_found}
 use Rattle.laws_stands_on.proofs.KeyLemmas.{machine_keys}
 use Rattle.laws_stands_on.proofs.LinkLemmas.{WasWork, links_go_on}
 use Rattle.laws_stands_on.proofs.TableLemmas.{found_without}
+use Rattle.laws_stands_on.proofs.TellsLemmas.{tells_as_well}
 use Rattle.laws_stands_on.proofs.WorksLemmas.{works_were}
 use Rattle.laws_stands_slots.proofs.SlotTableLemmas.{machine_at, same_machine_is}
 use Rattle.laws_stands_slots.specs.Slots.{named}
@@ -153,21 +154,7 @@ module _ (told : Told) (it : Recorded) (t s : ℕ) (allows : AllowsDrop told t s
     works = works told it t s allows stands machine is;
     linked = linked;
     ordered = ordered;
-    tells_well = let tells : TellsWell told = stands.tells_well in record {
-      number = tells.number;
-      low = tells.low;
-      past = tells.past;
-      begun = tells.begun;
-      begun_past = tells.begun_past;
-      failed = tells.failed;
-      going = tells.going;
-      one_owner = tells.one_owner;
-      one_key = tells.one_key;
-      recorded = tells.recorded;
-      counted = tells.counted;
-      disks_apart = tells.disks_apart;
-      updates = tells.updates;
-    };
+    tells_well = tells_as_well told new refl refl refl refl refl refl stands.tells_well;
   }
 
   now_is : machine_told (machine_name t s) Absent it ≡ now

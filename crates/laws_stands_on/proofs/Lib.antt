@@ -14,6 +14,7 @@ pub mod OnlyCallLemmas
 pub mod RoomyLemmas
 pub mod TableLemmas
 pub mod TaskLemmas
+pub mod TellsLemmas
 pub mod UpdateBegunLemmas
 pub mod UploadLemmas
 pub mod WorkLemmas

@@ -10,6 +10,7 @@ use Rattle.laws_stands.specs.Reading.{work_of}
 use Rattle.laws_stands.specs.Stands.{IsWork, StandsIn, arrivals_of}
 use Rattle.laws_stands.specs.Told.{Told, telling}
 use Rattle.laws_stands_on.proofs.ListedLemmas.{SameListed, listed_goes_on, untouched}
+use Rattle.laws_stands_on.proofs.TellsLemmas.{tells_as_well}
 
 -- other uploads than those that are known
 abbrev uploaded : List Release → List Stemcell → Option (List ℕ) → Told → Told
@@ -64,21 +65,7 @@ module _ (releases : List Release) (stemcells : List Stemcell) (config : Option 
       works = (stands.ordered).works;
       calls = (stands.ordered).calls;
     };
-    tells_well = record {
-      number = stands.tells_well.number;
-      low = stands.tells_well.low;
-      past = stands.tells_well.past;
-      begun = stands.tells_well.begun;
-      begun_past = stands.tells_well.begun_past;
-      failed = stands.tells_well.failed;
-      going = stands.tells_well.going;
-      one_owner = stands.tells_well.one_owner;
-      one_key = stands.tells_well.one_key;
-      recorded = stands.tells_well.recorded;
-      counted = stands.tells_well.counted;
-      disks_apart = stands.tells_well.disks_apart;
-      updates = stands.tells_well.updates;
-    };
+    tells_well = tells_as_well told new refl refl refl refl refl refl stands.tells_well;
   }
 
 -- ---- each kind

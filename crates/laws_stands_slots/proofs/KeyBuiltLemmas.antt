@@ -37,12 +37,13 @@ use Rattle.laws_stands.specs.LineStands.{LineStands, place_of}
 use Rattle.laws_stands.specs.Linked.{IsLinked}
 use Rattle.laws_stands.specs.Reading.{digest_of, is_compiling, state_of, work_of}
 use Rattle.laws_stands.specs.Stands.{IsWork, StandsIn, StandsInOrder}
-use Rattle.laws_stands.specs.Told.{TellsWell, Told, is_going}
+use Rattle.laws_stands.specs.Told.{Told, is_going}
 use Rattle.laws_stands.specs.WorkStands.{StandsFor, is_worked_for, keys_in}
 use Rattle.laws_stands_on.proofs.ChangedLemmas.{each_found}
 use Rattle.laws_stands_on.proofs.KeyLemmas.{eq_then, key_keys}
 use Rattle.laws_stands_on.proofs.LinkLemmas.{ListsSame, links_go_on}
 use Rattle.laws_stands_on.proofs.TableLemmas.{found_altered}
+use Rattle.laws_stands_on.proofs.TellsLemmas.{tells_as_well}
 use Rattle.laws_stands_on.proofs.WorksLemmas.{works_go_on, works_were}
 use Rattle.laws_stands_slots.specs.Slots.{AreKeysApart, told_built}
 
@@ -234,19 +235,5 @@ module _ (told : Told) (it : Recorded) (vm : ℕ) (work : KeyWork) (deps : List 
     works = works;
     linked = linked;
     ordered = ordered;
-    tells_well = let tells : TellsWell told = stands.tells_well in record {
-      number = tells.number;
-      low = tells.low;
-      past = tells.past;
-      begun = tells.begun;
-      begun_past = tells.begun_past;
-      failed = tells.failed;
-      going = tells.going;
-      one_owner = tells.one_owner;
-      one_key = tells.one_key;
-      recorded = tells.recorded;
-      counted = tells.counted;
-      disks_apart = tells.disks_apart;
-      updates = tells.updates;
-    };
+    tells_well = tells_as_well told new refl refl refl refl refl refl stands.tells_well;
   }

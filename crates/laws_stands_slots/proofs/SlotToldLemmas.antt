@@ -26,10 +26,11 @@ use Rattle.laws_stands.specs.Linked.{IsLinked, same_machine}
 use Rattle.laws_stands.specs.LineStands.{place_of}
 use Rattle.laws_stands.specs.Reading.{dep_of, machine_of, work_of}
 use Rattle.laws_stands.specs.Stands.{AreSwept, IsWork, StandsIn, StandsInOrder, key_of_slot, key_place, row_of_slot}
-use Rattle.laws_stands.specs.Told.{TellsWell, Told}
+use Rattle.laws_stands.specs.Told.{Told}
 use Rattle.laws_stands_on.proofs.ChangedLemmas.{some_mapped}
 use Rattle.laws_stands_on.proofs.LinkLemmas.{WasWork, links_go_on}
 use Rattle.laws_stands_on.proofs.ListedLemmas.{SameListed, listed_goes_on}
+use Rattle.laws_stands_on.proofs.TellsLemmas.{tells_as_well}
 use Rattle.laws_stands_slots.proofs.SlotTableLemmas.{machine_changed, same_machine_is, slot_same, with_slot_is}
 use Rattle.laws_stands_slots.specs.Slots.{in_doubt_by, slot_there, told_slot}
 
@@ -244,21 +245,7 @@ module _ (told : Told) (it : Recorded) (t s : ℕ) (f : Slot → Slot) (g : Comp
     works = works;
     linked = linked;
     ordered = ordered;
-    tells_well = let tells : TellsWell told = stands.tells_well in record {
-      number = tells.number;
-      low = tells.low;
-      past = tells.past;
-      begun = tells.begun;
-      begun_past = tells.begun_past;
-      failed = tells.failed;
-      going = tells.going;
-      one_owner = tells.one_owner;
-      one_key = tells.one_key;
-      recorded = tells.recorded;
-      counted = tells.counted;
-      disks_apart = tells.disks_apart;
-      updates = tells.updates;
-    };
+    tells_well = tells_as_well told new refl refl refl refl refl refl stands.tells_well;
   }
 
 -- ---- that it is there, or in doubt

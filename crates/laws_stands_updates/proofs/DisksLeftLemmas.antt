@@ -27,6 +27,7 @@ use Rattle.laws_stands.specs.Stands.{IsWork, StandsIn, call_of}
 use Rattle.laws_stands.specs.Told.{Told, is_going}
 use Rattle.laws_stands_on.proofs.FindLemmas.{none_is_found}
 use Rattle.laws_stands_on.proofs.ListedLemmas.{SameListed, listed_goes_on}
+use Rattle.laws_stands_on.proofs.TellsLemmas.{tells_as_well}
 use Rattle.laws_stands_updates.proofs.LeftLemmas.{IsLoose, orphans_left, others_known}
 use Rattle.laws_stands_updates.proofs.LeftLemmas.{others_left, these_left}
 use Rattle.laws_stands_updates.specs.Finished.{AllowsLeft, HavePlaces, numbers_of}
@@ -166,19 +167,5 @@ module _ (told : Told) (it : Recorded) (i : Inst) (disks : List DiskRow) (listed
       works = (stands.ordered).works;
       calls = (stands.ordered).calls;
     };
-    tells_well = record {
-      number = stands.tells_well.number;
-      low = stands.tells_well.low;
-      past = stands.tells_well.past;
-      begun = stands.tells_well.begun;
-      begun_past = stands.tells_well.begun_past;
-      failed = stands.tells_well.failed;
-      going = stands.tells_well.going;
-      one_owner = stands.tells_well.one_owner;
-      one_key = stands.tells_well.one_key;
-      recorded = stands.tells_well.recorded;
-      counted = stands.tells_well.counted;
-      disks_apart = stands.tells_well.disks_apart;
-      updates = stands.tells_well.updates;
-    };
+    tells_well = tells_as_well told told_left refl refl refl refl refl refl stands.tells_well;
   }
