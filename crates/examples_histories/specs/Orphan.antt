@@ -1,5 +1,5 @@
 -- An obsolete instance's disk, and a stop in the clean-up.
-use Rattle.std.specs.Prelude.{true, false, codes, Some, None, [], ◌∷◌, ◌++◌}
+use Rattle.std.specs.Prelude.{false, codes, Some, None, [], ◌∷◌, ◌++◌}
 use Rattle.bosh_base.specs.declared.answer.Answer.TheVariants as answers
 use Rattle.bosh_base.specs.declared.call.Call.TheVariants as calls
 use Rattle.bosh_base.specs.declared.entry.Entry.TheVariants as entries
@@ -7,7 +7,7 @@ use Rattle.bosh_base.specs.declared.failure.Failure.TheVariants as failures
 use Rattle.bosh_base.specs.declared.goal.Goal.{Goal}
 use Rattle.bosh_base.specs.declared.moves.Cause.TheVariants as causes
 use Rattle.bosh_base.specs.declared.moves.Move.TheVariants.{Note, Halt}
-use Rattle.bosh_base.specs.declared.owner.Owner.TheVariants.{Instance, Disk}
+use Rattle.bosh_base.specs.declared.owner.Owner.TheVariants.{Disk}
 use Rattle.bosh_base.specs.declared.state.State.TheVariants.{Running}
 use Rattle.bosh_base.specs.declared.task.TaskKind.TheVariants as kinds
 use Rattle.examples_histories.specs.Scenes.{History, sourced, opening, beginning_of, gone, task_error, stop, said, called, part}
