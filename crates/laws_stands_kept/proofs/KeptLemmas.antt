@@ -95,8 +95,8 @@ module _ (outside : Outside) (m : Moment) (told : Told) (was now : Records) (who
         same_number = omega arith
 
     -- no snapshot told it
-    later : told.snapped < o.task
-    later =
+    comes_later : told.snapped < o.task
+    comes_later =
         let e : o.task ≡ told.known.tasks + 1 = number in
         let a : told.snapped ≤ m.stopped = agrees.snapped in
         let b : m.stopped ≤ told.known.tasks =
@@ -106,7 +106,7 @@ module _ (outside : Outside) (m : Moment) (told : Told) (was now : Records) (who
     pub opening_stands : Stands opening now × Fits opening (recorded now)
     opening_stands =
         task_opened_stands m told was now o whole.stands agrees facts whole.own whole.fits may sound learns
-        (going, later, (swept_by learns.roomy o, work.stands, work.are_swept))
+        (going, comes_later, (swept_by learns.roomy o, work.stands, work.are_swept))
         (λ t one other is. others_go_on told o t one number other is)
         (λ name among. work.ended name
         (ap (is_among same_machine name) (sym ((work.stands).sweep).items_are) ∙ among))
