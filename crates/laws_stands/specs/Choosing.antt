@@ -1,6 +1,6 @@
 -- What the choice of a worker needs of the records and of a moment.
 use Rattle.std.specs.Prelude.{◌≡◌, ℕ, ◌+◌, ◌<◌, ◌⊎◌, ◌==◌, ◌&&◌, Bool, true, false, not, List, [], Some}
-use Rattle.std.specs.Prelude.{count_by, is_none, is_some, length, min, nat_lt, slice_get}
+use Rattle.std.specs.Prelude.{None, count_by, is_none, is_some, length, min, nat_lt, slice_get}
 use Rattle.std.specs.Option.{option_and_then, option_map, unwrap_or}
 use Rattle.bosh_base.specs.declared.inst.Inst.{Inst}
 use Rattle.bosh_base.specs.declared.key.Key.{Key}
