@@ -62,14 +62,15 @@ all_left {A} keeps p (x ∷ xs) all =
 
 none_left : (test keeps : ℕ → Bool) (xs : List ℕ) → list_any test xs ≡ false → list_any test (filter keeps xs) ≡ false
 none_left test keeps [] none = refl
-none_left test keeps (x ∷ xs) none = by (test x) (list_any test xs) refl refl none (keeps x)
+none_left test keeps (x ∷ xs) none = by (test x) (list_any test xs) refl refl none (none_left test keeps xs) (keeps x)
   where
-    by : (a b : Bool) → test x ≡ a → list_any test xs ≡ b → (a || b) ≡ false → (c : Bool)
+    by : (a b : Bool) → test x ≡ a → list_any test xs ≡ b → (a || b) ≡ false
+        → (list_any test xs ≡ false → list_any test (filter keeps xs) ≡ false) → (c : Bool)
         → list_any test (if c then x ∷ filter keeps xs else filter keeps xs) ≡ false
-    by false false first rest none true = (λ i. first i || none_left test keeps xs rest i)
-    by false false first rest none false = none_left test keeps xs rest
-    by false true first rest none c = absurd (false≢true (sym none))
-    by true b first rest none c = absurd (false≢true (sym none))
+    by false false first rest none more true = (λ i. first i || more rest i)
+    by false false first rest none more false = more rest
+    by false true first rest none more c = absurd (false≢true (sym none))
+    by true b first rest none more c = absurd (false≢true (sym none))
 
 -- no number stands twice in a part of a list in which none does
 apart_left : (keeps : ℕ → Bool) (xs : List ℕ) → are_distinct eqb xs ≡ true → are_distinct eqb (filter keeps xs) ≡ true
@@ -88,20 +89,20 @@ apart_left keeps (x ∷ xs) apart =
 among_left : (keeps : ℕ → Bool) (t : ℕ) (xs : List ℕ) → keeps t ≡ true → is_among eqb t xs ≡ true
     → is_among eqb t (filter keeps xs) ≡ true
 among_left keeps t [] kept there = there
-among_left keeps t (x ∷ xs) kept there = by (eqb t x) refl (keeps x) refl there
+among_left keeps t (x ∷ xs) kept there = by (eqb t x) refl (keeps x) refl there (among_left keeps t xs kept)
   where
     or_later : (b c : Bool) → c ≡ true → (b || c) ≡ true
     or_later true c is = refl
     or_later false c is = is
 
     by : (a : Bool) → eqb t x ≡ a → (c : Bool) → keeps x ≡ c → (a || is_among eqb t xs) ≡ true
+        → (is_among eqb t xs ≡ true → is_among eqb t (filter keeps xs) ≡ true)
         → is_among eqb t (if c then x ∷ filter keeps xs else filter keeps xs) ≡ true
-    by true same true kept_too there = (λ i. same i || is_among eqb t (filter keeps xs))
-    by true same false dropped there =
+    by true same true kept_too there more = (λ i. same i || is_among eqb t (filter keeps xs))
+    by true same false dropped there more =
         absurd (false≢true (sym dropped ∙ ap keeps (sym (eqb-true t x same)) ∙ kept))
-    by false other true kept_too there =
-        or_later (eqb t x) (is_among eqb t (filter keeps xs)) (among_left keeps t xs kept there)
-    by false other false dropped there = among_left keeps t xs kept there
+    by false other true kept_too there more = or_later (eqb t x) (is_among eqb t (filter keeps xs)) (more there)
+    by false other false dropped there more = more there
 
 -- ---- ends
 
@@ -129,11 +130,11 @@ moment_ended m (t ∷ more) = moment_ended (noting m (interruption t)) more
 
 -- ---- they may end
 
-record MayAllEnd (m : Moment) (tasks : List ℕ) : Type 0 where
-  running : m.halted ≡ false
-  quiet : m.calls ≡ (λ n. None)
-  waiting : list_all (λ t. is_task_open m.known t && nat_le t m.stopped) tasks ≡ true
-  apart : are_distinct eqb tasks ≡ true
+pub record MayAllEnd (m : Moment) (tasks : List ℕ) : Type 0 where
+  pub running : m.halted ≡ false
+  pub quiet : m.calls ≡ (λ n. None)
+  pub waiting : list_all (λ t. is_task_open m.known t && nat_le t m.stopped) tasks ≡ true
+  pub apart : are_distinct eqb tasks ≡ true
 
 module _ (outside : Outside) where
   or_true : (b : Bool) → (b || true) ≡ true
@@ -162,11 +163,12 @@ module _ (outside : Outside) where
   still m t [] none all = refl
   still m t (u ∷ more) none all =
       let (first, rest) = and_parts (is_task_open m.known u && nat_le u m.stopped) _ all in
-      by (eqb t u) refl (list_any (eqb t) more) refl none first rest
+      by (eqb t u) refl (list_any (eqb t) more) refl none first (λ none_more. still m t more none_more rest)
     where
       by : (a : Bool) → eqb t u ≡ a → (b : Bool) → list_any (eqb t) more ≡ b → (a || b) ≡ false
           → (is_task_open m.known u && nat_le u m.stopped) ≡ true
-          → list_all (λ u. is_task_open m.known u && nat_le u m.stopped) more ≡ true
+          → (list_any (eqb t) more ≡ false
+          → list_all (λ u. is_task_open (noting m (interruption t)).known u && nat_le u m.stopped) more ≡ true)
           → list_all (λ u. is_task_open (noting m (interruption t)).known u && nat_le u m.stopped) (u ∷ more) ≡ true
       by true same b more_is none first rest = absurd (false≢true (sym none))
       by false other true more_is none first rest = absurd (false≢true (sym none))
@@ -174,7 +176,7 @@ module _ (outside : Outside) where
           and_from (is_task_open (noting m (interruption t)).known u && nat_le u m.stopped) _
           ((λ i. (list_any (λ n. n == u) (numbers_to m.known.tasks)
           && not (is_some (if other i then ended (m.known.task t) else m.known.task u).end)) && nat_le u m.stopped) ∙ first)
-          (still m t more more_is rest)
+          (rest more_is)
 
   -- they end one after the other
   pub ends_run : (m : Moment) (tasks : List ℕ) → MayAllEnd m tasks

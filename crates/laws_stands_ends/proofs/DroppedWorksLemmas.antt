@@ -1,5 +1,5 @@
 -- The works once a compile machine is not there any more.
-use Rattle.std.proofs.Common.{◌≡◌, ◌∙◌, ◌+◌, ℕ, Bool, true, false, ◌&&◌, not, List, ◌==◌}
+use Rattle.std.proofs.Common.{◌≡◌, ◌∙◌, ◌+◌, ◌<◌, ℕ, Bool, true, false, ◌&&◌, not, List, ◌==◌}
 use Rattle.std.proofs.Common.{Option, Some, None, ap, refl, sym, subst, arith}
 use Rattle.std.specs.Prelude.{◌-◌, count_by, eqb, is_some, slice_get, if◌then◌else◌}
 use Rattle.std.specs.Option.{option_and_then, option_eq, option_map, option_map_or}

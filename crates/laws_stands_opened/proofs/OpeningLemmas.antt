@@ -174,12 +174,12 @@ module _ (told : Told) (it : Recorded) (o : TaskOpen) (work : Work) (opens : Ope
 
   -- which compile machines it is to sweep
   abbrev pub swept : List MachineName
-  swept = (opens.is_work).1.0
+  swept = (opens.is_work).2.0
 
   -- its work stands for what it is to do
   pub work_stands : StandsFor new (task_opened k o) o.task swept work
   work_stands = subst (λ (t : Task). StandsFor new t o.task swept work)
-      (λ j. if own_number j then task_opened k o else k.task o.task) (opens.is_work).1.1
+      (λ j. if own_number j then task_opened k o else k.task o.task) (opens.is_work).2.1
 
   -- ---- instances
 
