@@ -31,7 +31,7 @@ opening_keeps m o outside may = by (opens_of m.known o may.0)
   where
     by : OpensOf o → KeepsViewed (entries.TaskOpen o)
     by (of_dep dep goal dep_is goal_is same) = (
-      λ empty. absurd (false≢true (sym (ap not (named (let both : Some dep ≡ Some [] = sym dep_is ∙ empty in cc)))
+      λ nameless. absurd (false≢true (sym (ap not (named (let both : Some dep ≡ Some [] = sym dep_is ∙ nameless in cc)))
           ∙ bounds.0)),
       subst (λ goal. length (slots_of goal) ≤ 4294967296) (sym goal_is) (leb-true (length goal.slots) 4294967296 bounds.1),
     )
@@ -40,9 +40,9 @@ opening_keeps m o outside may = by (opens_of m.known o may.0)
         bounds = and_parts (not (bytes_eq goal.dep [])) _ (bounds_of m.known o goal goal_is may.1)
 
         named : dep ≡ [] → bytes_eq goal.dep [] ≡ true
-        named empty = ap (λ dep. bytes_eq dep []) (same ∙ empty)
+        named nameless = ap (λ dep. bytes_eq dep []) (same ∙ nameless)
     by (of_none dep_is goal_is) = (
-      λ empty. absurd (let both : None ≡ Some [] = sym dep_is ∙ empty in cc),
+      λ nameless. absurd (let both : None ≡ Some [] = sym dep_is ∙ nameless in cc),
       subst (λ goal. length (slots_of goal) ≤ 4294967296) (sym goal_is) (let low : 0 ≤ 4294967296 = omega arith in low),
     )
 
