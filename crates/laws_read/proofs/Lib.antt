@@ -1,0 +1,9 @@
+pub mod AllowedLemmas
+pub mod FitLemmas
+pub mod MoveLemmas
+pub mod NoteLemmas
+pub mod ReadLemmas
+pub mod SoundLemmas
+pub mod StoredLemmas
+pub mod TellableLemmas
+pub mod WalkLemmas
