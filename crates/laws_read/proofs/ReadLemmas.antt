@@ -32,15 +32,18 @@ use Rattle.laws_read.proofs.TellableLemmas.{IsReadAs, calls_grow, stored_readabl
 use Rattle.laws_read.proofs.WalkLemmas.{told_behind, walked}
 use Rattle.laws_read.specs.AtRest.{IsToldAtRest, StandsAtRest}
 use Rattle.laws_runs.proofs.PlainLemmas.{stored_told}
-use Rattle.laws_sites.proofs.FirstLemmas.{first_stands}
-use Rattle.laws_sites.specs.First.{told_first}
+use Rattle.laws_recovery.proofs.FirstLemmas.{first_stands}
+use Rattle.laws_recovery.specs.First.{told_first}
 use Rattle.laws_stands.specs.Agrees.{Agrees}
 use Rattle.laws_stands.specs.Told.{TellsWell, Told, telling}
 use Rattle.laws_stands_fits.specs.Whole.{StandsWhole}
 use Rattle.laws_stands_kept.proofs.KeptLemmas.{one_more_stands}
 use Rattle.laws_stands_noted.proofs.AgreesLemmas.{move_agrees}
 use Rattle.laws_stands_noted.specs.Later.{told_kept, told_later}
-use Rattle.laws_stands_snapshots.proofs.TellsLemmas.{learned_stands}
+use Rattle.laws_stands_snapshots.proofs.BuiltGoOnLemmas.{built_goes_on, none_stand}
+use Rattle.laws_stands_snapshots.proofs.BuiltOrderLemmas.{built_read}
+use Rattle.laws_stands_snapshots.proofs.TellsLemmas.{learned_anew, learned_stands}
+use Rattle.laws_stands_snapshots.specs.Built.{AreBuiltInOrder, BuiltStand}
 use Rattle.laws_stands_snapshots.specs.Readable.{IsReadable}
 
 -- ---- at rest
@@ -102,6 +105,7 @@ pub record IsStanding (now : Records) (m : Moment) (rest : List Entry) : Type 0 
   pub told : Told
   pub whole : StandsWhole told was
   pub agrees : Agrees m told
+  pub built : BuiltStand told.known.built (recorded was)
   pub goes_on : AreLearned was rest now
 
 -- .. as long as calls have numbers
@@ -141,6 +145,7 @@ module _ (outside : Outside) (now : Records) (m : Moment) (move : Move) (rest : 
     told = it.told;
     whole = it.whole;
     agrees = agrees_later outside m move all may None is it.told it.was it.whole it.agrees;
+    built = it.built;
     goes_on = it.goes_on;
   }
   then_stands (Some entry) is (may_note, follows) numbers it =
@@ -150,6 +155,8 @@ module _ (outside : Outside) (now : Records) (m : Moment) (move : Move) (rest : 
         told = telling it.told entry;
         whole = one_more_stands outside m it.told it.was mid entry it.whole it.agrees all numbers follows may_note learns;
         agrees = agrees_later outside m move all may (Some entry) is it.told it.was it.whole it.agrees;
+        built = built_goes_on outside m it.told it.was entry mid it.whole.stands it.agrees all.holds.known may_note learns
+            it.built;
         goes_on = more;
       }
 
@@ -187,6 +194,7 @@ module _ (outside : Outside) where
         agrees =
             rest_agrees (with_known (known_of before) (beginning o)) it.told it.known_is (λ n. refl)
             (sym (ap (λ (k : Known). k.tasks) (stored_told before o.entries all))) it.at_rest;
+        built = it.built;
         goes_on = goes_on;
       }
 
@@ -210,6 +218,7 @@ module _ (outside : Outside) where
         at_rest =
             told_at_rest (with_known (fold learn (known_of before) behind) (moment o session)) it.told whole.holds.known
             it.agrees it.whole.stands.tells_well;
+        built = subst (λ (records : Records). BuiltStand it.told.known.built (recorded records)) (sym it.goes_on) it.built;
       }
 
   -- entries that are stored for those of a session and of what it began on
@@ -245,13 +254,14 @@ module _ (outside : Outside) where
       low : (n : ℕ) → n ≤ 4611686018427387904 → n ≤ 18446744073709551615
       low n less = omega arith
 
-  snapshot_stands : (s : Snapshot) (first now : Records) → IsReadable s → has_numbers (known_by s) ≡ true
-      → Learns first (entries.Snapshot s) now → StandsAtRest (known_by s) now
-  snapshot_stands s first now it numbers learns = record {
+  snapshot_stands : (s : Snapshot) (first now : Records) → IsReadable s → AreBuiltInOrder s.built_keys
+      → has_numbers (known_by s) ≡ true → Learns first (entries.Snapshot s) now → StandsAtRest (known_by s) now
+  snapshot_stands s first now it in_order numbers learns = record {
     told = telling told_first (entries.Snapshot s);
     known_is = refl;
     whole = learned_stands told_first first s now it (small s numbers) learns;
     at_rest = record { snapped = itself (length s.tasks); opened = λ n b is. absurd (let no = is in cc) };
+    built = subst (BuiltStand s.built_keys) (sym (learned_anew first s now learns)) (built_read s it in_order);
   }
     where
       itself : (n : ℕ) → n ≤ n
@@ -269,14 +279,17 @@ module _ (outside : Outside) where
     shortened_stands [] now short numbers goes_on = absurd short
     shortened_stands (entry ∷ []) now short numbers (mid, learns, same) =
         subst (λ (e : Entry). StandsAtRest (learn nothing_known e) now) (sym it.is)
-        (snapshot_stands it.told first now it.can
+        (snapshot_stands it.told first now it.can (subst AreBuiltInOrder (sym it.same_keys) can.1)
         (subst (λ (e : Entry). has_numbers (learn nothing_known e) ≡ true) it.is numbers)
         (subst (Learns first (entries.Snapshot it.told)) (sym same)
         (subst (λ (e : Entry). Learns first e mid) it.is learns)))
       where
+        can : IsReadable (snapshot_of (known_of (durable before session)))
+            × AreBuiltInOrder (known_of (durable before session)).built
+        can = snapshot_readable outside before next session fit pair (fit_tellable outside before fit)
+
         it : IsReadAs entry (snapshot_of (known_of (durable before session)))
-        it = stored_readable entry (snapshot_of (known_of (durable before session))) short
-            (snapshot_readable outside before next session fit pair (fit_tellable outside before fit)).0
+        it = stored_readable entry (snapshot_of (known_of (durable before session))) short can.0
     shortened_stands (entry ∷ other ∷ start) now short numbers goes_on = absurd short
 
     left_stands : (start : List Entry) (now : Records) → AreStoredAs start next.entries → AreLearned first start now
@@ -299,6 +312,7 @@ module _ (outside : Outside) where
     known_is = refl;
     whole = first_stands now (ap recorded same ∙ is);
     at_rest = record { snapped = none; opened = λ n b is. absurd (let no = is in cc) };
+    built = subst (BuiltStand nothing_known.built) (sym (ap recorded same ∙ is)) none_stand;
   }
     where
       none : 0 ≤ 0

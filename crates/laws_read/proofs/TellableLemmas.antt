@@ -55,7 +55,7 @@ use Rattle.laws_facts.specs.Tasks.{is_open_task}
 use Rattle.laws_read.proofs.MoveLemmas.{noted_by}
 use Rattle.laws_row_facts.specs.Words.{implies}
 use Rattle.laws_runs.proofs.RestLemmas.{Outlasts, Rests, facts_rest, reopened}
-use Rattle.laws_sites.specs.First.{told_first}
+use Rattle.laws_recovery.specs.First.{told_first}
 use Rattle.laws_stands.specs.Agrees.{Agrees}
 use Rattle.laws_stands.specs.Told.{TellsWell, Told}
 use Rattle.laws_stands_fits.specs.Own.{TellsOwn}

@@ -1,3 +1,4 @@
 pub mod EndedLemmas
+pub mod FirstLemmas
 pub mod OpenLemmas
 pub mod RestLemmas

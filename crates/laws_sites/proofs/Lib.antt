@@ -4,7 +4,6 @@ pub mod ChoiceLemmas
 pub mod ClaimLemmas
 pub mod ClaimStoppedLemmas
 pub mod EndLemmas
-pub mod FirstLemmas
 pub mod FoundLemmas
 pub mod FoundOpenLemmas
 pub mod HaltLemmas

@@ -1,4 +1,3 @@
 pub mod Calls
-pub mod First
 pub mod Found
 pub mod Good

@@ -4,7 +4,6 @@
 
 mod calls;
 mod choices;
-mod first;
 mod found;
 mod jobs;
 mod kept;
@@ -18,7 +17,6 @@ mod uploads;
 
 pub use calls::open_calls_are_those_of_the_moment;
 pub use choices::{a_task_may_end_as_it_comes_to_its_end, what_a_good_site_chooses_is_lawful};
-pub use first::what_is_recorded_at_first_stands;
 pub use found::what_is_outside_is_as_it_is_found_out;
 pub use jobs::{a_good_site_loses_what_may_be_lost, a_good_site_writes_what_a_job_may};
 pub use kept::{a_good_site_is_armed, a_good_site_replies};

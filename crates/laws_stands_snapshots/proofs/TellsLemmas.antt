@@ -404,7 +404,7 @@ pub anew_fits : (told : Told) (s : Snapshot) → IsReadable s → Fits (telling 
 anew_fits told s r = subst (Fits (telling told (entries.Snapshot s))) (sym (anew_is s)) (fits told s r)
 
 -- .. and so where it is learned
-learned_anew : (was : Records) (s : Snapshot) (now : Records) → Learns was (entries.Snapshot s) now → recorded now ≡ anew s
+pub learned_anew : (was : Records) (s : Snapshot) (now : Records) → Learns was (entries.Snapshot s) now → recorded now ≡ anew s
 learned_anew was s now learns = by learns.change learns.planned learns.is_learned
   where
     by : (change : Change) → IsPlanned was learns.roomy (entries.Snapshot s) change

@@ -3,7 +3,7 @@ ghost use Rattle.std.specs.Prelude.{◌≡◌};
 ghost use Rattle.bosh_history.specs.Moments as moments;
 ghost use Rattle.bosh_records.specs.Recorded.{nothing, recorded};
 ghost use Rattle.bosh_records.specs.declared.records.Records.{Records};
-ghost use Rattle.laws_sites.specs.First.{told_first};
+ghost use Rattle.laws_recovery.specs.First.{told_first};
 ghost use Rattle.laws_stands.specs.Agrees.{Agrees};
 ghost use Rattle.laws_stands_fits.specs.Whole.{StandsWhole};
 

@@ -11,7 +11,7 @@ use Rattle.bosh_history.specs.Snapshots.{task_row}
 use Rattle.bosh_records.specs.Ordered.{AreOrdered}
 use Rattle.bosh_records.specs.Recorded.{nothing, recorded}
 use Rattle.bosh_records.specs.declared.records.Records.{Records}
-use Rattle.laws_sites.specs.First.{told_first}
+use Rattle.laws_recovery.specs.First.{told_first}
 use Rattle.laws_stands.specs.Agrees.{Agrees}
 use Rattle.laws_stands.specs.Linked.{IsLinked}
 use Rattle.laws_stands.specs.Stands.{StandsIn}
