@@ -17,7 +17,8 @@ use Rattle.bosh_book.specs.Starts.{Finishes, Takes, open_tasks}
 use Rattle.bosh_book.specs.declared.book.Book.{Book}
 use Rattle.bosh_cloud.specs.Loading as cloud
 use Rattle.bosh_fold.specs.Learns.{LearnsAll}
-use Rattle.bosh_history.specs.Fit.{IsFit, LeavesPair, empty, has_numbers, left}
+use Rattle.bosh_history.proofs.StoredLemmas.{stored_itself}
+use Rattle.bosh_history.specs.Fit.{AreStoredAs, IsFit, empty, has_numbers, left}
 use Rattle.bosh_history.specs.Known.{Known}
 use Rattle.bosh_history.specs.Learn.{known_of}
 use Rattle.bosh_history.specs.Moments.{Moment, Opening, beginning, durable, durable_entry, later, moment, noting}
@@ -40,6 +41,8 @@ use Rattle.bosh_world.specs.declared.site.Site.{Site}
 use Rattle.laws_facts.specs.KnownFacts.{KnownFacts}
 use Rattle.laws_facts.specs.Owners.{works}
 use Rattle.laws_held.proofs.HeldLemmas.{fit_holds}
+use Rattle.laws_read.proofs.ReadLemmas.{read_stands, rest_agrees}
+use Rattle.laws_read.specs.AtRest.{StandsAtRest}
 use Rattle.laws_recovery.proofs.OpenLemmas.{moment_ended, none_going, open_end, recovered_then}
 use Rattle.laws_recovery.proofs.RestLemmas.{same_ends, same_snapshot, stands_shortened}
 use Rattle.laws_recovery.specs.Interrupted.{interruption, interruptions, open_at}
@@ -102,17 +105,25 @@ agrees_on outside m told (t ∷ more) agrees facts run =
     (facts_kept outside m (moves.Note (interruption t)) run.0 facts) run.1
 
 -- what is read of a fit pair's entries stands, and so do the compiled keys
-pub record IsReadWell (k : Known) (m : Moment) (records : Records) : Type 0 where
+record IsReadWell (k : Known) (m : Moment) (records : Records) : Type 0 where
   pub told : Told
   pub agrees : Agrees m told
   pub whole : StandsWhole told records
   pub built : BuiltStand k.built (recorded records)
 
-abbrev pub ReadsWell : Type 0
-ReadsWell =
-    (outside : Outside) (o : Opening) (records : Records) → IsFit outside o
+reads_well : (outside : Outside) (o : Opening) (records : Records) → IsFit outside o
     → (known_of o.entries).last_call < 18446744073709551615 → IsRead o.entries records
     → IsReadWell (known_of o.entries) (beginning o) records
+reads_well outside o records fit numbers read = record {
+  told = it.told;
+  agrees = rest_agrees (beginning o) it.told it.known_is (λ n. refl) refl it.at_rest;
+  whole = it.whole;
+  built = subst (λ (known : Known). BuiltStand known.built (recorded records)) it.known_is it.built;
+}
+  where
+    it : StandsAtRest (known_of o.entries) records
+    it = read_stands outside o [] o.entries records fit tt
+        (subst (AreStoredAs o.entries) (sym (append-nil o.entries)) (stored_itself o.entries)) numbers read
 
 -- ---- a site whose moves are the ends of the tasks that were open
 
@@ -186,7 +197,7 @@ module _ {K L : Type 0} {k : keeper.Ghosts K} {l : keeper.Ghosts L} (bodies : K 
   abbrev pub read_pair : Opening
   read_pair = record { entries = loads.book.first.journal.entries; effects = site.cloud.effects }
 
-  module _ (one_more : OneMoreStands) (reads_well : ReadsWell) (fit : IsFit outside read_pair) where
+  module _ (one_more : OneMoreStands) (fit : IsFit outside read_pair) where
     abbrev first : Moment
     first = beginning read_pair
 

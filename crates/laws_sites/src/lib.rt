@@ -7,6 +7,7 @@ mod choices;
 mod found;
 mod jobs;
 mod kept;
+mod loaded;
 mod openings;
 mod performed;
 mod refused;
@@ -20,6 +21,7 @@ pub use choices::{a_task_may_end_as_it_comes_to_its_end, what_a_good_site_choose
 pub use found::what_is_outside_is_as_it_is_found_out;
 pub use jobs::{a_good_site_loses_what_may_be_lost, a_good_site_writes_what_a_job_may};
 pub use kept::{a_good_site_is_armed, a_good_site_replies};
+pub use loaded::a_site_that_was_loaded_is_good;
 pub use openings::{a_good_site_opens_a_task, a_good_site_that_opens_no_task_stays_good};
 pub use performed::a_good_site_performs_what_it_may;
 pub use refused::{
