@@ -11,7 +11,8 @@ use Rattle.bosh_base.specs.declared.moves.Move.TheVariants as moves
 use Rattle.bosh_base.specs.declared.snapshot.Snapshot.{Snapshot}
 use Rattle.bosh_claim.specs.Allowed.{allowed}
 use Rattle.bosh_history.proofs.KnownLemmas.{known_by_entries, learned}
-use Rattle.bosh_history.specs.Fit.{AreShortened, AreStoredAs, IsFit, IsStoredAs, LeavesPair, StandFor, empty, left, plain, plain_entry}
+use Rattle.bosh_history.specs.Fit.{AreShortened, AreStoredAs, IsFit, IsStoredAs, LeavesPair, StandFor, empty, left, plain}
+use Rattle.bosh_history.specs.Fit.{plain_entry}
 use Rattle.bosh_history.specs.Known.{Known}
 use Rattle.bosh_history.specs.Learn.{known_of, learn}
 use Rattle.bosh_history.specs.Moments.{Moment, Opening, beginning, durable, durable_entry, later, moment}

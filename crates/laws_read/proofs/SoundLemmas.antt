@@ -36,8 +36,8 @@ use Rattle.bosh_history.specs.Snapshots.{compile_row, known_by, snapshot_of, tas
 use Rattle.bosh_history.specs.Words.{is_among}
 use Rattle.bosh_rows.specs.CallOf.{has_its_machine, is_doubt_on_machine}
 use Rattle.bosh_rows.specs.SoundSnapshot.{are_distinct, are_in_order, are_numbered, built_cmp, has_lock}
-use Rattle.bosh_rows.specs.SoundSnapshot.{have_locks_of_their_own, is_built_before, is_compile_row_before, is_less, is_listed_well}
-use Rattle.bosh_rows.specs.SoundSnapshot.{is_orphan_before, is_row_before, is_sound_machine, is_sound_row, is_sound_snapshot}
+use Rattle.bosh_rows.specs.SoundSnapshot.{have_locks_of_their_own, is_built_before, is_compile_row_before, is_less}
+use Rattle.bosh_rows.specs.SoundSnapshot.{is_listed_well, is_orphan_before, is_row_before, is_sound_machine, is_sound_row, is_sound_snapshot}
 use Rattle.bosh_rows.specs.SoundSnapshot.{same_built_key, same_deployment, same_disk, stands_before}
 use Rattle.laws_facts.specs.Facts.{Holds}
 use Rattle.laws_facts.specs.Tasks.{has_another_lock, is_open_task}
@@ -223,7 +223,8 @@ module _ (k : Known) (locks : (t other : ℕ) → has_another_lock k t other ≡
       → AreOpened xs → list_any (eqb t) xs ≡ false → list_any (has_lock (k.task t).dep) (map (task_row k) xs) ≡ false
   none_locked t [] there going opened none = refl
   none_locked t (u ∷ xs) there going opened none =
-      by (eqb t u) refl none (has_lock (k.task t).dep (task_row k u)) refl (none_locked t xs there going (rest_opened u xs opened))
+      by (eqb t u) refl none (has_lock (k.task t).dep (task_row k u)) refl
+      (none_locked t xs there going (rest_opened u xs opened))
     where
       by : (b : Bool) → eqb t u ≡ b → (b || list_any (eqb t) xs) ≡ false
           → (c : Bool) → has_lock (k.task t).dep (task_row k u) ≡ c
@@ -283,7 +284,8 @@ module _ (m : Moment) (all : Holds m) (it : IsReadable (snapshot_of m.known)) (b
       (and_from (are_in_order is_orphan_before (snapshot_of k).orphans) _
       (named_in_order nat_cmp (λ (row : Orphan). row.disk) (snapshot_of k).orphans
       (ap (are_ascending nat_cmp) lasts.orphans ∙ all.known.lists.orphans_in_order))
-      (and_from (are_in_order is_built_before k.built) _ (rises_in_order built_cmp k.built built.order) (keys_apart k.built ∙ it.keys_apart)))))
+      (and_from (are_in_order is_built_before k.built) _ (rises_in_order built_cmp k.built built.order)
+      (keys_apart k.built ∙ it.keys_apart)))))
 
   locks : have_locks_of_their_own (snapshot_of k).tasks ≡ true
   locks =
