@@ -10,6 +10,7 @@ use Rattle.bosh_asks.specs.Changed as changed
 use Rattle.bosh_asks.specs.Known as asks
 use Rattle.bosh_asks.specs.Recorded.{first_consumer, held_by, holder, loose, withdrawn}
 use Rattle.bosh_base.specs.Cloud.{numbers_to}
+use Rattle.bosh_base.specs.declared.entry.Entry.TheVariants as entries
 use Rattle.bosh_base.specs.declared.entry.TaskOpen.{TaskOpen}
 use Rattle.bosh_base.specs.declared.goal.Goal.{Goal}
 use Rattle.bosh_base.specs.declared.goal.GoalRow.{GoalRow}
@@ -41,6 +42,7 @@ use Rattle.bosh_rows.specs.Same.{same_inst}
 use Rattle.bosh_rows.specs.SoundSnapshot.{has_lock}
 use Rattle.bosh_rows.specs.Disks.{is_detached}
 use Rattle.bosh_rows.specs.Standing.{is_empty, stands}
+use Rattle.laws_allowed_openings.specs.Sources.{MayTellSource}
 use Rattle.laws_views.proofs.ReadLemmas.{in_goal}
 use Rattle.laws_stands_on.proofs.ChangedLemmas.{some_mapped}
 use Rattle.laws_views.specs.Read.{AreReadAsKnown}
