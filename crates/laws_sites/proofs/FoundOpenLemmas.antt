@@ -1,6 +1,7 @@
 -- The tasks that a book finds open by its records are those that are open by what is known.
 use Rattle.std.proofs.Common.{◌≡◌, ◌∙◌, ℕ, Bool, true, false, not, List, [], ◌∷◌, Option, Some, None, ap, filter, map, refl, sym}
-use Rattle.std.specs.Prelude.{◌&&◌, AllByRecursion, eqb, is_none, is_some, nat_le, if◌then◌else◌}
+use Rattle.std.specs.Prelude.{◌&&◌, eqb, is_none, is_some, nat_le, if◌then◌else◌}
+use Rattle.std.specs.List.{AllByRecursion}
 use Rattle.std.specs.Option.{option_and_then}
 use Rattle.std.specs.Ordering.{nat_cmp}
 use Rattle.bosh_base.specs.Cloud.{numbers_to}
@@ -8,7 +9,6 @@ use Rattle.bosh_base.specs.declared.task.TaskEnd.{TaskEnd}
 use Rattle.bosh_base.specs.declared.task.TaskRow.{TaskRow}
 use Rattle.bosh_book.specs.Starts as book
 use Rattle.bosh_history.specs.Held.{is_open}
-use Rattle.bosh_history.specs.Known.{Known}
 use Rattle.bosh_history.specs.Moments.{Moment}
 use Rattle.bosh_history.specs.Snapshots.{task_row}
 use Rattle.bosh_records.specs.Recorded.{recorded}

@@ -1,8 +1,7 @@
 -- A site that was loaded on a fit pair of stores is good.
-use Rattle.std.proofs.Common.{◌≡◌, ◌∙◌, ◌<◌, ◌≤◌, ℕ, suc, ◌-◌, ◌+◌, Bool, true, false, List, [], ◌∷◌, ◌++◌, Option, Some, None}
-use Rattle.std.proofs.Common.{Ok, Err, Result, ap, append-nil, arith, drop, inl, inr, length, map, refl, subst, sym}
+use Rattle.std.proofs.Common.{◌≡◌, ◌∙◌, ◌<◌, ◌≤◌, ℕ, ◌-◌, ◌+◌, Bool, true, false, List, [], ◌∷◌, ◌++◌, Option, Some, None}
+use Rattle.std.proofs.Common.{Ok, Err, Result, ap, append-nil, arith, drop, inl, inr, length, length-append, map, refl, subst, sym}
 use Rattle.std.specs.Prelude.{◌&&◌, IfSome, fold, is_ok, is_some, nat_le}
-use Rattle.std.specs.List.{filter_map}
 use Rattle.std.proofs.lemmas.Bool.{and_parts, false≢true, leb-true}
 use Rattle.bosh_asks.specs.declared.fault.BookFault.{BookFault}
 use Rattle.bosh_base.specs.declared.entry.Entry.{Entry}
@@ -15,18 +14,15 @@ use Rattle.bosh_book.specs.Folds.{IsRead}
 use Rattle.bosh_book.specs.Starts as book
 use Rattle.bosh_book.specs.Starts.{Finishes, Takes, open_tasks}
 use Rattle.bosh_book.specs.declared.book.Book.{Book}
-use Rattle.bosh_cloud.specs.Loading as cloud
 use Rattle.bosh_fold.specs.Learns.{LearnsAll}
 use Rattle.bosh_history.proofs.StoredLemmas.{stored_itself}
 use Rattle.bosh_history.specs.Fit.{AreStoredAs, IsFit, empty, has_numbers, left}
 use Rattle.bosh_history.specs.Known.{Known}
 use Rattle.bosh_history.specs.Learn.{known_of}
-use Rattle.bosh_history.specs.Moments.{Moment, Opening, beginning, durable, durable_entry, later, moment, noting}
+use Rattle.bosh_history.specs.Moments.{Moment, Opening, beginning, durable, later, moment, noting}
 use Rattle.bosh_history.specs.Notes.{Outside}
 use Rattle.bosh_history.specs.Permitted.{IsRun, IsRunFrom}
-use Rattle.bosh_history.specs.Recovered.{is_recovering}
 use Rattle.bosh_history.specs.Snapshots.{known_by, snapshot_of}
-use Rattle.bosh_journal.specs.Kept as journal
 use Rattle.bosh_moves.proofs.TellLemmas.{story_all}
 use Rattle.bosh_ports.specs.Rigged.{RigState, faults_of}
 use Rattle.bosh_ports.specs.declared.keeper.Keeper as keeper
@@ -39,7 +35,6 @@ use Rattle.bosh_world.specs.Steps.{bodies_of}
 use Rattle.bosh_world.specs.Told.{story_of}
 use Rattle.bosh_world.specs.declared.site.Site.{Site}
 use Rattle.laws_facts.specs.KnownFacts.{KnownFacts}
-use Rattle.laws_facts.specs.Owners.{works}
 use Rattle.laws_held.proofs.HeldLemmas.{fit_holds}
 use Rattle.laws_read.proofs.ReadLemmas.{read_stands, rest_agrees}
 use Rattle.laws_read.specs.AtRest.{StandsAtRest}
@@ -63,12 +58,8 @@ drop_front : {A : Type 0} (xs ys : List A) → drop (length xs) (xs ++ ys) ≡ y
 drop_front [] ys = refl
 drop_front (x ∷ xs) ys = drop_front xs ys
 
-lengths : {A : Type 0} (xs ys : List A) → length (xs ++ ys) ≡ length xs + length ys
-lengths [] ys = refl
-lengths (x ∷ xs) ys = ap suc (lengths xs ys)
-
 front_length : {A : Type 0} (xs ys : List A) → length (xs ++ ys) - length ys ≡ length xs
-front_length xs ys = by (length (xs ++ ys)) (length xs) (length ys) (lengths xs ys)
+front_length xs ys = by (length (xs ++ ys)) (length xs) (length ys) (length-append xs ys)
   where
     by : (n a b : ℕ) → n ≡ a + b → n - b ≡ a
     by n a b is = omega arith
@@ -257,7 +248,7 @@ module _ {K L : Type 0} {k : keeper.Ghosts K} {l : keeper.Ghosts L} (bodies : K 
 
     main : (taken : Result (Unit {0}) BookFault) (mid : Book (RigState K))
         → Takes (bodies_of bodies) (faults_of faults) true loads.book.first taken mid
-        → Finishes (bodies_of bodies) (faults_of faults) mid taken (Ok tt) site.book → is_ok taken ≡ true
+        → Finishes (bodies_of bodies) (faults_of faults) mid taken (Ok (tt {0})) site.book → is_ok taken ≡ true
         → (o : Opening) × IsFit outside o × IsGood outside bodies cloud_bodies o site
     main (Err fault) mid takes finishes ok = absurd (false≢true ok)
     main (Ok value) mid takes finishes ok = by (book.gives_way true loads.book.first.journal.entries) takes.taken

@@ -12,7 +12,7 @@ use Rattle.bosh_cloud.specs.CloudView.{CloudView}
 use Rattle.bosh_cloud.specs.Loading as cloud
 use Rattle.bosh_history.specs.Moments.{Moment, Opening, durable_entry, later, noting}
 use Rattle.bosh_history.specs.Notes.{Begins, BeginsUpdate, EndsTask, EndsUpdate, IsCause, Leaves, MayNote, Outside}
-use Rattle.bosh_history.specs.Permitted.{IsPermitted, IsRunFrom}
+use Rattle.bosh_history.specs.Permitted.{IsRunFrom}
 use Rattle.bosh_journal.specs.Appends.{added}
 use Rattle.bosh_journal.specs.JournalView.{Pending}
 use Rattle.bosh_ports.specs.declared.keeper.Keeper as keeper

@@ -16,7 +16,7 @@ use Rattle.bosh_history.specs.Fit.{IsFit}
 use Rattle.bosh_history.specs.Known.{Known}
 use Rattle.bosh_history.specs.Moments.{Opening, later}
 use Rattle.bosh_history.specs.Notes.{Outside}
-use Rattle.bosh_history.specs.Permitted.{IsPermitted, IsRunFrom}
+use Rattle.bosh_history.specs.Permitted.{IsRunFrom}
 use Rattle.bosh_ports.specs.declared.keeper.Keeper as keeper
 use Rattle.bosh_records.specs.Readers.{work_at}
 use Rattle.bosh_work.specs.declared.work.Work.{Work}

@@ -26,7 +26,6 @@ use Rattle.bosh_history.specs.Moments.{Moment, Opening, noting}
 use Rattle.bosh_history.specs.Notes as history
 use Rattle.bosh_history.specs.Notes.{MayNote, Outside}
 use Rattle.bosh_history.specs.Openings.{HasSource}
-use Rattle.bosh_history.specs.Permitted.{IsPermitted}
 use Rattle.bosh_history.specs.Recovered.{is_interruption}
 use Rattle.bosh_ports.specs.declared.keeper.Keeper as keeper
 use Rattle.bosh_records.specs.declared.records.Records.{Records}
