@@ -4,9 +4,9 @@ ghost use Rattle.bosh_manifest.specs.Sound.{IsSound};
 use crate::Contents;
 use std::marker::Model;
 
-/// A checked manifest. It has a name; no name stands twice in one list; there are at most 64 groups, of at most 256 instances each and
-/// 512 in all; a group has a zone, at most 64 jobs and at most 16 networks, of which exactly one has the gateway; shares,
-/// numbers of instances and sizes of disks are within their bounds.
+/// A checked manifest. It has a name; no name stands twice in one list; there are at most 64 groups, of at most 256
+/// instances each and 512 in all; a group has a zone, at most 64 jobs and at most 16 networks, of which exactly one has
+/// the gateway; shares, numbers of instances and sizes of disks are within their bounds.
 #[derive(Drop)]
 pub struct Manifest {
     contents: Contents,

@@ -53,7 +53,8 @@ IsNoBook {K} bodies faults is_broken store store_now fault =
 abbrev pub IsUntold : {K : Type 0} → (K → Option (List (List ℕ))) → (K → ℕ) → (K → Bool) → K → K → SiteFault → Type 0
 IsUntold {K} bodies faults is_broken store store_now fault =
     (fault ≡ Memory) × ((book : Book (RigState K))
-    × (StartsFrom {T = Unit {0}} (bodies_of bodies) (faults_of faults) (broken_of is_broken) true (without_rigs store) (Ok tt) book
+    × (StartsFrom {T = Unit {0}} (bodies_of bodies) (faults_of faults) (broken_of is_broken) true (without_rigs store) (Ok tt)
+    book
     × (store_now ≡ book.journal.store.inner)))
 
 -- The keepers are given back: the cloud was not loaded, and the director's keeper is as it was; or the book was not; or
