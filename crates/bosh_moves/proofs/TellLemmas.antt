@@ -10,7 +10,7 @@ use Rattle.bosh_base.specs.declared.moves.Move.{Move}
 use Rattle.bosh_base.specs.declared.moves.Move.TheVariants.{Note, Stop}
 use Rattle.bosh_moves.proofs.StoryLemmas.{extends_more, extends_self}
 use Rattle.bosh_moves.specs.Found.{kept_at, stop_of}
-use Rattle.bosh_moves.specs.Story.{Follows, HistoryView, IsOf, IsTold, Tells, TellsNotes, effects_by, effects_told, halts, kept_count, notes, stops, story, to_tell, told_count}
+use Rattle.bosh_moves.specs.Story.{Follows, HistoryView, IsOf, IsTold, Tells, TellsNotes, effects_after, effects_by, effects_told, halts, kept_count, notes, stops, story, to_tell, told_count}
 
 plus_none : (n : ℕ) → n + 0 ≡ n
 plus_none n = omega arith
@@ -226,6 +226,19 @@ bare was entries effects restart halt =
 -- where no restart is to be told, the effects that are told are those that moves tell
 pub told_on : (h : HistoryView) (effects : List Entry) → h.restart ≡ None → effects_told h effects ≡ h.effects
 told_on h effects none = effects_on h effects None none
+
+-- .. however many are there, of a site that has not halted
+pub told_running : (h : HistoryView) (entries effects others : List Entry) → IsOf h entries → h.is_halted ≡ false →
+    effects_told h effects ≡ effects_told h others
+told_running h entries effects others of running =
+    told_on h effects (of.no_restart running) ∙ sym (told_on h others (of.no_restart running))
+
+-- notes and a halt tell no effect
+pub after_notes : (entries : List Entry) (halt : Option Cause) (there told : ℕ) →
+    effects_after (map Note entries ++ halts halt) there told ≡ told
+after_notes [] (Some cause) there told = refl
+after_notes [] None there told = refl
+after_notes (entry ∷ entries) halt there told = after_notes entries halt there told
 
 -- a site that has not halted has notes to tell at most
 pub bare_on : (was : HistoryView) (entries effects : List Entry) → IsOf was entries → was.is_halted ≡ false →

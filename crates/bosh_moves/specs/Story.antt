@@ -4,7 +4,7 @@ use Rattle.bosh_base.specs.History.{Extends}
 use Rattle.bosh_base.specs.declared.entry.Entry.{Entry}
 use Rattle.bosh_base.specs.declared.moves.Cause.{Cause}
 use Rattle.bosh_base.specs.declared.moves.Move.{Move}
-use Rattle.bosh_base.specs.declared.moves.Move.TheVariants.{Note, Halt, Stop}
+use Rattle.bosh_base.specs.declared.moves.Move.TheVariants.{Note, Did, Wrote, Halt, Stop, Lost}
 use Rattle.bosh_moves.specs.Found.{kept_at, stop_of}
 
 -- The moves, and how many more need no memory. How many entries of the book, and effects of the cloud, they tell, with
@@ -59,6 +59,15 @@ effects_by None told there = told
 -- how many effects the moves tell, with those of a restart that is to be told
 unfoldable pub effects_told : HistoryView → List Entry → ℕ
 effects_told history effects = effects_by history.restart history.effects (length effects)
+
+-- .. and after these moves, where so many are there: what is performed, written or lost, and what a restart found, tells all
+abbrev pub effects_after : List Move → ℕ → ℕ → ℕ
+effects_after [] there told = told
+effects_after (Did d ∷ rest) there told = effects_after rest there there
+effects_after (Wrote w ∷ rest) there told = effects_after rest there there
+effects_after (Lost loss ∷ rest) there told = effects_after rest there there
+effects_after (Stop stop ∷ rest) there told = effects_after rest there there
+effects_after (move ∷ rest) there told = effects_after rest there told
 
 -- neither a restart nor a halt is to be told
 pub record IsTold (history : HistoryView) : Type 0 where

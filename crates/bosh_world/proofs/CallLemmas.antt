@@ -33,7 +33,7 @@ use Rattle.bosh_book.specs.declared.claim.Claim.{Claim}
 use Rattle.bosh_book.specs.declared.claim.Claim.TheVariants.{Over, Wait, Work}
 use Rattle.bosh_book.specs.declared.uploads.Added.{Added}
 use Rattle.bosh_book.specs.declared.uploads.Added.TheVariants.{New, Same}
-use Rattle.bosh_moves.specs.Story.{Follows, HistoryView, story}
+use Rattle.bosh_moves.specs.Story.{Follows, HistoryView, effects_told, story}
 use Rattle.bosh_ports.specs.declared.rig.Rig.{Rig}
 use Rattle.bosh_ports.specs.declared.rig.Rig.TheVariants as rigs
 use Rattle.bosh_world.specs.declared.held.HeldCall as held
@@ -219,6 +219,7 @@ comes_nothing was now same_book same_cloud same_history = record {
       ∙ ap (λ b. story was.history b.journal.entries now.cloud.effects) same_book
       ∙ ap (λ c. story was.history was.book.journal.entries c.effects) same_cloud
       ∙ sym (append-nil (story_of was));
+  told = (λ i. effects_told (same_history i) (same_cloud i).effects);
 }
 
 -- ---- claims

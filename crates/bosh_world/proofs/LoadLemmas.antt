@@ -8,7 +8,7 @@ use Rattle.bosh_book.specs.Starts.{IsNotLoaded, StartsFrom}
 use Rattle.bosh_book.specs.declared.book.Book.{Book}
 use Rattle.bosh_cloud.specs.CloudView.{CloudView}
 use Rattle.bosh_journal.specs.Kept.{IsKept}
-use Rattle.bosh_moves.proofs.TellLemmas.{of_on, story_all, story_on}
+use Rattle.bosh_moves.proofs.TellLemmas.{of_on, story_all, story_on, told_on}
 use Rattle.bosh_moves.specs.Story.{HistoryView, halts, story}
 use Rattle.bosh_ports.specs.Rigged.{RigState, broken_of, faults_of}
 use Rattle.bosh_ports.specs.declared.keeper.Keeper as keeper
@@ -74,6 +74,12 @@ joins bodies faults is_broken store cloud book was site starts kept joined comes
           ∙ ap (λ it. map Note (drop (read_count book) it.journal.entries)) joined.same_book
           ∙ ap (λ it. map Note (drop (read_count it) it.journal.entries)) (sym same);
       told = told;
+      effects_told =
+          sym (told_on site.history site.cloud.effects told.told.no_restart)
+          ∙ comes.told
+          ∙ told_on was.history was.cloud.effects (ap (λ h. h.restart) joined.history)
+          ∙ ap (λ h. h.effects) joined.history
+          ∙ ap (λ it. length it.effects) (sym (keeps.same_cloud ∙ joined.same_cloud));
       running = keeps.same_halt ∙ ap (λ h. h.is_halted) joined.history;
       no_calls = ap (λ it. it.unsettled) keeps.same_calls ∙ joined.no_calls;
       no_traps = keeps.same_armed ∙ joined.no_traps;

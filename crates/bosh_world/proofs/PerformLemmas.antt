@@ -15,8 +15,8 @@ use Rattle.bosh_calls.proofs.CallLemmas.{place_performed}
 use Rattle.bosh_calls.specs.Calls.{is_performable, place_of, with_performed}
 use Rattle.bosh_calls.specs.declared.calls.OpenCall.{OpenCall}
 use Rattle.bosh_cloud.specs.CloudView.{CloudView}
-use Rattle.bosh_moves.proofs.TellLemmas.{bare_on, story_all}
-use Rattle.bosh_moves.specs.Story.{Follows, HistoryView, IsOf, story}
+use Rattle.bosh_moves.proofs.TellLemmas.{bare_on, story_all, told_running}
+use Rattle.bosh_moves.specs.Story.{Follows, HistoryView, IsOf, effects_told, story}
 use Rattle.bosh_ports.specs.declared.keeper.Keeper as keeper
 use Rattle.bosh_traps.specs.Traps.{decision, traps_after}
 use Rattle.bosh_traps.specs.declared.trap.Armed.{Armed}
@@ -55,6 +55,9 @@ halts_in_cloud bodies faults was now cause of running goes book calls opening fo
         ∙ follows.story
         ∙ ap (λ (ms : List Move). ms ++ moves.Halt cause ∷ [])
         (story_same was.history was.book.journal.entries was.cloud.effects now.cloud.effects of running);
+    told =
+        follows.same_effects
+        ∙ told_running was.history was.book.journal.entries now.cloud.effects was.cloud.effects of running;
   };
   halted = follows.halted;
   effects = goes.effects;
@@ -119,6 +122,9 @@ comes_followed was now of running book follows = record {
       ∙ follows.story
       ∙ ap (λ (ms : List Move). ms ++ [])
       (story_same was.history was.book.journal.entries was.cloud.effects now.cloud.effects of running);
+  told =
+      follows.same_effects
+      ∙ told_running was.history was.book.journal.entries now.cloud.effects was.cloud.effects of running;
 }
 
 -- nothing was done
@@ -151,6 +157,9 @@ asked_comes bodies faults was mid permit told answer asked of running = record {
       ∙ ap (λ h. story h was.book.journal.entries mid.cloud.effects) asked.same_history
       ∙ story_same was.history was.book.journal.entries was.cloud.effects mid.cloud.effects of running
       ∙ sym (append-nil (story_of was));
+  told =
+      ap (λ h. effects_told h mid.cloud.effects) asked.same_history
+      ∙ told_running was.history was.book.journal.entries mid.cloud.effects was.cloud.effects of running;
 }
 
 pub performs_as : {K L : Type 0} {k : keeper.Ghosts K} {l : keeper.Ghosts L} (bodies : L → Option (List (List ℕ)))
@@ -161,7 +170,7 @@ pub performs_as : {K L : Type 0} {k : keeper.Ghosts K} {l : keeper.Ghosts L} (bo
 performs_as bodies faults was mid now permit told answer asked holds of all running unstopped = record {
   asks = subst (λ (cloud : CloudView _). Asks bodies faults was.cloud permit answer cloud) (sym holds.same_cloud) asked.asks;
   comes = subst (λ (it : did.Did). Comes was (moves.Did it ∷ []) now) asked.told
-      (comes_then was mid now [] (moves.Did told ∷ [])
+      (comes_then was mid now (moves.Did told ∷ [])
       (asked_comes bodies faults was mid permit told answer asked of running) holds.comes);
   running = running;
   runs_on = holds.halted ∙ ap (λ h. h.is_halted) asked.same_history ∙ running;
@@ -185,7 +194,7 @@ pub performs_told : {K L : Type 0} {k : keeper.Ghosts K} {l : keeper.Ghosts L} (
 performs_told bodies faults was mid now permit answer comes keeps performs = record {
   asks = subst (λ (cloud : CloudView _). Asks bodies faults cloud permit answer now.cloud) keeps.same_cloud performs.asks;
   comes = subst (λ (cloud : CloudView _). Comes was (moves.Did (did_of cloud permit answer) ∷ []) now) keeps.same_cloud
-      (comes_then was mid now [] (moves.Did (did_of mid.cloud permit answer) ∷ []) comes performs.comes);
+      (comes_then was mid now (moves.Did (did_of mid.cloud permit answer) ∷ []) comes performs.comes);
   running = sym keeps.same_halt ∙ performs.running;
   runs_on = performs.runs_on;
   unstopped = ap (decision (method_of permit.call) permit.owner) (sym keeps.same_armed) ∙ performs.unstopped;

@@ -5,9 +5,9 @@ use Rattle.bosh_base.specs.declared.entry.Entry.{Entry}
 use Rattle.bosh_base.specs.declared.moves.Move.{Move}
 use Rattle.bosh_base.specs.declared.moves.Said as said
 use Rattle.bosh_moves.proofs.StoryLemmas.{extends_more}
-use Rattle.bosh_moves.proofs.TellLemmas.{of_on, story_all, within_on}
+use Rattle.bosh_moves.proofs.TellLemmas.{of_on, story_all, told_on, within_on}
 use Rattle.bosh_moves.specs.Replies.{replies_in, reply_of}
-use Rattle.bosh_moves.specs.Story.{HistoryView}
+use Rattle.bosh_moves.specs.Story.{HistoryView, effects_after}
 use Rattle.bosh_ports.specs.declared.keeper.Keeper as keeper
 use Rattle.bosh_world.specs.IsSite.{IsSite}
 use Rattle.bosh_world.specs.Steps.{Comes, IsAllTold}
@@ -21,8 +21,8 @@ pushed history step free effects = record history { moves = history.moves ++ ste
 -- it comes
 pub push_comes : {K L : Type 0} {k : keeper.Ghosts K} {l : keeper.Ghosts L} (was now : Site K L k l) (step : Move)
     (free effects : ℕ) → IsAllTold was → now.book ≡ was.book → now.history ≡ pushed was.history step free effects →
-    Comes was (step ∷ []) now
-push_comes was now step free effects told same is =
+    effects ≡ effects_after (step ∷ []) (length now.cloud.effects) was.history.effects → Comes was (step ∷ []) now
+push_comes was now step free effects told same is tells =
     let entries : was.history.entries ≡ length was.book.journal.entries = told.entries in
     record {
       grows = (step ∷ [], ap (λ h. h.moves) is);
@@ -34,6 +34,12 @@ push_comes was now step free effects told same is =
           ∙ ap (λ h. h.moves) is
           ∙ ap (λ ms. ms ++ step ∷ []) (sym (story_all was.history was.book.journal.entries was.cloud.effects
           told.told.no_restart entries told.told.no_halt));
+      told =
+          told_on now.history now.cloud.effects (ap (λ h. h.restart) is ∙ told.told.no_restart)
+          ∙ ap (λ h. h.effects) is
+          ∙ tells
+          ∙ ap (effects_after (step ∷ []) (length now.cloud.effects))
+          (sym (told_on was.history was.cloud.effects told.told.no_restart));
     }
 
 -- the site keeps what it keeps
@@ -62,9 +68,10 @@ push_silent was now step none is =
     ∙ append-nil (replies_in was)
 
 -- what had happened was told, and then a move came
-pub comes_then : {K L : Type 0} {k : keeper.Ghosts K} {l : keeper.Ghosts L} (was mid now : Site K L k l) (xs ys : List Move) →
-    Comes was xs mid → Comes mid ys now → Comes was (xs ++ ys) now
-comes_then was mid now xs ys x y = record {
-  grows = extends_more was.history.moves mid.history.moves now.history.moves y.grows.0 x.grows y.grows.1;
-  story = y.story ∙ ap (λ ms. ms ++ ys) x.story ∙ append_assoc (story_of was) xs ys;
+pub comes_then : {K L : Type 0} {k : keeper.Ghosts K} {l : keeper.Ghosts L} (was mid now : Site K L k l) (more : List Move) →
+    Comes was [] mid → Comes mid more now → Comes was more now
+comes_then was mid now more before comes = record {
+  grows = extends_more was.history.moves mid.history.moves now.history.moves comes.grows.0 before.grows comes.grows.1;
+  story = comes.story ∙ ap (λ ms. ms ++ more) (before.story ∙ append-nil (story_of was));
+  told = comes.told ∙ ap (effects_after more (length now.cloud.effects)) before.told;
 }

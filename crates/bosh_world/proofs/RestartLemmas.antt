@@ -140,6 +140,7 @@ pub goes_anew : (was restarted now : HistoryView) (entries effects : List Entry)
 goes_anew was restarted now entries effects kept halt is tells = record {
   grows = extends_more was.moves restarted.moves now.moves tells.grows.0 is.grows tells.grows.1;
   story = tells.story ∙ is.story;
+  same_effects = tells.same_effects ∙ is.same_effects;
   is_of = tells.is_of;
   halted = tells.halted ∙ is.halted;
 }

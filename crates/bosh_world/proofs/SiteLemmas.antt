@@ -9,8 +9,8 @@ use Rattle.bosh_base.specs.declared.moves.Cause.TheVariants as causes
 use Rattle.bosh_base.specs.declared.moves.Move.TheVariants.{Note}
 use Rattle.bosh_book.specs.Adds.{Adds}
 use Rattle.bosh_book.specs.Faults.{FailsAs}
-use Rattle.bosh_moves.proofs.TellLemmas.{story_more}
-use Rattle.bosh_moves.specs.Story.{Follows, IsOf, halts, story}
+use Rattle.bosh_moves.proofs.TellLemmas.{after_notes, story_more}
+use Rattle.bosh_moves.specs.Story.{Follows, IsOf, effects_told, halts, story}
 use Rattle.bosh_ports.specs.Rigged.{faults_of}
 use Rattle.bosh_ports.specs.declared.rig.Rig.{Rig}
 use Rattle.bosh_ports.specs.declared.rig.Rig.TheVariants as rigs
@@ -45,6 +45,10 @@ noted bodies faults was now entries halt rest adds follows = record {
         (story_more was.history was.book.journal.entries entries was.cloud.effects now.cloud.effects
         rest.is_of rest.running)
         ∙ append_assoc (story_of was) (map Note entries) (halts halt);
+    told =
+        follows.same_effects
+        ∙ ap (λ c. effects_told was.history c.effects) rest.same_cloud
+        ∙ sym (after_notes entries halt (length now.cloud.effects) (effects_told was.history was.cloud.effects));
   };
   running = rest.running;
   halted = follows.halted;

@@ -1,5 +1,5 @@
 -- What a restart leaves of a site.
-use Rattle.std.proofs.Common.{◌≡◌, ℕ, Bool, true, false, Option, Some, None, Result, Ok, Err, List, ◌∷◌, ◌++◌, sym, ◌∙◌, ap}
+use Rattle.std.proofs.Common.{◌≡◌, ℕ, Bool, true, false, Option, Some, None, Result, Ok, Err, List, ◌∷◌, ◌++◌, refl, sym, ◌∙◌, ap}
 use Rattle.std.proofs.Common.{subst, append_assoc, length, map, drop, min, inl, inr}
 use Rattle.std.specs.Prelude.{◌⊎◌, ◌+◌, IfErr, OnOk, is_some, nat_lt}
 use Rattle.std.proofs.lemmas.Bool.{false≢true}
@@ -9,6 +9,7 @@ use Rattle.bosh_base.specs.declared.entry.Entry.{Entry}
 use Rattle.bosh_base.specs.declared.moves.Cause.{Cause}
 use Rattle.bosh_base.specs.declared.moves.Move.{Move}
 use Rattle.bosh_base.specs.declared.moves.Move.TheVariants as moves
+use Rattle.bosh_base.specs.declared.moves.Stop as stops
 use Rattle.bosh_book.specs.Running.{is_stopped}
 use Rattle.bosh_book.specs.Starts.{IsNotReloaded, StartsFrom}
 use Rattle.bosh_book.specs.declared.book.Book.{Book}
@@ -16,9 +17,9 @@ use Rattle.bosh_cloud.specs.CloudView.{CloudView}
 use Rattle.bosh_cloud.specs.Loading.{IsKept}
 use Rattle.bosh_cloud.specs.Notes.{SameFates}
 use Rattle.bosh_moves.proofs.StoryLemmas.{extends_more}
-use Rattle.bosh_moves.proofs.TellLemmas.{story_all, told_on}
+use Rattle.bosh_moves.proofs.TellLemmas.{after_notes, story_all, told_on}
 use Rattle.bosh_moves.specs.Found.{kept_at, stop_of}
-use Rattle.bosh_moves.specs.Story.{HistoryView, effects_told, halts, kept_count, story}
+use Rattle.bosh_moves.specs.Story.{HistoryView, effects_after, effects_told, halts, kept_count, story}
 use Rattle.bosh_ports.specs.Rigged.{RigState, broken_of, faults_of}
 use Rattle.bosh_ports.specs.declared.keeper.Keeper as keeper
 use Rattle.bosh_world.specs.Anew.{BookRestarts, GoesAnew, Halts, HaltsAnew, IsAtHalt, SameTraps, StaysUnread}
@@ -52,6 +53,17 @@ story_anew was mid now entries effects entries_now effects_now read halt first a
     ∙ append_assoc (story was entries effects) (first_halt was.is_halted)
     (tail entries_now effects_now read halt (length entries) (effects_told was effects))
 
+-- a restart tells all effects
+after_stop : (off : Bool) (stop : stops.Stop) (entries : List Entry) (halt : Option Cause) (there told : ℕ) →
+    effects_after (first_halt off ++ (moves.Stop stop ∷ map moves.Note entries ++ halts halt)) there told ≡ there
+after_stop true stop entries halt there told = after_notes entries halt there there
+after_stop false stop entries halt there told = after_notes entries halt there there
+
+-- .. and a halt before it none
+after_halt : (off : Bool) (there told : ℕ) → effects_after (first_halt off) there told ≡ told
+after_halt true there told = refl
+after_halt false there told = refl
+
 -- a site that has halted, and is otherwise as it was
 pub record IsHaltOf {K L : Type 0} {k : keeper.Ghosts K} {l : keeper.Ghosts L} (was mid : Site K L k l) : Type 0 where
   pub first : Halts was.history was.book.journal.entries was.cloud.effects mid.history
@@ -82,6 +94,10 @@ restarts bodies faults is_broken cloud_bodies cloud_faults was mid started halt 
     story =
         story_anew was.history mid.history now.history was.book.journal.entries was.cloud.effects now.book.journal.entries
         now.cloud.effects (read_count now.book) halt of.first of.at anew.anew;
+    told =
+        anew.anew.same_effects
+        ∙ sym (after_stop was.history.is_halted _ _ halt (length now.cloud.effects)
+        (effects_told was.history was.cloud.effects));
   };
   halted = anew.anew.halted;
   no_calls = anew.no_calls;
@@ -138,6 +154,13 @@ not_read bodies faults is_broken cloud_bodies cloud_faults was mid now fault of 
             ∙ sym (story_all mid.history was.book.journal.entries was.cloud.effects of.at.told.no_restart of.at.all
             of.at.told.no_halt)
             ∙ of.first.story;
+        told =
+            ap (λ h. effects_told h now.cloud.effects) stays.same_history
+            ∙ told_on mid.history now.cloud.effects of.at.told.no_restart
+            ∙ sym (told_on mid.history was.cloud.effects of.at.told.no_restart)
+            ∙ of.first.same_effects
+            ∙ sym (after_halt was.history.is_halted (length now.cloud.effects)
+            (effects_told was.history was.cloud.effects));
       };
       halted = ap (λ h. h.is_halted) stays.same_history ∙ of.at.halted;
       same_entries = entries;

@@ -44,7 +44,7 @@ halts_told : {K L : Type 0} {k : keeper.Ghosts K} {l : keeper.Ghosts L} (bodies 
     HaltsInCloud bodies faults mid cause now → HaltsInCloud bodies faults was cause now
 halts_told bodies faults was mid now cause comes keeps halts = record {
   ran = sym keeps.same_halt ∙ halts.ran;
-  comes = comes_then was mid now [] (moves.Halt cause ∷ []) comes halts.comes;
+  comes = comes_then was mid now (moves.Halt cause ∷ []) comes halts.comes;
   halted = halts.halted;
   effects = subst (λ (it : CloudView _). Extends it.effects now.cloud.effects) keeps.same_cloud halts.effects;
   kept = subst (λ (it : CloudView _). IsKept bodies it → IsKept bodies now.cloud) keeps.same_cloud halts.kept;
@@ -89,7 +89,7 @@ lacks_told : {K L : Type 0} {k : keeper.Ghosts K} {l : keeper.Ghosts L} (bodies 
 lacks_told bodies was mid now comes keeps lacks = record {
   ran = sym keeps.same_halt ∙ lacks.ran;
   running = lacks.running;
-  comes = comes_then was mid now [] [] comes lacks.comes;
+  comes = comes_then was mid now [] comes lacks.comes;
   same_effects = lacks.same_effects ∙ ap (λ it. it.effects) keeps.same_cloud;
   same_fates = (
     lacks.same_fates.0 ∙ ap (λ it. it.dooms) keeps.same_cloud,

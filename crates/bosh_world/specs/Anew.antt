@@ -46,6 +46,7 @@ pub record GoesAnew (was : HistoryView) (entries effects : List Entry) (kept : B
   pub story : story now entries effects ≡
       was.moves ++ (moves.Stop (stop_of (kept_at kept entries was.entries) (drop was.effects effects))
       ∷ map moves.Note (drop (min was.entries (length entries) + kept_count (Some kept)) entries) ++ halts halt)
+  pub same_effects : effects_told now effects ≡ length effects
   pub is_of : IsOf now entries
   pub halted : now.is_halted ≡ is_some halt
 

@@ -38,6 +38,7 @@ pub record Loads {K L : Type 0} {k : keeper.Ghosts K} {l : keeper.Ghosts L}
   pub opening : site.opening ≡ (read_count site.book, length site.cloud.effects)
   pub moves_of : site.history.moves ≡ map moves.Note (drop (read_count site.book) site.book.journal.entries)
   pub told : IsAllTold site
+  pub effects_told : site.history.effects ≡ length site.cloud.effects
   pub running : site.history.is_halted ≡ false
   pub no_calls : site.calls.unsettled ≡ []
   pub no_traps : site.traps.items ≡ []
@@ -96,6 +97,7 @@ pub record Joins {K L : Type 0} {k : keeper.Ghosts K} {l : keeper.Ghosts L}
   pub opening : site.opening ≡ (read_count site.book, length cloud.effects)
   pub moves_of : site.history.moves ≡ map moves.Note (drop (read_count site.book) site.book.journal.entries)
   pub told : IsAllTold site
+  pub effects_told : site.history.effects ≡ length site.cloud.effects
   pub running : site.history.is_halted ≡ false
   pub no_calls : site.calls.unsettled ≡ []
   pub no_traps : site.traps.items ≡ []

@@ -27,17 +27,19 @@ use Rattle.bosh_ports.specs.Rigged.{RigState, faults_of}
 use Rattle.bosh_ports.specs.declared.keeper.Keeper as keeper
 use Rattle.bosh_world.specs.declared.site.Site.{Site}
 use Rattle.bosh_world.specs.Told.{story_of}
-use Rattle.bosh_moves.specs.Story.{IsTold, halts}
+use Rattle.bosh_moves.specs.Story.{IsTold, effects_after, effects_told, halts}
 
 -- the bodies of the keeper below the rigs
 abbrev pub bodies_of : {K : Type 0} → (K → Option (List (List ℕ))) → RigState K → Option (List (List ℕ))
 bodies_of bodies rigged = bodies rigged.inner
 
--- these moves have come at the end; the moves that were told only grow
+-- these moves have come at the end; the moves that were told only grow, and effects are told as these moves tell them
 pub record Comes {K L : Type 0} {k : keeper.Ghosts K} {l : keeper.Ghosts L} (was : Site K L k l) (more : List Move)
     (now : Site K L k l) : Type 0 where
   pub grows : Extends was.history.moves now.history.moves
   pub story : story_of now ≡ story_of was ++ more
+  pub told : effects_told now.history now.cloud.effects
+      ≡ effects_after more (length now.cloud.effects) (effects_told was.history was.cloud.effects)
 
 -- nothing changed but what was told
 pub record KeepsBooks {K L : Type 0} {k : keeper.Ghosts K} {l : keeper.Ghosts L} (was now : Site K L k l) : Type 0 where

@@ -1,4 +1,4 @@
-use Rattle.std.proofs.Common.{◌∷◌, ◌++◌, [], ◌∙◌, ap}
+use Rattle.std.proofs.Common.{◌∷◌, ◌++◌, [], ◌∙◌, ap, refl}
 use Rattle.std.specs.Prelude.{List}
 use Rattle.bosh_base.specs.declared.moves.Move.TheVariants as moves
 use Rattle.bosh_base.specs.declared.moves.Said as said
@@ -15,9 +15,9 @@ invariant_of-self g c = record {
 
 pub returns-in-Ok-clause-said : goal.returns-in-Ok-clause-said
 returns-in-Ok-clause-said g c = record {
-  comes = comes_then c.args.self.now c.tell.new.self _ [] _ c.tell.ensures.comes
+  comes = comes_then c.args.self.now c.tell.new.self _ _ c.tell.ensures.comes
       (push_comes c.tell.new.self _ (moves.Said (record { command = c.args.command; reply = c.args.reply }))
-      c.push.new.self.free _ c.in-Ok.ensures.told (λ j. c.tell.new.self.book) c.push.ensures.pushed);
+      c.push.new.self.free _ c.in-Ok.ensures.told (λ j. c.tell.new.self.book) c.push.ensures.pushed refl);
   keeps = record {
     same_book = c.tell.ensures.keeps.same_book;
     same_cloud = c.tell.ensures.keeps.same_cloud;
