@@ -18,7 +18,7 @@ use Rattle.laws_sites.proofs.ClaimStoppedLemmas.{claim_stopped_good}
 use Rattle.laws_sites.proofs.EndLemmas.{ended_good}
 use Rattle.laws_sites.proofs.HaltLemmas.{same_good}
 use Rattle.laws_sites.proofs.NoteLemmas.{OneMoreStands, settled_good}
-use Rattle.laws_sites.proofs.NumberLemmas.{call_numbered, numbers_left}
+use Rattle.laws_sites.proofs.NumberLemmas.{numbers_left}
 use Rattle.laws_sites.proofs.PerformedLemmas.{performed_good}
 use Rattle.laws_sites.proofs.RefusedLemmas.{abandoned_good}
 use Rattle.laws_sites.proofs.StoppedLemmas.{end_stopped_good, settling_stopped_good}
@@ -39,8 +39,7 @@ module _ (one_more : OneMoreStands) {K L : Type 0} {k : keeper.Ghosts K} {l : ke
   step_good was place now next good (performs permit call from to same free performed) =
       performed_good outside bodies cloud_bodies cloud_faults o was now permit call.answer fit built good free performed
   step_good was place now next good (settles call from to held may notes calls) =
-      settled_good one_more outside bodies cloud_bodies faults o was now call fit good
-      (call_numbered outside bodies cloud_bodies o was call good notes.running held) held notes calls
+      settled_good one_more outside bodies cloud_bodies faults o was now call fit good held notes calls
   step_good was place now next good (ends task end from to among ended calls) =
       ended_good one_more bodies cloud_bodies faults outside o was now task end fit good calls ended
 

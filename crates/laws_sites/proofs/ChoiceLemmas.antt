@@ -43,6 +43,7 @@ use Rattle.laws_stands.specs.Agrees.{claimed_of}
 use Rattle.laws_stands.specs.Stands.{IsWork}
 use Rattle.laws_stands.specs.Told.{Told}
 use Rattle.laws_stands.specs.WorkStands.{end_of}
+use Rattle.laws_sites.proofs.CountLemmas.{calls_numbered}
 
 -- what is over by the records, where an end comes to the task
 over_is : (records : Records) (worker : ℕ) (work : Work) (end : TaskEnd) → end_by records work.failed work ≡ Some end
@@ -120,10 +121,7 @@ module _ {K L : Type 0} {k : keeper.Ghosts K} {l : keeper.Ghosts L} (outside : O
   recorded = good.recorded (book_goes_on site running).1
 
   numbers : m.known.last_call < 18446744073709551615
-  numbers = below m.known.last_call ((good.runs running).numbers t working)
-    where
-      below : (n : ℕ) → n ≤ 4611686018427387904 → n < 18446744073709551615
-      below n few = omega arith
+  numbers = calls_numbered m.known good.numbers
 
   parts : (nat_lt m.stopped t ≡ true) × ((nat_le t m.known.tasks && is_open m.known t) ≡ true)
   parts = and_parts (nat_lt m.stopped t) (nat_le t m.known.tasks && is_open m.known t) working

@@ -17,7 +17,7 @@ use Rattle.bosh_calls.specs.Calls.{is_of, with_begun}
 use Rattle.bosh_calls.specs.declared.calls.OpenCall as site
 use Rattle.bosh_claim.specs.Choice.{choice_of, of_task}
 use Rattle.bosh_claim.specs.declared.choice.Choice.TheVariants as choices
-use Rattle.bosh_history.specs.Fit.{IsFit}
+use Rattle.bosh_history.specs.Fit.{IsFit, has_numbers}
 use Rattle.bosh_history.specs.Known.{Known}
 use Rattle.bosh_history.specs.Moments.{Moment, OpenCall, Opening, later, noting}
 use Rattle.bosh_history.specs.Notes.{Begins, Outside}
@@ -40,12 +40,13 @@ use Rattle.laws_sites.proofs.CallLemmas.{calls_begun, calls_on}
 use Rattle.laws_sites.proofs.EndLemmas.{working_is}
 use Rattle.laws_sites.proofs.NoteLemmas.{OneMoreStands, noted_good}
 use Rattle.laws_sites.proofs.StepLemmas.{book_goes_on}
-use Rattle.laws_sites.proofs.TurnLemmas.{HasNoted, HasTurned, calls_after, idle_turns, turns}
+use Rattle.laws_sites.proofs.TurnLemmas.{HasNoted, HasTurned, calls_after, idle_turns, turns, numbers_after}
 use Rattle.laws_sites.specs.Calls.{AreCalls, AreRising, IsCall}
 use Rattle.laws_sites.specs.Good.{GoesOn, IsGood, IsRecorded, moment_of}
 use Rattle.laws_stands.specs.Stands.{IsWork}
 use Rattle.laws_stands.specs.Told.{is_going, telling}
 use Rattle.laws_tasks.proofs.RecoveredLemmas.{still_recovered}
+use Rattle.laws_sites.proofs.CountLemmas.{HasRoom, numbers_next, same_numbers}
 
 -- ---- lists
 
@@ -103,6 +104,27 @@ count_updated m [] are = refl
 count_updated m (e ∷ updates) are =
     count_updated (noting m e) updates (rest_of IsUpdate e updates are)
     ∙ calls_after m e (first_of IsUpdate e updates are)
+
+-- .. and how many tasks opened
+tasks_updated : (m : Moment) (updates : List Entry) → All IsUpdate updates
+    → (fold later m (map moves.Note updates)).known.tasks ≡ m.known.tasks
+tasks_updated m [] are = refl
+tasks_updated m (e ∷ updates) are =
+    tasks_updated (noting m e) updates (rest_of IsUpdate e updates are)
+    ∙ (numbers_after m e (first_of IsUpdate e updates are)).0
+
+pub room_updated : (m : Moment) (updates : List Entry) → All IsUpdate updates → HasRoom m
+    → HasRoom (fold later m (map moves.Note updates))
+room_updated m updates are room = record {
+  calls = subst (λ (n : ℕ). n < 4611686018427387904) (sym (count_updated m updates are)) room.calls;
+  tasks = subst (λ (n : ℕ). n < 4611686018427387904) (sym (tasks_updated m updates are)) room.tasks;
+}
+
+pub numbered_updated : (m : Moment) (updates : List Entry) → All IsUpdate updates → has_numbers m.known ≡ true
+    → has_numbers (fold later m (map moves.Note updates)).known ≡ true
+numbered_updated m updates are =
+    same_numbers m.known (fold later m (map moves.Note updates)).known
+    (record { last_call = count_updated m updates are; tasks = tasks_updated m updates are })
 
 -- ---- numbers
 
@@ -227,7 +249,7 @@ module _ (one_more : OneMoreStands) {K L : Type 0} {k : keeper.Ghosts K} {l : ke
   record Leaves (last : List Entry) (unsettled : List site.OpenCall) : Type 0 where
     open_calls : AreCalls (story_of was) unsettled (fold later updated (map moves.Note last)).calls
     rising : AreRising 0 unsettled
-    numbers : (fold later updated (map moves.Note last)).known.last_call ≤ 4611686018427387904
+    numbers : has_numbers (fold later updated (map moves.Note last)).known ≡ true
 
   open_before : AreCalls (story_of was) was.calls.unsettled updated.calls
   open_before = subst (AreCalls (story_of was) was.calls.unsettled) (sym (calls_updated m claims.updates claims.are_updates))
@@ -237,11 +259,8 @@ module _ (one_more : OneMoreStands) {K L : Type 0} {k : keeper.Ghosts K} {l : ke
   nothing_more last none = subst (λ (es : List Entry). Leaves es was.calls.unsettled) (sym none) (record {
     open_calls = open_before;
     rising = goes.rising;
-    numbers = few updated.known.last_call m.known.last_call (count_updated m claims.updates claims.are_updates) room;
+    numbers = numbered_updated m claims.updates claims.are_updates good.numbers;
   })
-    where
-      few : (a b : ℕ) → a ≡ b → b < 4611686018427387904 → a ≤ 4611686018427387904
-      few a b one less = omega arith
 
   -- an open call has a number that was given before
   given_before : (x : ℕ) → is_some (find (is_of x) was.calls.unsettled) ≡ true → x ≤ m.known.last_call
@@ -264,8 +283,9 @@ module _ (one_more : OneMoreStands) {K L : Type 0} {k : keeper.Ghosts K} {l : ke
         rising = rising_begun 0 b.n was.calls.unsettled goes.rising (low b.n updated.known.last_call begins.number)
             (λ x there. below x m.known.last_call b.n updated.known.last_call (given_before x there)
             (count_updated m claims.updates claims.are_updates) begins.number);
-        numbers = few b.n updated.known.last_call m.known.last_call begins.number
-            (count_updated m claims.updates claims.are_updates) room;
+        numbers = numbers_next outside updated (entries.Begin b) begins
+            (subst (λ (x : ℕ). x < 4611686018427387904) (sym (count_updated m claims.updates claims.are_updates)) room)
+            (numbered_updated m claims.updates claims.are_updates good.numbers);
       }))
     where
       begins : Begins updated b
@@ -276,9 +296,6 @@ module _ (one_more : OneMoreStands) {K L : Type 0} {k : keeper.Ghosts K} {l : ke
 
       below : (x last n count : ℕ) → x ≤ last → count ≡ last → n ≡ count + 1 → x < n
       below x last n count under same next = omega arith
-
-      few : (n count last : ℕ) → n ≡ count + 1 → count ≡ last → last < 4611686018427387904 → n ≤ 4611686018427387904
-      few n count last next same less = omega arith
 
   leaves : (c : Claim) (last : List Entry) → Gives c last → IsRunFrom outside updated (map moves.Note last)
       → Leaves last (calls_claimed {F = SiteFault} (Ok c) was.calls.unsettled)
@@ -299,8 +316,7 @@ module _ (one_more : OneMoreStands) {K L : Type 0} {k : keeper.Ghosts K} {l : ke
         whole = noted.whole;
       }))
       (recovered_noted outside m (claims.updates ++ claims.last) whole goes.recovered may)
-      (λ t working_on. subst (λ (next : Moment). next.known.last_call ≤ 4611686018427387904)
-      (sym (later_then m claims.updates claims.last)) left.numbers)
+      (subst (λ (next : Moment). has_numbers next.known ≡ true) (sym (later_then m claims.updates claims.last)) left.numbers)
       (subst (λ (next : Moment). AreCalls (story_of now) now.calls.unsettled next.calls)
       (sym (later_then m claims.updates claims.last))
       (subst (λ (told_moves : List Move). AreCalls told_moves now.calls.unsettled

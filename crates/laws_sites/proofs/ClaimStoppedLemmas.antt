@@ -11,7 +11,7 @@ use Rattle.bosh_base.specs.declared.moves.Move.TheVariants as moves
 use Rattle.bosh_book.specs.Claims as turns
 use Rattle.bosh_book.specs.Turns.{IsUpdate}
 use Rattle.bosh_calls.specs.declared.calls.OpenCall as site
-use Rattle.bosh_history.specs.Fit.{IsFit}
+use Rattle.bosh_history.specs.Fit.{IsFit, has_numbers}
 use Rattle.bosh_history.specs.Moments.{Moment, Opening, later}
 use Rattle.bosh_history.specs.Notes.{Outside}
 use Rattle.bosh_history.specs.Permitted.{IsRunFrom}
@@ -24,11 +24,11 @@ use Rattle.bosh_world.specs.declared.fault.SiteFault.{SiteFault}
 use Rattle.bosh_world.specs.declared.site.Site.{Site}
 use Rattle.laws_held.proofs.HeldLemmas.{run_holds}
 use Rattle.laws_sites.proofs.CallLemmas.{calls_on}
-use Rattle.laws_sites.proofs.ClaimLemmas.{calls_updated, claim_turned, count_updated, recovered_noted}
+use Rattle.laws_sites.proofs.ClaimLemmas.{calls_updated, claim_turned, count_updated, recovered_noted, numbered_updated, room_updated}
 use Rattle.laws_sites.proofs.HaltLemmas.{may_pend_none}
 use Rattle.laws_sites.proofs.NoteLemmas.{OneMoreStands, noted_good}
 use Rattle.laws_sites.proofs.NotedHaltLemmas.{pending_stopped}
-use Rattle.laws_sites.proofs.NumberLemmas.{numbers_left}
+use Rattle.laws_sites.proofs.NumberLemmas.{numbers_left, room_left}
 use Rattle.laws_sites.proofs.StepLemmas.{book_goes_on, stopped}
 use Rattle.laws_sites.proofs.StoppedLemmas.{Left, recorded_still, refused_book_good, still_good}
 use Rattle.laws_sites.proofs.TurnLemmas as turning
@@ -36,6 +36,7 @@ use Rattle.laws_sites.proofs.TurnLemmas.{HasTurned}
 use Rattle.laws_sites.specs.Calls.{AreCalls, AreRising}
 use Rattle.laws_sites.specs.Good.{GoesOn, IsGood, IsRecorded, MayPend, moment_of}
 use Rattle.laws_stands.specs.Told.{telling}
+use Rattle.laws_sites.proofs.CountLemmas.{HasRoom, room_for}
 
 module _ (one_more : OneMoreStands) {K L : Type 0} {k : keeper.Ghosts K} {l : keeper.Ghosts L}
     (bodies : K → Option (List (List ℕ))) (cloud_bodies : L → Option (List (List ℕ))) (faults : K → ℕ) (outside : Outside)
@@ -54,6 +55,7 @@ module _ (one_more : OneMoreStands) {K L : Type 0} {k : keeper.Ghosts K} {l : ke
         subst (λ (es : List Entry). Left outside bodies cloud_bodies o faults was now es halt) (sym none) (record {
           may = tt;
           recorded = recorded_still bodies cloud_bodies faults outside o was now halt good still;
+          numbers = good.numbers;
           pends = λ halted. may_pend_none outside (stopped m) now.book.journal.is_broken now.book.journal.pending
               ((λ i. (same i).journal.is_broken) ∙ (book_goes_on was notes.running).0);
           goes_on = λ is.
@@ -69,13 +71,14 @@ module _ (one_more : OneMoreStands) {K L : Type 0} {k : keeper.Ghosts K} {l : ke
         still = subst (λ (es : List Entry). Notes bodies faults was es halt now) none notes
 
     -- it noted updates, turn by turn
-    turned : (was.history.is_halted ≡ false → m.known.last_call < 4611686018427387904)
+    turned : (was.history.is_halted ≡ false → HasRoom m)
         → turns.Claims (bodies_of bodies) (faults_of faults) task worker was.book (Err refusal) now.book
         → (halt : Option Cause) → Notes bodies faults was updates halt now
         → Left outside bodies cloud_bodies o faults was now updates halt
     turned room by_turns halt notes = record {
       may = may;
       recorded = recorded;
+      numbers = numbers;
       pends = λ halted. pending (halts notes.running halted);
       goes_on = λ is. goes_on (subst (λ (h : Option Cause). Notes bodies faults was updates h now) is notes);
     }
@@ -87,7 +90,7 @@ module _ (one_more : OneMoreStands) {K L : Type 0} {k : keeper.Ghosts K} {l : ke
         it = good.recorded (book_goes_on was notes.running).1
 
         few : m.known.last_call < 4611686018427387904
-        few = room notes.running
+        few = (room notes.running).calls
 
         has : HasTurned one_more (bodies_of bodies) (faults_of faults) outside o fit task worker m it.told was.book
             (Err refusal) now.book
@@ -122,18 +125,22 @@ module _ (one_more : OneMoreStands) {K L : Type 0} {k : keeper.Ghosts K} {l : ke
                 now.book.journal.pending
             by book.StoreFault is (e, permitted, there) =
                 pending_stopped outside (fold later m (map moves.Note has.notes.noted)) e now.book.journal.is_broken
-                now.book.journal.pending permitted there
+                now.book.journal.pending permitted
+                (room_for (fold later m (map moves.Note has.notes.noted)) e
+                (subst (λ (es : List Entry). HasRoom (fold later m (map moves.Note es))) (sym same)
+                (room_updated m updates are (room notes.running))))
+                (subst (λ (es : List Entry). has_numbers (fold later m (map moves.Note es)).known ≡ true) (sym same)
+                numbers) there
             by why is pends = absurd (let no = is in cc)
 
-        numbers : (a b : ℕ) → a ≡ b → b < 4611686018427387904 → a ≤ 4611686018427387904
-        numbers a b one less = omega arith
+        numbers : has_numbers (fold later m (map moves.Note updates)).known ≡ true
+        numbers = numbered_updated m updates are good.numbers
 
         goes_on : Notes bodies faults was updates None now → IsGood outside bodies cloud_bodies o now
         goes_on noted =
             noted_good outside bodies cloud_bodies faults o was now updates good noted may (λ read. recorded)
             (recovered_noted outside m updates (run_holds outside o (story_of was) fit good.run) goes.recovered may)
-            (λ t working. numbers (fold later m (map moves.Note updates)).known.last_call m.known.last_call
-            (count_updated m updates are) few)
+            numbers
             (subst (λ (all : List Move). AreCalls all now.calls.unsettled (fold later m (map moves.Note updates)).calls)
             (sym noted.comes.story)
             (calls_on (story_of was) (map moves.Note updates ++ []) now.calls.unsettled
@@ -154,4 +161,4 @@ module _ (one_more : OneMoreStands) {K L : Type 0} {k : keeper.Ghosts K} {l : ke
       by (inl same) = unasked was now task worker fit good calls updates are refusal halts same
       by (inr (room, by_turns)) =
           turned was now task worker fit good calls updates are refusal halts
-          (λ running. numbers_left outside bodies cloud_bodies o was good running room) by_turns
+          (λ running. room_left outside bodies cloud_bodies o was good running room) by_turns

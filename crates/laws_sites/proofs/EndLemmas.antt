@@ -41,6 +41,7 @@ use Rattle.laws_stands.specs.Stands.{IsWork}
 use Rattle.laws_stands.specs.Told.{is_going}
 use Rattle.laws_stands_fits.specs.Whole.{StandsWhole}
 use Rattle.laws_tasks.proofs.RecoveredLemmas.{still_recovered}
+use Rattle.laws_sites.proofs.CountLemmas.{HasRoomFor, calls_numbered, numbers_next}
 
 -- once no task is left that a stop interrupted, each open task works
 pub working_is : (m : Moment) (t : ℕ) → is_recovering m ≡ false → is_going m.known t ≡ true → works m t ≡ true
@@ -55,24 +56,19 @@ working_is m t recovered going = by (nat_lt m.stopped t) refl
         absurd (true≢false (sym (and_parts (nat_le t m.known.tasks) (is_open m.known t) parts.1).1
         ∙ none_to (is_open m.known) m.stopped t recovered (leb-true 1 t parts.0) (ltb-false m.stopped t before)))
 
--- what the end of a task leaves
-closing_opens : (t : ℕ) (end : TaskEnd) → is_opening (closing t end) ≡ false
-closing_opens t ends.Finished = refl
-closing_opens t (ends.Fault n method owner) = refl
-closing_opens t ends.Interrupted = refl
-closing_opens t (ends.Gone n method owner) = refl
-
+-- the end of a task leaves the open calls
 closing_calls : (m : Moment) (t : ℕ) (end : TaskEnd) → (noting m (closing t end)).calls ≡ m.calls
 closing_calls m t ends.Finished = refl
 closing_calls m t (ends.Fault n method owner) = refl
 closing_calls m t ends.Interrupted = refl
 closing_calls m t (ends.Gone n method owner) = refl
 
-closing_count : (m : Moment) (t : ℕ) (end : TaskEnd) → (learn m.known (closing t end)).last_call ≡ m.known.last_call
-closing_count m t ends.Finished = (numbers_done m t).last_call
-closing_count m t (ends.Fault n method owner) = refl
-closing_count m t ends.Interrupted = refl
-closing_count m t (ends.Gone n method owner) = refl
+-- it begins no call, and opens no task
+pub closing_room : (m : Moment) (t : ℕ) (end : TaskEnd) → HasRoomFor m (closing t end)
+closing_room m t ends.Finished = tt
+closing_room m t (ends.Fault n method owner) = tt
+closing_room m t ends.Interrupted = tt
+closing_room m t (ends.Gone n method owner) = tt
 
 module _ (one_more : OneMoreStands) {K L : Type 0} {k : keeper.Ghosts K} {l : keeper.Ghosts L}
     (bodies : K → Option (List (List ℕ))) (cloud_bodies : L → Option (List (List ℕ))) (faults : K → ℕ) (outside : Outside)
@@ -84,7 +80,7 @@ module _ (one_more : OneMoreStands) {K L : Type 0} {k : keeper.Ghosts K} {l : ke
   told_good : Notes bodies faults was [] None now → now.book ≡ was.book → IsGood outside bodies cloud_bodies o now
   told_good notes same =
       noted_good outside bodies cloud_bodies faults o was now [] good notes tt (λ read. recorded (good.recorded
-      (book_goes_on was notes.running).1)) goes.recovered goes.numbers
+      (book_goes_on was notes.running).1)) goes.recovered good.numbers
       (subst (λ (all : List Move). AreCalls all now.calls.unsettled m.calls) (sym notes.comes.story)
       (calls_on (story_of was) [] now.calls.unsettled m.calls
       (subst (λ (c : CallsView). AreCalls (story_of was) c.unsettled m.calls) (sym calls) goes.calls)))
@@ -105,12 +101,10 @@ module _ (one_more : OneMoreStands) {K L : Type 0} {k : keeper.Ghosts K} {l : ke
   closed_good comes notes =
       noted_good outside bodies cloud_bodies faults o was now (closing task end ∷ []) good notes run
       (λ read. noted_recorded one_more outside bodies cloud_bodies faults o was now (closing task end ∷ []) None
-      fit good notes run (few m.known.last_call (goes.numbers task working), tt))
+      fit good notes run (calls_numbered m.known good.numbers, tt))
       (still_recovered outside m (run_holds outside o (story_of was) fit good.run).holds.known (closing task end) may.2
       goes.recovered)
-      (λ t working_on. subst (λ (n : ℕ). n ≤ 4611686018427387904) (sym (closing_count m task end))
-      (goes.numbers t (less_works m (closing task end) t (note_stays outside m (closing task end) may.2
-      (closing_opens task end) t) working_on)))
+      (numbers_next outside m (closing task end) may.2 (closing_room m task end) good.numbers)
       (subst (λ (all : List Move). AreCalls all now.calls.unsettled (noting m (closing task end)).calls)
       (sym notes.comes.story)
       (calls_on (story_of was) (moves.Note (closing task end) ∷ []) now.calls.unsettled (noting m (closing task end)).calls
@@ -123,9 +117,6 @@ module _ (one_more : OneMoreStands) {K L : Type 0} {k : keeper.Ghosts K} {l : ke
 
       recorded : IsRecorded m was
       recorded = good.recorded (book_goes_on was notes.running).1
-
-      few : (n : ℕ) → n ≤ 4611686018427387904 → n < 18446744073709551615
-      few n less = omega arith
 
       working : works m task ≡ true
       working = by (work_at was.book.records task) refl comes

@@ -16,7 +16,7 @@ use Rattle.bosh_history.specs.Moments.{Moment, Opening}
 use Rattle.bosh_history.specs.Notes.{Outside}
 use Rattle.bosh_journal.specs.JournalView.{Pending}
 use Rattle.bosh_journal.specs.Kept as journal
-use Rattle.bosh_moves.specs.Story.{story}
+use Rattle.bosh_moves.specs.Story.{effects_told, story}
 use Rattle.bosh_ports.specs.Rigged.{RigState}
 use Rattle.bosh_ports.specs.declared.keeper.Keeper as keeper
 use Rattle.bosh_world.specs.Abandons.{GivesUp}
@@ -80,6 +80,8 @@ module _ {K L : Type 0} {k : keeper.Ghosts K} {l : keeper.Ghosts L} (outside : O
       ((λ i. (lacks.same_book i).journal.entries) ∙ sym (append-nil was.book.journal.entries))
       (record {
         halted = good.halted ∙ lacks.ran ∙ sym lacks.running;
+        numbers = good.numbers;
+        told = lacks.comes.told ∙ good.told;
         recorded = λ read. recorded (good.recorded (book_goes_on was lacks.ran).1);
         runs = λ running. goes (good.runs lacks.ran);
         halts = λ halted. absurd (false≢true (sym lacks.running ∙ halted));
@@ -95,7 +97,6 @@ module _ {K L : Type 0} {k : keeper.Ghosts K} {l : keeper.Ghosts L} (outside : O
       goes : GoesOn bodies cloud_bodies (moment_of o was) was → GoesOn bodies cloud_bodies (moment_of o was) now
       goes it = record {
         recovered = it.recovered;
-        numbers = it.numbers;
         effects = lacks.same_effects ∙ it.effects;
         calls = subst (λ (moves : List Move). AreCalls moves now.calls.unsettled (moment_of o was).calls)
             (sym (lacks.comes.story ∙ append-nil (story_of was)))
@@ -115,7 +116,7 @@ module _ {K L : Type 0} {k : keeper.Ghosts K} {l : keeper.Ghosts L} (outside : O
       → HasTaken outside (moment_of o was) 0 now.cloud → IsGood outside bodies cloud_bodies o now
   halts_good was now faults cause fit good halts has =
       halted_good outside bodies cloud_bodies o was now cause fit good halts.ran halts.halted halts.comes.story
-      halts.same_opening (λ i. (halts.same_book i).journal.entries) (λ i. (halts.same_book i).records) goes_on.1
+      halts.same_opening (λ i. (halts.same_book i).journal.entries) (λ i. (halts.same_book i).records) goes_on.1 halts.comes.told
       (record {
         wrote = None;
         took = has.took;
@@ -145,7 +146,7 @@ module _ {K L : Type 0} {k : keeper.Ghosts K} {l : keeper.Ghosts L} (outside : O
       by false ran =
           halted_good outside bodies cloud_bodies o was now causes.Stop fit good ran gives.halted
           (gives.halts ran).story gives.same_opening (λ i. (gives.book i).journal.entries)
-          (λ i. (gives.book i).records) read
+          (λ i. (gives.book i).records) read (gives.halts ran).told
           (record {
             wrote = None;
             took = [];
@@ -166,6 +167,8 @@ module _ {K L : Type 0} {k : keeper.Ghosts K} {l : keeper.Ghosts L} (outside : O
           ((λ i. (gives.book i).journal.entries) ∙ sym (append-nil was.book.journal.entries))
           (record {
             halted = good.halted ∙ halted ∙ sym gives.halted;
+            numbers = good.numbers;
+            told = (λ i. effects_told (gives.stays halted i) (gives.same_cloud i).effects) ∙ good.told;
             recorded = λ read_now. recorded (good.recorded read);
             runs = λ running. absurd (false≢true (sym running ∙ gives.halted));
             halts = λ is. stays (good.halts halted);

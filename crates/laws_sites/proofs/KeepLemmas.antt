@@ -1,5 +1,5 @@
 -- A site stays good where all that its history tells stays: a reply is noted, or a trap is set.
-use Rattle.std.proofs.Common.{◌≡◌, ◌∙◌, ℕ, Bool, List, [], ◌∷◌, ◌++◌, Option, append-nil, refl, subst, sym}
+use Rattle.std.proofs.Common.{◌≡◌, ◌∙◌, ℕ, Bool, List, [], ◌∷◌, ◌++◌, Option, append-nil, refl, subst, sym, length}
 use Rattle.std.specs.Prelude.{fold}
 use Rattle.std.specs.List.{filter_map}
 use Rattle.bosh_base.specs.declared.moves.Move.{Move}
@@ -13,7 +13,7 @@ use Rattle.bosh_history.specs.Moments.{Moment, Opening, durable_entry, later}
 use Rattle.bosh_history.specs.Notes.{Outside}
 use Rattle.bosh_history.specs.Permitted.{IsRunFrom}
 use Rattle.bosh_journal.specs.Kept as journal
-use Rattle.bosh_moves.specs.Story.{story}
+use Rattle.bosh_moves.specs.Story.{effects_told, story}
 use Rattle.bosh_ports.specs.Rigged.{RigState}
 use Rattle.bosh_ports.specs.declared.keeper.Keeper as keeper
 use Rattle.bosh_traps.specs.declared.trap.Trap.{Trap}
@@ -27,6 +27,7 @@ use Rattle.laws_sites.proofs.StepLemmas.{good_on}
 use Rattle.laws_sites.specs.Calls.{AreCalls, AreRising}
 use Rattle.laws_sites.specs.Good.{GoesOn, HasHalted, IsGood, IsRecorded, MayCome, MayPend, moment_of}
 use Rattle.laws_stands_fits.specs.Whole.{StandsWhole}
+use Rattle.bosh_history.specs.Fit.{has_numbers}
 
 -- ---- what stays of a book, of a cloud, and of a site
 
@@ -54,6 +55,7 @@ pub record Keeps {K L : Type 0} {k : keeper.Ghosts K} {l : keeper.Ghosts L} (bod
     pub halted : now.history.is_halted ≡ was.history.is_halted
     pub calls : now.calls.unsettled ≡ was.calls.unsettled
     pub opening : now.opening ≡ was.opening
+    pub counted : effects_told now.history now.cloud.effects ≡ effects_told was.history was.cloud.effects
 
 pub same_book : {K : Type 0} (bodies : K → Option (List (List ℕ))) (was now : Book (RigState K)) → now ≡ was
     → KeepsBook bodies was now
@@ -91,6 +93,8 @@ module _ {K L : Type 0} {k : keeper.Ghosts K} {l : keeper.Ghosts L} (outside : O
       ∙ (λ i. was.book.journal.entries ++ sym none i))
       (record {
         halted = (λ i. (same i).halted) ∙ good.halted ∙ sym keeps.halted;
+        numbers = (λ i. has_numbers (same i).known) ∙ good.numbers;
+        told = keeps.counted ∙ good.told ∙ (λ i. length (sym same i).effects);
         recorded = λ read. recorded (good.recorded (λ unread. read (keeps.book.standing ∙ unread)));
         runs = λ running. goes (good.runs (sym keeps.halted ∙ running));
         halts = λ halted. stays (good.halts (sym keeps.halted ∙ halted));
@@ -106,7 +110,6 @@ module _ {K L : Type 0} {k : keeper.Ghosts K} {l : keeper.Ghosts L} (outside : O
       goes : GoesOn bodies cloud_bodies m was → GoesOn bodies cloud_bodies (fold later m more) now
       goes it = subst (λ (next : Moment). GoesOn bodies cloud_bodies next now) (sym same) (record {
         recovered = it.recovered;
-        numbers = it.numbers;
         effects = keeps.cloud.effects ∙ it.effects;
         calls = subst (λ (all : List Move). AreCalls all now.calls.unsettled m.calls) (sym keeps.told)
             (calls_on (story_of was) more now.calls.unsettled m.calls
@@ -143,26 +146,30 @@ module _ {K L : Type 0} {k : keeper.Ghosts K} {l : keeper.Ghosts L} (outside : O
     halted = λ i. (same.same_history i).is_halted;
     calls = λ i. (same.same_calls i).unsettled;
     opening = same.same_opening;
+    counted = λ i. effects_told (same.same_history i) (same.same_cloud i).effects;
   })
 
   -- ---- replies
 
-  books_keep : (more : List Move) → Comes was more now → KeepsBooks was now → Keeps bodies cloud_bodies was more now
-  books_keep more comes keeps = record {
+  books_keep : (more : List Move) → Comes was more now → KeepsBooks was now
+      → effects_told now.history now.cloud.effects ≡ effects_told was.history was.cloud.effects
+      → Keeps bodies cloud_bodies was more now
+  books_keep more comes keeps counted = record {
     book = same_book bodies was.book now.book keeps.same_book;
     cloud = same_cloud cloud_bodies was.cloud now.cloud keeps.same_cloud;
     told = comes.story;
     halted = keeps.same_halt;
     calls = λ i. (keeps.same_calls i).unsettled;
     opening = keeps.same_opening;
+    counted = counted;
   }
 
   pub said_good : (reply : said.Said) → Says was reply now → IsGood outside bodies cloud_bodies o now
   said_good reply says =
-      kept_good (moves.Said reply ∷ []) refl (tt, tt, tt) refl (books_keep (moves.Said reply ∷ []) says.comes says.keeps)
+      kept_good (moves.Said reply ∷ []) refl (tt, tt, tt) refl (books_keep (moves.Said reply ∷ []) says.comes says.keeps says.comes.told)
 
   pub unsaid_good : Comes was [] now → KeepsBooks was now → IsGood outside bodies cloud_bodies o now
-  unsaid_good comes keeps = kept_good [] refl tt refl (books_keep [] comes keeps)
+  unsaid_good comes keeps = kept_good [] refl tt refl (books_keep [] comes keeps comes.told)
 
   -- ---- traps
 
@@ -196,6 +203,7 @@ module _ {K L : Type 0} {k : keeper.Ghosts K} {l : keeper.Ghosts L} (outside : O
     halted = λ i. (arms.same_history i).is_halted;
     calls = λ i. (arms.same_calls i).unsettled;
     opening = arms.same_opening;
+    counted = λ i. effects_told (arms.same_history i) (its_cloud.effects i);
   })
     where
       its_book : KeepsBook bodies was.book now.book

@@ -3,6 +3,7 @@ pub mod ChainLemmas
 pub mod ChoiceLemmas
 pub mod ClaimLemmas
 pub mod ClaimStoppedLemmas
+pub mod CountLemmas
 pub mod EndLemmas
 pub mod FoundLemmas
 pub mod FoundOpenLemmas

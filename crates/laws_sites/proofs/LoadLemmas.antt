@@ -23,7 +23,7 @@ use Rattle.bosh_history.specs.Moments.{Moment, Opening, beginning, durable, late
 use Rattle.bosh_history.specs.Notes.{Outside}
 use Rattle.bosh_history.specs.Permitted.{IsRun, IsRunFrom}
 use Rattle.bosh_history.specs.Snapshots.{known_by, snapshot_of}
-use Rattle.bosh_moves.proofs.TellLemmas.{story_all}
+use Rattle.bosh_moves.proofs.TellLemmas.{story_all, told_on}
 use Rattle.bosh_ports.specs.Rigged.{RigState, faults_of}
 use Rattle.bosh_ports.specs.declared.keeper.Keeper as keeper
 use Rattle.bosh_records.specs.Recorded.{recorded}
@@ -51,6 +51,7 @@ use Rattle.laws_stands.specs.Told.{Told, is_going, telling}
 use Rattle.laws_stands_fits.specs.Whole.{StandsWhole}
 use Rattle.laws_stands_noted.proofs.AgreesLemmas.{noted_agrees}
 use Rattle.laws_stands_snapshots.specs.Built.{BuiltStand}
+use Rattle.laws_sites.proofs.CountLemmas.{calls_numbered, fit_numbers}
 
 -- ---- lists
 
@@ -67,16 +68,6 @@ front_length xs ys = by (length (xs ++ ys)) (length xs) (length ys) (length-appe
 if_some : {A P : Type 0} (o : Option A) → is_some o ≡ true → IfSome o (λ _. P) → P
 if_some (Some a) is it = it
 if_some None is it = absurd (false≢true is)
-
--- ---- fit pairs
-
--- calls and tasks have numbers where a history begins
-pub fit_numbers : (outside : Outside) (o : Opening) → IsFit outside o → has_numbers (known_of o.entries) ≡ true
-fit_numbers outside o empty = refl
-fit_numbers outside o (left before next session fit pair) = pair.has_numbers
-
-few_calls : (k : Known) → has_numbers k ≡ true → k.last_call ≤ 4611686018427387904
-few_calls k is = leb-true k.last_call 4611686018427387904 (and_parts (nat_le k.last_call 4611686018427387904) _ is).0
 
 -- ---- entries that end tasks
 
@@ -154,14 +145,9 @@ module _ {K L : Type 0} {k : keeper.Ghosts K} {l : keeper.Ghosts L} (bodies : K 
     there : moment_of o site ≡ after
     there = ap (moment o) story
 
-    few : (known_of o.entries).last_call ≤ 4611686018427387904
-    few = few_calls (known_of o.entries) (fit_numbers outside o fit)
-
     goes_on : GoesOn bodies cloud_bodies after site
     goes_on = record {
       recovered = recovered_then (beginning o) refl;
-      numbers = λ t working. subst (λ (m : Moment). m.known.last_call ≤ 4611686018427387904)
-          (sym (moment_ended (beginning o) tasks)) few;
       effects = sym effects ∙ sym (effects_noted (beginning o) noted);
       calls = subst (λ unsettled. AreCalls (story_of site) unsettled after.calls) (sym loads.no_calls)
           (subst (λ calls. AreCalls (story_of site) [] calls)
@@ -177,6 +163,11 @@ module _ {K L : Type 0} {k : keeper.Ghosts K} {l : keeper.Ghosts L} (bodies : K 
       opening = loads.opening ∙ (λ i. (read_is i, length (sym effects i)));
       entries = ap (durable o) story ∙ ap (λ es. o.entries ++ es) (noted_of noted) ∙ sym entries_are;
       halted = ap (λ (m : Moment). m.halted) there ∙ halted_noted (beginning o) noted ∙ sym loads.running;
+      numbers = ap (λ (m : Moment). has_numbers m.known) (there ∙ moment_ended (beginning o) tasks)
+          ∙ fit_numbers outside o fit;
+      told = told_on site.history site.cloud.effects loads.told.told.no_restart ∙ loads.effects_told
+          ∙ ap (λ (es : List Entry). length es) goes_on.effects
+          ∙ ap (λ (m : Moment). length m.effects) (sym there);
       recorded = λ read. subst (λ (m : Moment). IsRecorded m site) (sym there) is;
       runs = λ running. subst (λ (m : Moment). GoesOn bodies cloud_bodies m site) (sym there) goes_on;
       halts = λ halted. absurd (false≢true (sym loads.running ∙ halted));
@@ -196,10 +187,7 @@ module _ {K L : Type 0} {k : keeper.Ghosts K} {l : keeper.Ghosts L} (bodies : K 
     facts = (fit_holds outside read_pair fit).holds.known
 
     numbers : first.known.last_call < 18446744073709551615
-    numbers = fewer first.known.last_call (few_calls first.known (fit_numbers outside read_pair fit))
-      where
-        fewer : (n : ℕ) → n ≤ 4611686018427387904 → n < 18446744073709551615
-        fewer n less = omega arith
+    numbers = calls_numbered first.known (fit_numbers outside read_pair fit)
 
     abbrev ends : List Entry
     ends = interruptions (open_at first.known)

@@ -1,5 +1,5 @@
 -- A site stays good as entries are noted that may be, one after the other, as far as its records stand for them.
-use Rattle.std.proofs.Common.{◌≡◌, ◌∙◌, ◌<◌, ◌≤◌, ℕ, Bool, true, false, List, [], ◌∷◌, ◌++◌, Option, None, ap, append-nil, arith, refl, subst, sym}
+use Rattle.std.proofs.Common.{◌≡◌, ◌∙◌, ◌<◌, ◌≤◌, ℕ, Bool, true, false, List, [], ◌∷◌, ◌++◌, Option, None, ap, append-nil, arith, refl, subst, sym, length}
 use Rattle.std.specs.Prelude.{◌≢◌, fold, map, if◌then◌else◌}
 use Rattle.std.specs.List.{filter_map}
 use Rattle.std.proofs.lemmas.Bool.{false≢true}
@@ -14,7 +14,7 @@ use Rattle.bosh_calls.specs.declared.calls.OpenCall as site
 use Rattle.bosh_cloud.specs.CloudView.{CloudView}
 use Rattle.bosh_cloud.specs.Loading as cloud
 use Rattle.bosh_fold.specs.Learns.{Learns, LearnsAll}
-use Rattle.bosh_history.specs.Fit.{IsFit}
+use Rattle.bosh_history.specs.Fit.{IsFit, has_numbers}
 use Rattle.bosh_history.specs.Moments.{Moment, Opening, durable_entry, later, noting}
 use Rattle.bosh_history.specs.Notes.{MayNote, Outside}
 use Rattle.bosh_history.specs.Permitted.{IsPermitted, IsRunFrom}
@@ -44,6 +44,9 @@ use Rattle.laws_stands_noted.proofs.AgreesLemmas.{move_agrees}
 use Rattle.laws_stands_fits.proofs.EntriesLemmas.{whole_with_room}
 use Rattle.laws_stands_fits.specs.Whole.{StandsWhole}
 use Rattle.laws_tasks.proofs.RecoveredLemmas.{still_recovered}
+use Rattle.laws_sites.proofs.CountLemmas.{calls_numbered, numbers_next}
+use Rattle.bosh_moves.proofs.TellLemmas.{after_notes}
+use Rattle.bosh_moves.specs.Story.{effects_told}
 
 -- ---- what notes leave of a moment
 
@@ -67,8 +70,7 @@ pub noted_good : {K L : Type 0} {k : keeper.Ghosts K} {l : keeper.Ghosts L} (out
     → Notes bodies faults was noted None now → IsRunFrom outside (moment_of o was) (map moves.Note noted)
     → (now.book.standing ≢ Unread → IsRecorded (fold later (moment_of o was) (map moves.Note noted)) now)
     → is_recovering (fold later (moment_of o was) (map moves.Note noted)) ≡ false
-    → ((t : ℕ) → works (fold later (moment_of o was) (map moves.Note noted)) t ≡ true
-    → (fold later (moment_of o was) (map moves.Note noted)).known.last_call ≤ 4611686018427387904)
+    → has_numbers (fold later (moment_of o was) (map moves.Note noted)).known ≡ true
     → AreCalls (story_of now) now.calls.unsettled (fold later (moment_of o was) (map moves.Note noted)).calls
     → AreRising 0 now.calls.unsettled → IsGood outside bodies cloud_bodies o now
 noted_good {L = L} outside bodies cloud_bodies faults o was now noted good notes may recorded recovered numbers calls
@@ -78,10 +80,14 @@ noted_good {L = L} outside bodies cloud_bodies faults o was now noted good notes
     (notes.book.entries ∙ ap (λ es. was.book.journal.entries ++ es) (sym (noted_of noted)))
     (record {
       halted = halted_noted (moment_of o was) noted ∙ good.halted ∙ notes.running ∙ sym notes.halted;
+      numbers = numbers;
+      told = notes.comes.told
+          ∙ after_notes noted None (length now.cloud.effects) (effects_told was.history was.cloud.effects)
+          ∙ good.told
+          ∙ ap (λ (es : List Entry). length es) (sym (effects_noted (moment_of o was) noted));
       recorded = recorded;
       runs = λ running. record {
         recovered = recovered;
-        numbers = numbers;
         effects = (λ i. (notes.same_cloud i).effects) ∙ goes.effects ∙ sym (effects_noted (moment_of o was) noted);
         calls = calls;
         rising = rising;
@@ -166,15 +172,14 @@ module _ (one_more : OneMoreStands) where
   pub settled_good : {K L : Type 0} {k : keeper.Ghosts K} {l : keeper.Ghosts L} (outside : Outside)
       (bodies : K → Option (List (List ℕ))) (cloud_bodies : L → Option (List (List ℕ))) (faults : K → ℕ) (o : Opening)
       (was now : Site K L k l) (call : HeldCall) → IsFit outside o → IsGood outside bodies cloud_bodies o was
-      → (moment_of o was).known.last_call < 18446744073709551615
       → IsHeld was call
       → Notes bodies faults was (entries.End (record { n = call.permit.n; answer = call.answer }) ∷ []) None now
       → now.calls.unsettled ≡ without call.permit.n was.calls.unsettled → IsGood outside bodies cloud_bodies o now
-  settled_good outside bodies cloud_bodies faults o was now call fit good numbers held notes calls =
+  settled_good outside bodies cloud_bodies faults o was now call fit good held notes calls =
       noted_good outside bodies cloud_bodies faults o was now (ends ∷ []) good notes (may, tt, tt)
       (λ read. noted_recorded outside bodies cloud_bodies faults o was now (ends ∷ []) None fit good notes (may, tt, tt)
-      (numbers, tt))
-      recovered numbers_next
+      (calls_numbered (moment_of o was).known good.numbers, tt))
+      recovered (numbers_next outside (moment_of o was) ends may.2 tt good.numbers)
       (subst (λ (all : List Move). AreCalls all now.calls.unsettled (later (moment_of o was) (moves.Note ends)).calls)
       (sym notes.comes.story)
       (calls_on (story_of was) (moves.Note ends ∷ []) now.calls.unsettled (later (moment_of o was) (moves.Note ends)).calls
@@ -195,11 +200,3 @@ module _ (one_more : OneMoreStands) where
       recovered : is_recovering (later (moment_of o was) (moves.Note ends)) ≡ false
       recovered = still_recovered outside (moment_of o was) (run_holds outside o (story_of was) fit good.run).holds.known ends
           may.2 goes.recovered
-
-      numbers_next : (t : ℕ) → works (later (moment_of o was) (moves.Note ends)) t ≡ true
-          → (later (moment_of o was) (moves.Note ends)).known.last_call ≤ 4611686018427387904
-      numbers_next t working =
-          subst (λ (n : ℕ). n ≤ 4611686018427387904)
-          (sym (numbers_end (moment_of o was) call.permit.n call.answer).last_call)
-          (goes.numbers t (less_works (moment_of o was) ends t (note_stays outside (moment_of o was) ends may.2 refl t)
-          working))

@@ -1,5 +1,5 @@
 -- A site stays good that noted entries which may be, and halted then since the director's store failed.
-use Rattle.std.proofs.Common.{◌≡◌, ◌∙◌, ℕ, Bool, true, false, List, [], ◌∷◌, ◌++◌, Option, Some, None, ap, refl, subst, sym}
+use Rattle.std.proofs.Common.{◌≡◌, ◌∙◌, ℕ, Bool, true, false, List, [], ◌∷◌, ◌++◌, Option, Some, None, ap, refl, subst, sym, length}
 use Rattle.std.specs.Prelude.{fold, map}
 use Rattle.std.specs.List.{filter_map}
 use Rattle.std.proofs.lemmas.Bool.{false≢true}
@@ -26,6 +26,10 @@ use Rattle.laws_sites.proofs.NoteLemmas.{effects_noted, halted_noted}
 use Rattle.laws_sites.proofs.StepLemmas.{IsAfter, good_on, stopped}
 use Rattle.laws_sites.specs.Good.{GoesOn, IsGood, IsRecorded, MayPend, moment_of}
 use Rattle.laws_stands_noted.proofs.AgreesLemmas.{move_agrees}
+use Rattle.bosh_history.specs.Fit.{has_numbers}
+use Rattle.laws_sites.proofs.CountLemmas.{HasRoomFor, numbers_next}
+use Rattle.bosh_moves.proofs.TellLemmas.{after_notes}
+use Rattle.bosh_moves.specs.Story.{effects_told}
 
 -- ---- what may be noted may be kept once it has halted
 
@@ -105,12 +109,18 @@ note_stopped outside m e may = absurd may
 
 -- what is pending may be kept
 pub pending_stopped : (outside : Outside) (m : Moment) (e : Entry) (is_broken : Bool) (pending : Option Pending)
-    → MayBeNext outside m e → pending ≡ Some (added e) → MayPend outside (stopped m) is_broken pending
-pending_stopped outside m e is_broken pending may is =
+    → MayBeNext outside m e → HasRoomFor m e → has_numbers m.known ≡ true → pending ≡ Some (added e)
+    → MayPend outside (stopped m) is_broken pending
+pending_stopped outside m e is_broken pending may room numbers is =
     subst (MayPend outside (stopped m) is_broken) (sym is) (by is_broken)
   where
     by : (b : Bool) → MayPend outside (stopped m) b (Some (added e))
-    by true = (refl, (note_stopped outside m e may.0.2, may.0.1), may.1)
+    by true = (
+      refl,
+      (note_stopped outside m e may.0.2, may.0.1),
+      may.1,
+      numbers_next outside m e may.0.2 room numbers,
+    )
     by false = tt
 
 -- ---- moves that note, and then a halt
@@ -132,6 +142,7 @@ module _ {K L : Type 0} {k : keeper.Ghosts K} {l : keeper.Ghosts L} (outside : O
     (notes : Notes bodies faults was noted (Some cause) now) (whole : Whole (moment_of o was))
     (may : IsRunFrom outside (moment_of o was) (map moves.Note noted))
     (recorded : IsRecorded (fold later (moment_of o was) (map moves.Note noted)) now)
+    (numbers : has_numbers (fold later (moment_of o was) (map moves.Note noted)).known ≡ true)
     (pends : MayPend outside (stopped (fold later (moment_of o was) (map moves.Note noted))) now.book.journal.is_broken
     now.book.journal.pending) where
   abbrev after : Moment
@@ -162,6 +173,11 @@ module _ {K L : Type 0} {k : keeper.Ghosts K} {l : keeper.Ghosts L} (outside : O
       (notes.book.entries ∙ ap (λ es. was.book.journal.entries ++ es) (sym (durable_halt noted cause)))
       (subst (λ (m : Moment). IsAfter outside bodies cloud_bodies m now) (sym last) (record {
         halted = sym notes.halted;
+        numbers = numbers;
+        told = notes.comes.told
+            ∙ after_notes noted (Some cause) (length now.cloud.effects) (effects_told was.history was.cloud.effects)
+            ∙ good.told
+            ∙ ap (λ (es : List Entry). length es) (sym (effects_noted (moment_of o was) noted));
         recorded = λ read. told;
         runs = λ running. absurd (false≢true (sym running ∙ notes.halted));
         halts = λ is. record {

@@ -15,6 +15,7 @@ use Rattle.laws_sites.proofs.EndLemmas.{working_is}
 use Rattle.laws_sites.proofs.StepLemmas.{book_goes_on}
 use Rattle.laws_sites.specs.Good.{GoesOn, IsGood, IsRecorded, moment_of}
 use Rattle.laws_stands.specs.Told.{is_going}
+use Rattle.laws_sites.proofs.CountLemmas.{HasRoom}
 
 -- a book that is not full has numbers
 below : (long calls tasks : Bool) → ((long || calls) || tasks) ≡ false → (calls ≡ false) × (tasks ≡ false)
@@ -27,9 +28,21 @@ room : {K : Type 0} (book : Book K) → is_full book ≡ false
 room book is = below (is_long book) (nat_le 4611686018427387904 book.records.last_call)
     (nat_le 4611686018427387904 book.records.opened) is
 
+pub opened_left : {K : Type 0} (book : Book K) → is_full book ≡ false → book.records.opened < 4611686018427387904
+opened_left book is = leb-false 4611686018427387904 book.records.opened (room book is).1
+
 -- .. for tasks
-pub tasks_left : {K : Type 0} (book : Book K) → is_full book ≡ false → book.records.opened < 4611686018427387904
-tasks_left book is = leb-false 4611686018427387904 book.records.opened (room book is).1
+pub tasks_left : {K L : Type 0} {k : keeper.Ghosts K} {l : keeper.Ghosts L} (outside : Outside)
+    (bodies : K → Option (List (List ℕ))) (cloud_bodies : L → Option (List (List ℕ))) (o : Opening) (was : Site K L k l)
+    → IsGood outside bodies cloud_bodies o was → was.history.is_halted ≡ false
+    → is_full was.book ≡ false → (moment_of o was).known.tasks < 4611686018427387904
+tasks_left outside bodies cloud_bodies o was good running is =
+    subst (λ (n : ℕ). n < 4611686018427387904)
+    (ap (λ arrivals. arrivals.opened) it.whole.stands.uploads ∙ (λ i. (it.agrees.known_is i).tasks))
+    (opened_left was.book is)
+  where
+    it : IsRecorded (moment_of o was) was
+    it = good.recorded (book_goes_on was running).1
 
 -- .. and for calls
 pub numbers_left : {K L : Type 0} {k : keeper.Ghosts K} {l : keeper.Ghosts L} (outside : Outside)
@@ -44,23 +57,12 @@ numbers_left outside bodies cloud_bodies o was good running is =
     it : IsRecorded (moment_of o was) was
     it = good.recorded (book_goes_on was running).1
 
--- the task of a call that is held works, so there are numbers
-pub call_numbered : {K L : Type 0} {k : keeper.Ghosts K} {l : keeper.Ghosts L} (outside : Outside)
+-- .. and so for both
+pub room_left : {K L : Type 0} {k : keeper.Ghosts K} {l : keeper.Ghosts L} (outside : Outside)
     (bodies : K → Option (List (List ℕ))) (cloud_bodies : L → Option (List (List ℕ))) (o : Opening) (was : Site K L k l)
-    (call : HeldCall) → IsGood outside bodies cloud_bodies o was → was.history.is_halted ≡ false → IsHeld was call
-    → (moment_of o was).known.last_call < 18446744073709551615
-call_numbered outside bodies cloud_bodies o was call good running held =
-    few (moment_of o was).known.last_call
-    (goes.numbers held.0.1.begun.task (working_is (moment_of o was) held.0.1.begun.task goes.recovered
-    (subst (λ (known : Known). is_going known held.0.1.begun.task ≡ true) it.agrees.known_is
-    (it.whole.stands.tells_well.going call.permit.n held.0.1.begun
-    (sym (it.whole.stands.calls call.permit.n) ∙ held.0.1.is_open)))))
-  where
-    goes : GoesOn bodies cloud_bodies (moment_of o was) was
-    goes = good.runs running
-
-    it : IsRecorded (moment_of o was) was
-    it = good.recorded held.0.0
-
-    few : (n : ℕ) → n ≤ 4611686018427387904 → n < 18446744073709551615
-    few n less = omega arith
+    → IsGood outside bodies cloud_bodies o was → was.history.is_halted ≡ false
+    → is_full was.book ≡ false → HasRoom (moment_of o was)
+room_left outside bodies cloud_bodies o was good running is = record {
+  calls = numbers_left outside bodies cloud_bodies o was good running is;
+  tasks = tasks_left outside bodies cloud_bodies o was good running is;
+}

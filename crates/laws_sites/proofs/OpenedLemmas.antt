@@ -27,7 +27,7 @@ use Rattle.laws_held.proofs.HeldLemmas.{run_holds}
 use Rattle.laws_sites.proofs.CallLemmas.{calls_on}
 use Rattle.laws_sites.proofs.MomentLemmas.{MayBeNext}
 use Rattle.laws_sites.proofs.NoteLemmas.{OneMoreStands, noted_good, noted_recorded}
-use Rattle.laws_sites.proofs.NumberLemmas.{numbers_left, tasks_left}
+use Rattle.laws_sites.proofs.NumberLemmas.{numbers_left, tasks_left, opened_left}
 use Rattle.laws_sites.proofs.OpeningLemmas.{task_may_open}
 use Rattle.laws_sites.proofs.StepLemmas.{book_goes_on}
 use Rattle.laws_sites.proofs.StoppedLemmas.{left_still, refused_book_good}
@@ -36,6 +36,7 @@ use Rattle.laws_sites.specs.Good.{GoesOn, IsGood, IsRecorded, moment_of}
 use Rattle.laws_tasks.proofs.RecoveredLemmas.{still_recovered}
 use Rattle.laws_views.specs.Planned.{IsChecked}
 use Rattle.laws_views.proofs.HistoryLemmas.{run_viewed}
+use Rattle.laws_sites.proofs.CountLemmas.{HasRoomFor, calls_numbered, numbers_next}
 
 module _ {K L : Type 0} {k : keeper.Ghosts K} {l : keeper.Ghosts L} (outside : Outside) (bodies : K → Option (List (List ℕ)))
     (cloud_bodies : L → Option (List (List ℕ))) (faults : K → ℕ) (o : Opening) (was now : Site K L k l)
@@ -66,7 +67,7 @@ module _ {K L : Type 0} {k : keeper.Ghosts K} {l : keeper.Ghosts L} (outside : O
       let it : IsRecorded m was = good.recorded (book_goes_on was running).1 in
       task_may_open outside m it.told was.book.records it.whole.stands it.agrees
       (run_holds outside o (story_of was) fit good.run).holds.known
-      (fewer was.book.records.opened (tasks_left was.book room))
+      (fewer was.book.records.opened (opened_left was.book room))
       (good.runs running).recovered (run_viewed outside o (story_of was) fit good.run) ask checked
 
   pub task_good : (one_more : OneMoreStands) (ask : Ask) (task : ℕ) → IsChecked ask
@@ -75,10 +76,10 @@ module _ {K L : Type 0} {k : keeper.Ghosts K} {l : keeper.Ghosts L} (outside : O
       noted_good outside bodies cloud_bodies faults o was now (entries.TaskOpen opens.opening ∷ []) good opens.notes run
       (λ read. noted_recorded one_more outside bodies cloud_bodies faults o was now (entries.TaskOpen opens.opening ∷ []) None
       fit good opens.notes run
-      (fewer m.known.last_call left, tt))
+      (calls_numbered m.known good.numbers, tt))
       (still_recovered outside m (run_holds outside o (story_of was) fit good.run).holds.known
       (entries.TaskOpen opens.opening) next.0.2 goes.recovered)
-      (λ t working. enough m.known.last_call left)
+      (numbers_next outside m (entries.TaskOpen opens.opening) next.0.2 room good.numbers)
       (subst (λ (all : List Move). AreCalls all now.calls.unsettled m.calls) (sym opens.notes.comes.story)
       (calls_on (story_of was) (moves.Note (entries.TaskOpen opens.opening) ∷ []) now.calls.unsettled m.calls
       (subst (λ (c : CallsView). AreCalls (story_of was) c.unsettled m.calls) (sym calls) goes.calls)))
@@ -94,11 +95,8 @@ module _ {K L : Type 0} {k : keeper.Ghosts K} {l : keeper.Ghosts L} (outside : O
       run : IsRunFrom outside m (map moves.Note (entries.TaskOpen opens.opening ∷ []))
       run = (next.0, tt, next.1)
 
-      left : m.known.last_call < 4611686018427387904
-      left = numbers_left outside bodies cloud_bodies o was good opens.notes.running opens.has_room
-
-      enough : (n : ℕ) → n < 4611686018427387904 → n ≤ 4611686018427387904
-      enough n less = omega arith
+      room : m.known.tasks < 4611686018427387904
+      room = tasks_left outside bodies cloud_bodies o was good opens.notes.running opens.has_room
 
   pub task_refused : (ask : Ask) (why : SiteFault) → IsChecked ask → Refuses bodies faults was [] why now
       → Pends was (IsOpening was.book ask) now → IsGood outside bodies cloud_bodies o now
@@ -108,7 +106,9 @@ module _ {K L : Type 0} {k : keeper.Ghosts K} {l : keeper.Ghosts L} (outside : O
       (λ i. (calls i).unsettled) pends may) refuses
     where
       may : was.history.is_halted ≡ false → (entry : Entry) → IsOpening was.book ask entry
-          → MayBeNext outside m entry
+          → MayBeNext outside m entry × HasRoomFor m entry
       may running entry (opening, is, room, same) =
-          subst (MayBeNext outside m) (sym same)
-          (opening_next opening running (may_note ask checked room running opening is))
+          subst (λ (e : Entry). MayBeNext outside m e × HasRoomFor m e) (sym same) (
+            opening_next opening running (may_note ask checked room running opening is),
+            tasks_left outside bodies cloud_bodies o was good running room,
+          )

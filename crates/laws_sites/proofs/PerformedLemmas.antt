@@ -12,7 +12,7 @@ use Rattle.bosh_book.specs.declared.book.Book.{Book}
 use Rattle.bosh_book.specs.declared.granted.Granted.{Granted}
 use Rattle.bosh_calls.specs.declared.calls.OpenCall as site
 use Rattle.bosh_cloud.specs.Performs.{answer_under, fate_of, has_effect}
-use Rattle.bosh_history.specs.Fit.{IsFit}
+use Rattle.bosh_history.specs.Fit.{IsFit, has_numbers}
 use Rattle.bosh_history.specs.Moments.{Moment, OpenCall, Opening, dep_of, durable, moment, performing}
 use Rattle.bosh_history.specs.Notes.{Outside}
 use Rattle.bosh_history.specs.Permitted.{IsPermitted, IsRun, PerformsOpen}
@@ -114,7 +114,6 @@ module _ {K L : Type 0} {k : keeper.Ghosts K} {l : keeper.Ghosts L} (outside : O
   goes_on : GoesOn bodies cloud_bodies (performing m d) now
   goes_on = record {
     recovered = goes.recovered;
-    numbers = goes.numbers;
     effects = performs.asks.does.notes.2
         ∙ (λ i. goes.effects i ++ effects_are m (has_effect (fate_of was.cloud permit.owner permit.call) was.cloud.effects permit.call)
         permit found.0 (m.calls permit.n) found.1 for of_dep i);
@@ -134,6 +133,9 @@ module _ {K L : Type 0} {k : keeper.Ghosts K} {l : keeper.Ghosts L} (outside : O
     opening = performs.same_opening ∙ good.opening;
     entries = entries;
     halted = ap (λ (n : Moment). n.halted) next ∙ good.halted ∙ performs.running ∙ sym performs.runs_on;
+    numbers = ap (λ (n : Moment). has_numbers n.known) next ∙ good.numbers;
+    told = performs.comes.told ∙ ap (λ (es : List Entry). length es) goes_on.effects
+        ∙ ap (λ (n : Moment). length n.effects) (sym next);
     recorded = λ read. subst (λ (n : Moment). IsRecorded n now) (sym next) told_so;
     runs = λ running. subst (λ (n : Moment). GoesOn bodies cloud_bodies n now) (sym next) goes_on;
     halts = λ halted. absurd (false≢true (sym performs.runs_on ∙ halted));

@@ -1,5 +1,5 @@
 -- A site stays good as moves come after those that there are.
-use Rattle.std.proofs.Common.{◌≡◌, ◌∙◌, ℕ, Bool, true, false, not, List, [], ◌∷◌, ◌++◌, Option, ap, append-nil, refl, subst, sym}
+use Rattle.std.proofs.Common.{◌≡◌, ◌∙◌, ℕ, Bool, true, false, not, List, [], ◌∷◌, ◌++◌, Option, ap, append-nil, length, refl, subst, sym}
 use Rattle.std.specs.Prelude.{◌≢◌, ◌||◌, fold}
 use Rattle.std.specs.List.{filter_map}
 use Rattle.std.proofs.lemmas.Bool.{false≢true, true≢false}
@@ -9,10 +9,11 @@ use Rattle.bosh_base.specs.declared.moves.Move.TheVariants as moves
 use Rattle.bosh_book.specs.Running.{is_running}
 use Rattle.bosh_book.specs.declared.standing.Standing.{Standing}
 use Rattle.bosh_book.specs.declared.standing.Standing.TheVariants.{Running, Unread}
-use Rattle.bosh_history.specs.Fit.{IsFit}
+use Rattle.bosh_history.specs.Fit.{IsFit, has_numbers}
 use Rattle.bosh_history.specs.Moments.{Moment, Opening, durable, durable_entry, later, moment}
 use Rattle.bosh_history.specs.Notes.{Outside}
 use Rattle.bosh_history.specs.Permitted.{IsRun, IsRunFrom}
+use Rattle.bosh_moves.specs.Story.{effects_told}
 use Rattle.bosh_ports.specs.declared.keeper.Keeper as keeper
 use Rattle.bosh_world.specs.Told.{story_of}
 use Rattle.bosh_world.specs.declared.site.Site.{Site}
@@ -27,6 +28,8 @@ pub record IsAfter {K L : Type 0} {k : keeper.Ghosts K} {l : keeper.Ghosts L}
     (outside : Outside) (bodies : K → Option (List (List ℕ))) (cloud_bodies : L → Option (List (List ℕ))) (m : Moment)
     (site : Site K L k l) : Type 0 where
   pub halted : m.halted ≡ site.history.is_halted
+  pub numbers : has_numbers m.known ≡ true
+  pub told : effects_told site.history site.cloud.effects ≡ length m.effects
   pub recorded : site.book.standing ≢ Unread → IsRecorded m site
   pub runs : site.history.is_halted ≡ false → GoesOn bodies cloud_bodies m site
   pub halts : site.history.is_halted ≡ true → HasHalted outside bodies cloud_bodies m site
@@ -45,6 +48,8 @@ good_on outside bodies cloud_bodies o was now more good story opening permitted 
   entries = ap (durable o) story ∙ durable_on o (story_of was) more
       ∙ (λ i. good.entries i ++ filter_map durable_entry more) ∙ sym entries;
   halted = ap (λ (m : Moment). m.halted) next ∙ after.halted;
+  numbers = ap (λ (m : Moment). has_numbers m.known) next ∙ after.numbers;
+  told = after.told ∙ ap (λ (m : Moment). length m.effects) (sym next);
   recorded = λ read. subst (λ (m : Moment). IsRecorded m now) (sym next) (after.recorded read);
   runs = λ running. subst (λ (m : Moment). GoesOn bodies cloud_bodies m now) (sym next) (after.runs running);
   halts = λ halted. subst (λ (m : Moment). HasHalted outside bodies cloud_bodies m now) (sym next) (after.halts halted);
@@ -64,13 +69,16 @@ pub halted_good : {K L : Type 0} {k : keeper.Ghosts K} {l : keeper.Ghosts L} (ou
     → now.history.is_halted ≡ true → story_of now ≡ story_of was ++ moves.Halt cause ∷ []
     → now.opening ≡ was.opening → now.book.journal.entries ≡ was.book.journal.entries
     → now.book.records ≡ was.book.records → was.book.standing ≢ Unread
+    → effects_told now.history now.cloud.effects ≡ effects_told was.history was.cloud.effects
     → HasHalted outside bodies cloud_bodies (stopped (moment_of o was)) now
     → IsGood outside bodies cloud_bodies o now
-halted_good outside bodies cloud_bodies o was now cause fit good ran halted story opening entries records read halts =
+halted_good outside bodies cloud_bodies o was now cause fit good ran halted story opening entries records read told halts =
     good_on outside bodies cloud_bodies o was now (moves.Halt cause ∷ []) good story opening (good.halted ∙ ran, tt, tt)
     (entries ∙ sym (append-nil was.book.journal.entries))
     (record {
       halted = sym halted;
+      numbers = good.numbers;
+      told = told ∙ good.told;
       recorded = λ read_now. told_so;
       runs = λ running. absurd (false≢true (sym running ∙ halted));
       halts = λ is. halts;

@@ -12,7 +12,7 @@ use Rattle.bosh_base.specs.declared.moves.Move.TheVariants as moves
 use Rattle.bosh_book.specs.Ends.{end_by}
 use Rattle.bosh_book.specs.Faults.{MayEnd}
 use Rattle.bosh_calls.specs.declared.calls.OpenCall as site
-use Rattle.bosh_history.specs.Fit.{IsFit}
+use Rattle.bosh_history.specs.Fit.{IsFit, has_numbers}
 use Rattle.bosh_history.specs.Known.{Known}
 use Rattle.bosh_history.specs.Moments.{Opening, later}
 use Rattle.bosh_history.specs.Notes.{Outside}
@@ -34,7 +34,7 @@ use Rattle.laws_facts.specs.Owners.{works}
 use Rattle.laws_held.proofs.HeldLemmas.{run_holds}
 use Rattle.laws_sites.proofs.CallLemmas.{calls_on}
 use Rattle.laws_sites.proofs.ChoiceLemmas.{closing_tells, end_lawful}
-use Rattle.laws_sites.proofs.EndLemmas.{working_is}
+use Rattle.laws_sites.proofs.EndLemmas.{working_is, closing_room}
 use Rattle.laws_sites.proofs.HaltLemmas.{gives_up_good, same_good}
 use Rattle.laws_sites.proofs.HeldLemmas.{held_may_end}
 use Rattle.laws_sites.proofs.KeepLemmas.{same_parts_good}
@@ -47,6 +47,7 @@ use Rattle.laws_sites.specs.Good.{GoesOn, IsGood, IsRecorded, MayPend, moment_of
 use Rattle.laws_stands.specs.Stands.{IsWork}
 use Rattle.laws_stands.specs.Told.{is_going}
 use Rattle.laws_stands_fits.proofs.EntriesLemmas.{whole_with_room}
+use Rattle.laws_sites.proofs.CountLemmas.{HasRoomFor}
 
 module _ {K L : Type 0} {k : keeper.Ghosts K} {l : keeper.Ghosts L} (outside : Outside) (bodies : K → Option (List (List ℕ)))
     (cloud_bodies : L → Option (List (List ℕ))) (o : Opening) where
@@ -56,6 +57,7 @@ module _ {K L : Type 0} {k : keeper.Ghosts K} {l : keeper.Ghosts L} (outside : O
   pub record Left (faults : K → ℕ) (was now : Site K L k l) (noted : List Entry) (halt : Option Cause) : Type 0 where
     pub may : IsRunFrom outside (moment_of o was) (map moves.Note noted)
     pub recorded : IsRecorded (fold later (moment_of o was) (map moves.Note noted)) now
+    pub numbers : has_numbers (fold later (moment_of o was) (map moves.Note noted)).known ≡ true
     pub pends : now.history.is_halted ≡ true
         → MayPend outside (stopped (fold later (moment_of o was) (map moves.Note noted))) now.book.journal.is_broken
         now.book.journal.pending
@@ -71,7 +73,7 @@ module _ {K L : Type 0} {k : keeper.Ghosts K} {l : keeper.Ghosts L} (outside : O
       halts cause fails =
           let it : Left faults was now noted (Some cause) = left (Some cause) fails.notes in
           noted_halt_good outside bodies cloud_bodies faults o was now noted cause good fails.notes
-          (run_holds outside o (story_of was) fit good.run) it.may it.recorded (it.pends fails.notes.halted)
+          (run_holds outside o (story_of was) fit good.run) it.may it.recorded it.numbers (it.pends fails.notes.halted)
 
       by : (why : SiteFault) → Refuses bodies faults was noted why now → IsGood outside bodies cloud_bodies o now
       by (fault.Book book.Stopped) (inl (halted, same)) = same_good outside bodies cloud_bodies o was now good same
@@ -99,7 +101,7 @@ module _ {K L : Type 0} {k : keeper.Ghosts K} {l : keeper.Ghosts L}
       → now.calls.unsettled ≡ was.calls.unsettled → IsGood outside bodies cloud_bodies o now
   still_good was now good notes calls =
       noted_good outside bodies cloud_bodies faults o was now [] good notes tt
-      (λ read. recorded_still was now None good notes) goes.recovered goes.numbers
+      (λ read. recorded_still was now None good notes) goes.recovered good.numbers
       (subst (λ (all : List Move). AreCalls all now.calls.unsettled (moment_of o was).calls) (sym notes.comes.story)
       (calls_on (story_of was) [] now.calls.unsettled (moment_of o was).calls
       (subst (λ (these : List site.OpenCall). AreCalls (story_of was) these (moment_of o was).calls) (sym calls) goes.calls)))
@@ -112,16 +114,18 @@ module _ {K L : Type 0} {k : keeper.Ghosts K} {l : keeper.Ghosts L}
   pub left_still : (was now : Site K L k l) (e : Entry → Type 0) → IsGood outside bodies cloud_bodies o was
       → now.calls.unsettled ≡ was.calls.unsettled → Pends was e now
       → (was.history.is_halted ≡ false → (entry : Entry) → e entry
-      → MayBeNext outside (moment_of o was) entry)
+      → MayBeNext outside (moment_of o was) entry × HasRoomFor (moment_of o was) entry)
       → (halt : Option Cause) → Notes bodies faults was [] halt now
       → Left outside bodies cloud_bodies o faults was now [] halt
   left_still was now e good calls pends may halt notes = record {
     may = tt;
     recorded = recorded_still was now halt good notes;
+    numbers = good.numbers;
     pends = λ halted.
         let it = pends notes.running halted in
-        pending_stopped outside (moment_of o was) it.0 now.book.journal.is_broken now.book.journal.pending
-        (may notes.running it.0 it.1) it.2;
+        let next = may notes.running it.0 it.1 in
+        pending_stopped outside (moment_of o was) it.0 now.book.journal.is_broken now.book.journal.pending next.0 next.1
+        good.numbers it.2;
     goes_on = λ none.
         still_good was now good (subst (λ (h : Option Cause). Notes bodies faults was [] h now) none notes) calls;
   }
@@ -136,10 +140,12 @@ module _ {K L : Type 0} {k : keeper.Ghosts K} {l : keeper.Ghosts L}
       (left_still was now (IsClosing was.book.records task) good (λ i. (calls i).unsettled) pends may) refuses
     where
       may : was.history.is_halted ≡ false → (entry : Entry) → IsClosing was.book.records task entry
-          → MayBeNext outside (moment_of o was) entry
+          → MayBeNext outside (moment_of o was) entry × HasRoomFor (moment_of o was) entry
       may running entry (end, comes, is) =
-          subst (MayBeNext outside (moment_of o was)) (sym is)
-          (end_lawful outside bodies cloud_bodies o was task fit good running working end comes, closing_tells task end)
+          subst (λ (e : Entry). MayBeNext outside (moment_of o was) e × HasRoomFor (moment_of o was) e) (sym is) (
+            (end_lawful outside bodies cloud_bodies o was task fit good running working end comes, closing_tells task end),
+            closing_room (moment_of o was) task end,
+          )
         where
           recorded : IsRecorded (moment_of o was) was
           recorded = good.recorded (book_goes_on was running).1
@@ -167,8 +173,8 @@ module _ {K L : Type 0} {k : keeper.Ghosts K} {l : keeper.Ghosts L}
       refused_book_good outside bodies cloud_bodies o faults was now [] why fit good
       (left_still was now (IsAllowed (MayEnd was.book call.permit call.answer) ends) good calls pends
       (λ running entry is.
-      subst (MayBeNext outside (moment_of o was)) (sym is.1)
-      (held_may_end outside bodies cloud_bodies o was call good running held, tt))) refuses
+      subst (λ (e : Entry). MayBeNext outside (moment_of o was) e × HasRoomFor (moment_of o was) e) (sym is.1)
+      ((held_may_end outside bodies cloud_bodies o was call good running held, tt), tt))) refuses
     where
       ends : Entry
       ends = entries.End (record { n = call.permit.n; answer = call.answer })

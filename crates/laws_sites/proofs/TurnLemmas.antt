@@ -75,7 +75,7 @@ end_after k (entries.Gone u) is n =
     refl n
 end_after k e is n = absurd is
 
-numbers_after : (m : Moment) (e : Entry) → IsUpdate e
+pub numbers_after : (m : Moment) (e : Entry) → IsUpdate e
     → ((learn m.known e).tasks ≡ m.known.tasks) × ((learn m.known e).last_call ≡ m.known.last_call)
 numbers_after m (entries.UpdBegin u) is = (refl, refl)
 numbers_after m (entries.UpdDone u) is =

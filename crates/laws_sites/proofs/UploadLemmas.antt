@@ -56,6 +56,7 @@ use Rattle.laws_stands_fits.specs.Within.{is_within}
 use Rattle.laws_stands_noted.proofs.AgreesLemmas.{move_agrees}
 use Rattle.laws_stands_noted.proofs.NotedLemmas.{config_noted, release_noted, stemcell_noted}
 use Rattle.laws_tasks.proofs.RecoveredLemmas.{still_recovered}
+use Rattle.laws_sites.proofs.CountLemmas.{HasRoomFor, numbers_next}
 
 -- ---- what an upload leaves
 
@@ -64,12 +65,6 @@ is_upload (entries.Release r) = true
 is_upload (entries.Stemcell s) = true
 is_upload (entries.Config file) = true
 is_upload entry = false
-
-upload_opens : (e : Entry) → is_upload e ≡ true → is_opening e ≡ false
-upload_opens (entries.Release r) is = refl
-upload_opens (entries.Stemcell s) is = refl
-upload_opens (entries.Config file) is = refl
-upload_opens e is = absurd (false≢true is)
 
 upload_within : (e : Entry) → is_upload e ≡ true → is_within e ≡ true
 upload_within (entries.Release r) is = refl
@@ -83,11 +78,12 @@ upload_calls m (entries.Stemcell s) is = refl
 upload_calls m (entries.Config file) is = refl
 upload_calls m e is = absurd (false≢true is)
 
-upload_count : (k : Known) (e : Entry) → is_upload e ≡ true → (learn k e).last_call ≡ k.last_call
-upload_count k (entries.Release r) is = refl
-upload_count k (entries.Stemcell s) is = refl
-upload_count k (entries.Config file) is = refl
-upload_count k e is = absurd (false≢true is)
+-- an upload begins no call, and opens no task
+upload_room : (m : Moment) (e : Entry) → is_upload e ≡ true → HasRoomFor m e
+upload_room m (entries.Release r) is = tt
+upload_room m (entries.Stemcell s) is = tt
+upload_room m (entries.Config file) is = tt
+upload_room m e is = absurd (false≢true is)
 
 -- ---- what is recorded
 
@@ -194,8 +190,7 @@ module _ {K L : Type 0} {k : keeper.Ghosts K} {l : keeper.Ghosts L} (outside : O
   upload_good e is may_note notes =
       noted_good outside bodies cloud_bodies faults o was now (e ∷ []) good notes (next.0, tt, next.1) (λ read. recorded)
       (still_recovered outside m (run_holds outside o (story_of was) fit good.run).holds.known e may_note goes.recovered)
-      (λ t working. subst (λ (n : ℕ). n ≤ 4611686018427387904) (sym (upload_count m.known e is))
-      (goes.numbers t (less_works m e t (note_stays outside m e may_note (upload_opens e is) t) working)))
+      (numbers_next outside m e may_note (upload_room m e is) good.numbers)
       (subst (λ (all : List Move). AreCalls all now.calls.unsettled (noting m e).calls) (sym notes.comes.story)
       (calls_on (story_of was) (moves.Note e ∷ []) now.calls.unsettled (noting m e).calls
       (subst (λ of_calls. AreCalls (story_of was) now.calls.unsettled of_calls) (sym (upload_calls m e is))
@@ -234,8 +229,8 @@ module _ {K L : Type 0} {k : keeper.Ghosts K} {l : keeper.Ghosts L} (outside : O
   upload_refused e upload Allowed why may refuses pends =
       refused_book_good outside bodies cloud_bodies o faults was now [] why fit good
       (left_still bodies cloud_bodies faults outside o was now (IsAllowed Allowed e) good (λ i. (calls i).unsettled) pends
-      (λ running entry is. subst (MayBeNext outside m) (sym is.1)
-      (upload_next e upload running (may running is.0)))) refuses
+      (λ running entry is. subst (λ (e : Entry). MayBeNext outside m e × HasRoomFor m e) (sym is.1)
+      (upload_next e upload running (may running is.0), upload_room m e upload))) refuses
 
   -- ---- releases, stemcells, configs
 

@@ -16,7 +16,7 @@ use Rattle.bosh_base.specs.declared.row.DiskRow.{DiskRow}
 use Rattle.bosh_base.specs.declared.row.Row.{Row}
 use Rattle.bosh_book.specs.declared.book.Book.{Book}
 use Rattle.bosh_calls.specs.CallsView.{CallsView}
-use Rattle.bosh_history.specs.Fit.{IsFit}
+use Rattle.bosh_history.specs.Fit.{IsFit, has_numbers}
 use Rattle.bosh_history.specs.Moments.{Moment, Opening, durable_entry, later, with_written, write_to}
 use Rattle.bosh_history.specs.Notes.{Outside}
 use Rattle.bosh_history.specs.Permitted.{IsPermitted, TellsSource, MayWrite, can_lose, can_write, has_active}
@@ -50,6 +50,7 @@ use Rattle.laws_stands.specs.Agrees.{Agrees}
 use Rattle.laws_stands.specs.Told.{TellsWell, Told}
 use Rattle.laws_stands_fits.specs.Whole.{StandsWhole}
 use Rattle.laws_stands_noted.proofs.AgreesLemmas.{move_agrees}
+use Rattle.bosh_moves.specs.Story.{effects_after, effects_told}
 
 -- what holds of an instance holds of one of a list that it is among
 any_among : (p : Inst → Bool) (inst : Inst) (xs : List Inst) → is_among same_inst inst xs ≡ true → p inst ≡ true
@@ -78,16 +79,21 @@ module _ {K L : Type 0} {k : keeper.Ghosts K} {l : keeper.Ghosts L} (outside : O
       → IsPermitted outside m move → TellsSource move
       → filter_map durable_entry (move ∷ []) ≡ [] → (later m move).halted ≡ m.halted
       → is_recovering (later m move) ≡ is_recovering m → ((t : ℕ) → works (later m move) t ≡ works m t)
-      → (later m move).known.last_call ≡ m.known.last_call → (later m move).calls ≡ m.calls
+      → (later m move).known ≡ m.known → (later m move).calls ≡ m.calls
       → (later m move).effects ≡ m.effects ++ done ∷ []
       → ((told : Told) → Agrees m told → TellsWell told → Agrees (later m move) told)
+      → ((there told : ℕ) → effects_after (move ∷ []) there told ≡ there)
       → IsGood outside bodies cloud_bodies o now
-  changed_good done move changes may source nothing same_halt same_recovery same_work same_number same_calls effects agrees =
+  changed_good done move changes may source nothing same_halt same_recovery same_work same_known same_calls effects agrees tells =
       good_on outside bodies cloud_bodies o was now (move ∷ []) good changes.comes.story changes.same_opening (may, tt, source)
       ((λ i. (changes.same_book i).journal.entries) ∙ sym (append-nil was.book.journal.entries)
       ∙ ap (λ es. was.book.journal.entries ++ es) (sym nothing))
       (record {
         halted = same_halt ∙ good.halted ∙ changes.running ∙ sym changes.halted;
+        numbers = ap has_numbers same_known ∙ good.numbers;
+        told = changes.comes.told
+            ∙ tells (length now.cloud.effects) (effects_told was.history was.cloud.effects)
+            ∙ ap (λ (es : List Entry). length es) (goes_on (good.runs changes.running)).effects;
         recorded = λ read. recorded (good.recorded (book_goes_on was changes.running).1);
         runs = λ running. goes_on (good.runs changes.running);
         halts = λ halted. absurd (false≢true (sym changes.halted ∙ halted));
@@ -103,8 +109,6 @@ module _ {K L : Type 0} {k : keeper.Ghosts K} {l : keeper.Ghosts L} (outside : O
       goes_on : GoesOn bodies cloud_bodies m was → GoesOn bodies cloud_bodies (later m move) now
       goes_on it = record {
         recovered = same_recovery ∙ it.recovered;
-        numbers = λ t working. subst (λ (n : ℕ). n ≤ 4611686018427387904) (sym same_number)
-            (it.numbers t (sym (same_work t) ∙ working));
         effects = changes.does.notes.2 ∙ ap (λ es. es ++ done ∷ []) it.effects ∙ sym effects;
         calls = subst (λ calls. AreCalls (story_of now) now.calls.unsettled calls) (sym same_calls)
             (subst (λ (moves : List Move). AreCalls moves now.calls.unsettled m.calls) (sym changes.comes.story)
@@ -124,7 +128,7 @@ module _ {K L : Type 0} {k : keeper.Ghosts K} {l : keeper.Ghosts L} (outside : O
   failed_good done failed may effects =
       halted_good outside bodies cloud_bodies o was now causes.CloudStore fit good failed.halts.ran failed.halts.halted
       failed.halts.comes.story failed.halts.same_opening (λ i. (failed.halts.same_book i).journal.entries)
-      (λ i. (failed.halts.same_book i).records) (book_goes_on was failed.halts.ran).1
+      (λ i. (failed.halts.same_book i).records) (book_goes_on was failed.halts.ran).1 failed.halts.comes.told
       (record {
         wrote = None;
         took = [];
@@ -196,7 +200,7 @@ module _ {K L : Type 0} {k : keeper.Ghosts K} {l : keeper.Ghosts L} (outside : O
         (moves.Wrote (record { inst = inst; text = text })) changes (good.halted ∙ ran, can) tt refl refl refl (λ t. refl) refl
         refl is_written
         (λ told agrees well. move_agrees outside m told (moves.Wrote (record { inst = inst; text = text })) agrees
-        (run_facts outside o (story_of was) fit good.run) well (good.halted ∙ ran, can))
+        (run_facts outside o (story_of was) fit good.run) well (good.halted ∙ ran, can)) (λ there told. refl)
 
     pub write_failed_good : FailsInJob cloud_bodies faults was (entries.Write (record { disk = disk; text = text })) now
         → IsGood outside bodies cloud_bodies o now
@@ -221,7 +225,7 @@ module _ {K L : Type 0} {k : keeper.Ghosts K} {l : keeper.Ghosts L} (outside : O
         changed_good (entries.Lost loss) (moves.Lost loss) changes (good.halted ∙ ran, can_be_lost) tt refl refl refl
         (λ t. refl) refl refl refl
         (λ told agrees well. move_agrees outside m told (moves.Lost loss) agrees
-        (run_facts outside o (story_of was) fit good.run) well (good.halted ∙ ran, can_be_lost))
+        (run_facts outside o (story_of was) fit good.run) well (good.halted ∙ ran, can_be_lost)) (λ there told. refl)
 
     pub loss_failed_good : FailsInJob cloud_bodies faults was (entries.Lost loss) now
         → IsGood outside bodies cloud_bodies o now
