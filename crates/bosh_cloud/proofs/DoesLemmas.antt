@@ -14,6 +14,8 @@ use Rattle.bosh_registers.specs.Store.{Appends}
 use Rattle.bosh_registers.specs.declared.put_fault.PutFault.{PutFault}
 use Rattle.bosh_registers.specs.declared.put_fault.PutFault.TheVariants as put
 use Rattle.bosh_ports.specs.Faults.{NeverFalls, Rose}
+use Rattle.bosh_entry.proofs.BodyLemmas.{whole_again}
+use Rattle.bosh_entry.specs.declared.format.Format.TheVariants.{Present}
 
 same_told : (told : Option (List (List ℕ))) → IfSome told (λ list. told ≡ Some list)
 same_told None = tt
@@ -73,7 +75,7 @@ pub Does-failed : {L T : Type 0} (bodies : L → Option (List (List ℕ))) (faul
     NeverFalls (faults was.store) (faults now.store) → MayFollow was.effects entry →
     Does {T = T} bodies faults (Err StoreFault) was (entry ∷ []) now
 Does-failed bodies faults was now entry whole fails named same rose list count follows = record {
-  notes = (whole, fails, same, named, rose, list);
+  notes = (whole, fails, same, (named, whole_again Present entry follows.spelled), rose, list);
   count = count;
   kept = TellsAll-failed (bodies was.store) (bodies now.store) was.is_stale now.is_stale was.pending now.pending was.effects
       now.effects entry whole fails named same list follows;

@@ -78,5 +78,5 @@ TellsAll-failed (Some bodies) later was is pending left effects after entry whol
     subst (λ (it : Bool). TellsAll later it left after) (sym fails)
     (subst (λ (it : Option (List ℕ)). TellsAll later true it after) (sym named) (elim list [
       | inl lost ↦ subst (λ (it : Option (List (List ℕ))). TellsAll it true (Some (spelling entry)) after) (sym lost) (inl either.0)
-      | inr left_ ↦ subst (λ (it : Option (List (List ℕ))). TellsAll it true (Some (spelling entry)) after) (sym left_) (inr (entry, refl, either.1))
+      | inr left_ ↦ subst (λ (it : Option (List (List ℕ))). TellsAll it true (Some (spelling entry)) after) (sym left_) (inr (entry, whole_again Present entry follows.spelled, either.1))
     ]))

@@ -3,7 +3,7 @@ use Rattle.std.specs.Prelude.{◌≡◌, ◌⊎◌, ℕ, Bool, true, false, if�
 use Rattle.std.specs.Option.{option_and_then}
 use Rattle.bosh_base.specs.declared.entry.Entry.{Entry}
 use Rattle.bosh_cloud.specs.CloudView.{CloudView}
-use Rattle.bosh_entry.specs.Body.{entry_of, spelling}
+use Rattle.bosh_entry.specs.Body.{entry_of}
 use Rattle.bosh_inventory.specs.Happens.{happens}
 
 -- what a body says that was done, after what was done before: the entry that it spells, where that may be done then
@@ -27,7 +27,7 @@ effects_in bodies = fold with_body (Ok []) bodies
 -- the bodies say that this was done, and then what is pending, if anything is
 abbrev pub TellPending : List (List ℕ) → Option (List ℕ) → List Entry → Type 0
 TellPending bodies (Some body) effects =
-    (entry : Entry) × (body ≡ spelling entry) × (effects_in bodies ≡ Ok (effects ++ entry ∷ []))
+    (entry : Entry) × (entry_of body ≡ Some entry) × (effects_in bodies ≡ Ok (effects ++ entry ∷ []))
 TellPending bodies None effects = ⊥
 
 -- the bodies say that this was done; where the store has failed since, they may say what it failed at

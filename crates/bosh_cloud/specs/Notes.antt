@@ -5,12 +5,12 @@ use Rattle.bosh_cloud.specs.CloudView.{CloudView}
 use Rattle.bosh_cloud.specs.Loading.{IsKept}
 use Rattle.bosh_cloud.specs.declared.fault.CloudFault.{CloudFault}
 use Rattle.bosh_cloud.specs.declared.fault.CloudFault.TheVariants.{StoreFault, Broken, Memory}
-use Rattle.bosh_entry.specs.Body.{spelling}
+use Rattle.bosh_entry.specs.Body.{entry_of, spelling}
 use Rattle.bosh_ports.specs.Faults.{NeverFalls, Rose}
 
--- what was to be done is pending
+-- what was to be done is pending: the body that spells it, and nothing else
 abbrev pub IsPending : List Entry → Option (List ℕ) → Type 0
-IsPending (entry ∷ []) pending = pending ≡ Some (spelling entry)
+IsPending (entry ∷ []) pending = (pending ≡ Some (spelling entry)) × (entry_of (spelling entry) ≡ Some entry)
 IsPending added pending = ⊥
 
 -- It was done, and its body stands at the end of the store. Where the store failed it was not done, is pending, and the
