@@ -34,9 +34,10 @@ use Rattle.laws_sites.proofs.StoppedLemmas.{Left, recorded_still, refused_book_g
 use Rattle.laws_sites.proofs.TurnLemmas as turning
 use Rattle.laws_sites.proofs.TurnLemmas.{HasTurned}
 use Rattle.laws_sites.specs.Calls.{AreCalls, AreRising}
-use Rattle.laws_sites.specs.Good.{GoesOn, IsGood, IsRecorded, MayPend, moment_of}
+use Rattle.laws_sites.specs.Good.{GoesOn, IsGood, IsRecorded, moment_of}
 use Rattle.laws_stands.specs.Told.{telling}
 use Rattle.laws_sites.proofs.CountLemmas.{HasRoom, room_for}
+use Rattle.laws_sites.proofs.ExplainLemmas.{MayPend}
 
 module _ (one_more : OneMoreStands) {K L : Type 0} {k : keeper.Ghosts K} {l : keeper.Ghosts L}
     (bodies : K → Option (List (List ℕ))) (cloud_bodies : L → Option (List (List ℕ))) (faults : K → ℕ) (outside : Outside)

@@ -27,8 +27,10 @@ use Rattle.bosh_world.specs.declared.site.Site.{Site}
 use Rattle.laws_sites.proofs.StepLemmas.{book_goes_on, good_on, halted_good, stopped}
 use Rattle.laws_sites.proofs.StopLemmas.{HasTaken, MayTakeMore, effects_stopped, take_stopped}
 use Rattle.laws_sites.specs.Calls.{AreCalls, AreRising}
-use Rattle.laws_sites.specs.Good.{GoesOn, HasHalted, IsGood, IsRecorded, MayCome, MayPend, moment_of}
+use Rattle.laws_sites.specs.Good.{GoesOn, HasHalted, IsGood, IsRecorded, moment_of, FindsIn, IsLeft, IsLeftOf, IsPresent, SayDone}
 use Rattle.laws_stands_fits.specs.Whole.{StandsWhole}
+use Rattle.laws_sites.proofs.ExplainLemmas.{explained, MayPend, MayCome}
+use Rattle.bosh_journal.specs.Spelled.{Spell}
 
 -- ---- what is pending
 
@@ -117,7 +119,7 @@ module _ {K L : Type 0} {k : keeper.Ghosts K} {l : keeper.Ghosts L} (outside : O
   halts_good was now faults cause fit good halts has =
       halted_good outside bodies cloud_bodies o was now cause fit good halts.ran halts.halted halts.comes.story
       halts.same_opening (λ i. (halts.same_book i).journal.entries) (λ i. (halts.same_book i).records) goes_on.1 halts.comes.told
-      (record {
+      (explained outside bodies cloud_bodies (stopped (moment_of o was)) now (record {
         wrote = None;
         took = has.took;
         may_write = tt;
@@ -129,7 +131,8 @@ module _ {K L : Type 0} {k : keeper.Ghosts K} {l : keeper.Ghosts L} (outside : O
         book_kept = subst (λ (b : Book (RigState K)). journal.IsKept (bodies_of bodies) b.journal) (sym halts.same_book)
             (good.runs halts.ran).book_kept;
         cloud_kept = halts.kept (good.runs halts.ran).cloud_kept;
-      })
+        numbers = good.numbers;
+      }))
     where
       goes_on : (was.book.journal.is_broken ≡ false) × (was.book.standing ≢ Unread)
       goes_on = book_goes_on was halts.ran
@@ -147,7 +150,7 @@ module _ {K L : Type 0} {k : keeper.Ghosts K} {l : keeper.Ghosts L} (outside : O
           halted_good outside bodies cloud_bodies o was now causes.Stop fit good ran gives.halted
           (gives.halts ran).story gives.same_opening (λ i. (gives.book i).journal.entries)
           (λ i. (gives.book i).records) read (gives.halts ran).told
-          (record {
+          (explained outside bodies cloud_bodies (stopped (moment_of o was)) now (record {
             wrote = None;
             took = [];
             may_write = tt;
@@ -160,7 +163,8 @@ module _ {K L : Type 0} {k : keeper.Ghosts K} {l : keeper.Ghosts L} (outside : O
             book_kept = kept (good.runs ran).book_kept;
             cloud_kept = subst (λ (c : CloudView L). cloud.IsKept cloud_bodies c) (sym gives.same_cloud)
                 (good.runs ran).cloud_kept;
-          })
+            numbers = good.numbers;
+          }))
       by true halted =
           good_on outside bodies cloud_bodies o was now [] good
           (same ∙ sym (append-nil (story_of was))) gives.same_opening tt
@@ -187,15 +191,10 @@ module _ {K L : Type 0} {k : keeper.Ghosts K} {l : keeper.Ghosts L} (outside : O
           stays : HasHalted outside bodies cloud_bodies (moment_of o was) was
               → HasHalted outside bodies cloud_bodies (moment_of o was) now
           stays it = record {
-            wrote = it.wrote;
-            took = it.took;
-            may_write = it.may_write;
-            may_take = it.may_take;
-            effects = (λ i. (gives.same_cloud i).effects) ∙ it.effects;
-            may_come = subst (λ (c : CloudView L). MayCome outside (moment_of o was) it.wrote it.took c.is_stale c.pending)
-                (sym gives.same_cloud) it.may_come;
-            may_pend = subst (λ (b : Book (RigState K)). MayPend outside (moment_of o was) b.journal.is_broken b.journal.pending)
-                (sym gives.book) it.may_pend;
-            book_kept = kept it.book_kept;
-            cloud_kept = subst (λ (c : CloudView L). cloud.IsKept cloud_bodies c) (sym gives.same_cloud) it.cloud_kept;
+            cloud = subst (λ (c : CloudView L). FindsIn (cloud_bodies c.store) SayDone (IsLeft outside (moment_of o was)))
+                (sym gives.same_cloud) it.cloud;
+            book = subst (λ (b : Book (RigState K)). FindsIn (bodies_of bodies b.journal.store) Spell
+                (IsLeftOf outside (moment_of o was) b.journal.entries)) (sym gives.book) it.book;
+            present = subst (λ (b : Book (RigState K)). IsPresent (bodies_of bodies b.journal.store)) (sym gives.book)
+                it.present;
           }

@@ -25,9 +25,10 @@ use Rattle.bosh_world.specs.declared.site.Site.{Site}
 use Rattle.laws_sites.proofs.CallLemmas.{calls_on}
 use Rattle.laws_sites.proofs.StepLemmas.{good_on}
 use Rattle.laws_sites.specs.Calls.{AreCalls, AreRising}
-use Rattle.laws_sites.specs.Good.{GoesOn, HasHalted, IsGood, IsRecorded, MayCome, MayPend, moment_of}
+use Rattle.laws_sites.specs.Good.{GoesOn, HasHalted, IsGood, IsRecorded, moment_of, FindsIn, IsLeft, IsLeftOf, IsPresent, SayDone}
 use Rattle.laws_stands_fits.specs.Whole.{StandsWhole}
 use Rattle.bosh_history.specs.Fit.{has_numbers}
+use Rattle.bosh_journal.specs.Spelled.{Spell}
 
 -- ---- what stays of a book, of a cloud, and of a site
 
@@ -35,14 +36,12 @@ pub record KeepsBook {K : Type 0} (bodies : K → Option (List (List ℕ))) (was
   pub entries : now.journal.entries ≡ was.journal.entries
   pub records : now.records ≡ was.records
   pub standing : now.standing ≡ was.standing
-  pub is_broken : now.journal.is_broken ≡ was.journal.is_broken
-  pub pending : now.journal.pending ≡ was.journal.pending
+  pub tells : bodies_of bodies now.journal.store ≡ bodies_of bodies was.journal.store
   pub kept : journal.IsKept (bodies_of bodies) was.journal → journal.IsKept (bodies_of bodies) now.journal
 
 pub record KeepsCloud {L : Type 0} (bodies : L → Option (List (List ℕ))) (was now : CloudView L) : Type 0 where
   pub effects : now.effects ≡ was.effects
-  pub is_stale : now.is_stale ≡ was.is_stale
-  pub pending : now.pending ≡ was.pending
+  pub tells : bodies now.store ≡ bodies was.store
   pub kept : cloud.IsKept bodies was → cloud.IsKept bodies now
 
 -- .. but for moves that come
@@ -63,8 +62,7 @@ same_book {K} bodies was now same = subst (KeepsBook bodies was) (sym same) (rec
   entries = refl;
   records = refl;
   standing = refl;
-  is_broken = refl;
-  pending = refl;
+  tells = refl;
   kept = λ it. it;
 })
 
@@ -72,8 +70,7 @@ pub same_cloud : {L : Type 0} (bodies : L → Option (List (List ℕ))) (was now
     → KeepsCloud bodies was now
 same_cloud bodies was now same = subst (KeepsCloud bodies was) (sym same) (record {
   effects = refl;
-  is_stale = refl;
-  pending = refl;
+  tells = refl;
   kept = λ it. it;
 })
 
@@ -121,19 +118,11 @@ module _ {K L : Type 0} {k : keeper.Ghosts K} {l : keeper.Ghosts L} (outside : O
 
       stays : HasHalted outside bodies cloud_bodies m was → HasHalted outside bodies cloud_bodies (fold later m more) now
       stays it = subst (λ (next : Moment). HasHalted outside bodies cloud_bodies next now) (sym same) (record {
-        wrote = it.wrote;
-        took = it.took;
-        may_write = it.may_write;
-        may_take = it.may_take;
-        effects = keeps.cloud.effects ∙ it.effects;
-        may_come = subst (λ (is_stale : Bool). MayCome outside m it.wrote it.took is_stale now.cloud.pending)
-            (sym keeps.cloud.is_stale)
-            (subst (MayCome outside m it.wrote it.took was.cloud.is_stale) (sym keeps.cloud.pending) it.may_come);
-        may_pend = subst (λ (is_broken : Bool). MayPend outside m is_broken now.book.journal.pending)
-            (sym keeps.book.is_broken)
-            (subst (MayPend outside m was.book.journal.is_broken) (sym keeps.book.pending) it.may_pend);
-        book_kept = keeps.book.kept it.book_kept;
-        cloud_kept = keeps.cloud.kept it.cloud_kept;
+        cloud = subst (λ told. FindsIn told SayDone (IsLeft outside m)) (sym keeps.cloud.tells) it.cloud;
+        book = subst (λ (es : List Entry). FindsIn (bodies_of bodies now.book.journal.store) Spell (IsLeftOf outside m es))
+            (sym keeps.book.entries)
+            (subst (λ told. FindsIn told Spell (IsLeftOf outside m was.book.journal.entries)) (sym keeps.book.tells) it.book);
+        present = subst IsPresent (sym keeps.book.tells) it.present;
       })
 
   -- its parts are as they were
@@ -178,8 +167,7 @@ module _ {K L : Type 0} {k : keeper.Ghosts K} {l : keeper.Ghosts L} (outside : O
     entries = refl;
     records = refl;
     standing = refl;
-    is_broken = refl;
-    pending = refl;
+    tells = refl;
     kept = λ it. it;
   }
   book_rigged (Fail method owner count outcome) = same_book bodies was.book was.book refl
@@ -188,8 +176,7 @@ module _ {K L : Type 0} {k : keeper.Ghosts K} {l : keeper.Ghosts L} (outside : O
   cloud_doomed : (trap : Trap) → KeepsCloud cloud_bodies was.cloud (cloud_with was.cloud trap)
   cloud_doomed (Fail method owner count outcome) = record {
     effects = refl;
-    is_stale = refl;
-    pending = refl;
+    tells = refl;
     kept = λ it. it;
   }
   cloud_doomed (Store count how) = same_cloud cloud_bodies was.cloud was.cloud refl

@@ -5,6 +5,7 @@ pub mod ClaimLemmas
 pub mod ClaimStoppedLemmas
 pub mod CountLemmas
 pub mod EndLemmas
+pub mod ExplainLemmas
 pub mod FoundLemmas
 pub mod FoundOpenLemmas
 pub mod HaltLemmas

@@ -24,12 +24,13 @@ use Rattle.laws_sites.proofs.HaltLemmas.{may_come_none}
 use Rattle.laws_sites.proofs.MomentLemmas.{MayBeNext, later_from, run_from}
 use Rattle.laws_sites.proofs.NoteLemmas.{effects_noted, halted_noted}
 use Rattle.laws_sites.proofs.StepLemmas.{IsAfter, good_on, stopped}
-use Rattle.laws_sites.specs.Good.{GoesOn, IsGood, IsRecorded, MayPend, moment_of}
+use Rattle.laws_sites.specs.Good.{GoesOn, IsGood, IsRecorded, moment_of}
 use Rattle.laws_stands_noted.proofs.AgreesLemmas.{move_agrees}
 use Rattle.bosh_history.specs.Fit.{has_numbers}
 use Rattle.laws_sites.proofs.CountLemmas.{HasRoomFor, numbers_next}
 use Rattle.bosh_moves.proofs.TellLemmas.{after_notes}
 use Rattle.bosh_moves.specs.Story.{effects_told}
+use Rattle.laws_sites.proofs.ExplainLemmas.{explained, MayPend, MayCome}
 
 -- ---- what may be noted may be kept once it has halted
 
@@ -180,7 +181,7 @@ module _ {K L : Type 0} {k : keeper.Ghosts K} {l : keeper.Ghosts L} (outside : O
             ∙ ap (λ (es : List Entry). length es) (sym (effects_noted (moment_of o was) noted));
         recorded = λ read. told;
         runs = λ running. absurd (false≢true (sym running ∙ notes.halted));
-        halts = λ is. record {
+        halts = λ is. explained outside bodies cloud_bodies (stopped after) now (record {
           wrote = None;
           took = [];
           may_write = tt;
@@ -191,5 +192,6 @@ module _ {K L : Type 0} {k : keeper.Ghosts K} {l : keeper.Ghosts L} (outside : O
           may_pend = pends;
           book_kept = notes.book.kept goes.book_kept;
           cloud_kept = subst (λ (c : CloudView L). cloud.IsKept cloud_bodies c) (sym notes.same_cloud) goes.cloud_kept;
-        };
+          numbers = numbers;
+        });
       }))

@@ -91,9 +91,9 @@ module _ {K L : Type 0} {k : keeper.Ghosts K} {l : keeper.Ghosts L} (outside : O
     pends false has is_stale pending stale is = absurd is
     pends true has is_stale pending stale is =
         subst (λ (b : Bool). MayTakeMore outside m 0 [] b pending) (sym stale)
-        (subst (λ (p : Option (List ℕ)). MayTakeMore outside m 0 [] true p) (sym is) (
+        (subst (λ (p : Option (List ℕ)). MayTakeMore outside m 0 [] true p) (sym is.0) (
           entries.Effect (world.effect_of permit),
-          refl,
+          is.1,
           (
             permit.n ∷ [],
             (

@@ -23,7 +23,7 @@ use Rattle.bosh_cloud.specs.Notes.{IsPending}
 use Rattle.bosh_cloud.specs.Performs.{effects_if, fate_of, has_effect}
 use Rattle.bosh_cloud.specs.declared.fault.CloudFault.{CloudFault}
 use Rattle.bosh_cloud.specs.declared.fault.CloudFault.TheVariants as cloud
-use Rattle.bosh_entry.specs.Body.{spelling}
+use Rattle.bosh_entry.specs.Body.{entry_of}
 use Rattle.bosh_fates.specs.declared.fate.Fate.{Fate}
 use Rattle.bosh_fates.specs.declared.fate.Fate.TheVariants.{Late, Lose}
 use Rattle.bosh_history.specs.Moments.{Moment, OpenCall, dep_of, effect_of, taking}
@@ -82,7 +82,7 @@ calls_taken m n x less = rw (ne_eqb n x (apart n x less)) refl
 -- what else the store may hold: one more effect, by which calls may be taken
 abbrev pub MayTakeMore : Outside → Moment → ℕ → List ℕ → Bool → Option (List ℕ) → Type 0
 MayTakeMore outside m last took true (Some body) =
-    (entry : Entry) × (body ≡ spelling entry)
+    (entry : Entry) × (entry_of body ≡ Some entry)
     × ((others : List ℕ) × (MayTake outside m last others
     × ((fold taking m others).effects ≡ (fold taking m took).effects ++ entry ∷ [])))
 MayTakeMore outside m last took is_stale pending = Unit {0}
@@ -332,11 +332,12 @@ module _ {L : Type 0} (outside : Outside) (built : outside.built ≡ compiled_di
           pends (inl nothing) =
               absurd (subst (λ (es : List Entry). IsPending es now.pending) nothing failed.does.notes.3)
           pends (inr taken) =
+              let named : IsPending (effect_of m.known taken.call.begin ∷ []) now.pending =
+              subst (λ (es : List Entry). IsPending es now.pending) taken.news_are failed.does.notes.3 in
               subst (λ (b : Bool). MayTakeMore outside m last [] b now.pending) (sym failed.does.notes.1)
-              (subst (λ (o : Option (List ℕ)). MayTakeMore outside m last [] true o)
-              (sym (subst (λ (es : List Entry). IsPending es now.pending) taken.news_are failed.does.notes.3)) (
+              (subst (λ (o : Option (List ℕ)). MayTakeMore outside m last [] true o) (sym named.0) (
                 effect_of m.known taken.call.begin,
-                refl,
+                named.1,
                 (
                   it.n ∷ [],
                   (

@@ -43,11 +43,12 @@ use Rattle.laws_sites.proofs.NoteLemmas.{noted_good}
 use Rattle.laws_sites.proofs.NotedHaltLemmas.{noted_halt_good, pending_stopped}
 use Rattle.laws_sites.proofs.StepLemmas.{book_goes_on, stopped}
 use Rattle.laws_sites.specs.Calls.{AreCalls, AreRising}
-use Rattle.laws_sites.specs.Good.{GoesOn, IsGood, IsRecorded, MayPend, moment_of}
+use Rattle.laws_sites.specs.Good.{GoesOn, IsGood, IsRecorded, moment_of}
 use Rattle.laws_stands.specs.Stands.{IsWork}
 use Rattle.laws_stands.specs.Told.{is_going}
 use Rattle.laws_stands_fits.proofs.EntriesLemmas.{whole_with_room}
 use Rattle.laws_sites.proofs.CountLemmas.{HasRoomFor}
+use Rattle.laws_sites.proofs.ExplainLemmas.{MayPend}
 
 module _ {K L : Type 0} {k : keeper.Ghosts K} {l : keeper.Ghosts L} (outside : Outside) (bodies : K → Option (List (List ℕ)))
     (cloud_bodies : L → Option (List (List ℕ))) (o : Opening) where

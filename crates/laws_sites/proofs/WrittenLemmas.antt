@@ -44,13 +44,14 @@ use Rattle.laws_sites.proofs.HaltLemmas.{lacks_good, may_pend_none, same_good}
 use Rattle.laws_sites.proofs.StepLemmas.{book_goes_on, good_on, halted_good, stopped}
 use Rattle.laws_sites.proofs.WriteLemmas.{Writes, loss_is, write_is}
 use Rattle.laws_sites.specs.Calls.{AreCalls, AreRising}
-use Rattle.laws_sites.specs.Good.{GoesOn, IsGood, IsRecorded, MayCome, moment_of}
+use Rattle.laws_sites.specs.Good.{GoesOn, IsGood, IsRecorded, moment_of}
 use Rattle.laws_stands.proofs.MemberLemmas.{inst_is}
 use Rattle.laws_stands.specs.Agrees.{Agrees}
 use Rattle.laws_stands.specs.Told.{TellsWell, Told}
 use Rattle.laws_stands_fits.specs.Whole.{StandsWhole}
 use Rattle.laws_stands_noted.proofs.AgreesLemmas.{move_agrees}
 use Rattle.bosh_moves.specs.Story.{effects_after, effects_told}
+use Rattle.laws_sites.proofs.ExplainLemmas.{explained, MayPend, MayCome}
 
 -- what holds of an instance holds of one of a list that it is among
 any_among : (p : Inst → Bool) (inst : Inst) (xs : List Inst) → is_among same_inst inst xs ≡ true → p inst ≡ true
@@ -129,21 +130,22 @@ module _ {K L : Type 0} {k : keeper.Ghosts K} {l : keeper.Ghosts L} (outside : O
       halted_good outside bodies cloud_bodies o was now causes.CloudStore fit good failed.halts.ran failed.halts.halted
       failed.halts.comes.story failed.halts.same_opening (λ i. (failed.halts.same_book i).journal.entries)
       (λ i. (failed.halts.same_book i).records) (book_goes_on was failed.halts.ran).1 failed.halts.comes.told
-      (record {
+      (explained outside bodies cloud_bodies (stopped m) now (record {
         wrote = None;
         took = [];
         may_write = tt;
         may_take = tt;
         effects = failed.does.notes.2 ∙ goes.effects;
         may_come = subst (λ (b : Bool). MayCome outside (stopped m) None [] b now.cloud.pending) (sym failed.does.notes.1)
-            (subst (λ (p : Option (List ℕ)). MayCome outside (stopped m) None [] true p) (sym failed.does.notes.3)
-            (done, refl, (Some done, ([], (may, tt, effects)))));
+            (subst (λ (p : Option (List ℕ)). MayCome outside (stopped m) None [] true p) (sym failed.does.notes.3.0)
+            (done, failed.does.notes.3.1, (Some done, ([], (may, tt, effects)))));
         may_pend = may_pend_none outside (stopped m) now.book.journal.is_broken now.book.journal.pending
             ((λ i. (failed.halts.same_book i).journal.is_broken) ∙ (book_goes_on was failed.halts.ran).0);
         book_kept = subst (λ (b : Book (RigState K)). journal.IsKept (bodies_of bodies) b.journal)
             (sym failed.halts.same_book) goes.book_kept;
         cloud_kept = failed.halts.kept goes.cloud_kept;
-      })
+        numbers = good.numbers;
+      }))
     where
       goes : GoesOn bodies cloud_bodies m was
       goes = good.runs failed.halts.ran

@@ -4,16 +4,15 @@ use Rattle.std.specs.Prelude.{◌≡◌, ◌≢◌, ℕ, Bool, true, false, List
 use Rattle.bosh_base.specs.declared.entry.Entry.{Entry}
 use Rattle.bosh_book.specs.declared.standing.Standing.TheVariants.{Unread}
 use Rattle.bosh_cloud.specs.Loading as cloud
-use Rattle.bosh_entry.specs.Body.{spelling}
+use Rattle.bosh_cloud.specs.Loading.{effects_in}
 use Rattle.bosh_history.specs.Fit.{has_numbers}
-use Rattle.bosh_history.specs.Learn.{learn}
-use Rattle.bosh_history.specs.Moments.{Moment, Opening, durable, moment, taking, with_written}
+use Rattle.bosh_history.specs.Moments.{Moment, Opening, durable, keeping, moment, taking, with_written}
 use Rattle.bosh_history.specs.Notes.{Outside}
-use Rattle.bosh_history.specs.Openings.{HasSource}
-use Rattle.bosh_history.specs.Permitted.{IsRun, MayKeep, MayTake, MayWrite}
+use Rattle.bosh_history.specs.Permitted.{HasSourceWhere, IsRun, MayKeep, MayTake, MayWrite}
 use Rattle.bosh_history.specs.Recovered.{is_recovering}
-use Rattle.bosh_journal.specs.JournalView.{Pending}
 use Rattle.bosh_journal.specs.Kept as journal
+use Rattle.bosh_journal.specs.Spelled.{Spell, format_of}
+use Rattle.bosh_journal.specs.declared.format.Format.TheVariants.{Present}
 use Rattle.bosh_moves.specs.Story.{effects_told}
 use Rattle.bosh_ports.specs.declared.keeper.Keeper as keeper
 use Rattle.bosh_world.specs.Steps.{bodies_of}
@@ -40,35 +39,44 @@ pub record GoesOn {K L : Type 0} {k : keeper.Ghosts K} {l : keeper.Ghosts L}
   pub book_kept : journal.IsKept (bodies_of bodies) site.book.journal
   pub cloud_kept : cloud.IsKept cloud_bodies site.cloud
 
--- what the director's store may have besides was permitted at the halt, and calls and tasks have numbers after it
-abbrev pub MayPend : Outside → Moment → Bool → Option Pending → Type 0
-MayPend outside m true (Some it) =
-    (it.is_alone ≡ false) × MayKeep outside m (Some it.entry) × HasSource it.entry
-    × (has_numbers (learn m.known it.entry) ≡ true)
-MayPend outside m is_broken pending = Unit {0}
+-- what a permitted stop leaves in the cloud: what the moves tell, a write or a loss, and then effects of open calls
+abbrev pub IsLeft : Outside → Moment → List Entry → Type 0
+IsLeft outside m effects =
+    (wrote : Option Entry) × (took : List ℕ) × MayWrite m wrote × MayTake outside (with_written m wrote) 0 took
+    × (effects ≡ (fold taking (with_written m wrote) took).effects)
 
--- .. and what the cloud's store may have besides, after what was done in the stop
-abbrev pub MayCome : Outside → Moment → Option Entry → List ℕ → Bool → Option (List ℕ) → Type 0
-MayCome outside m wrote took true (Some body) =
-    (entry : Entry) × (body ≡ spelling entry)
-    × ((more : Option Entry) × ((others : List ℕ) × (MayWrite m more × MayTake outside (with_written m more) 0 others
-    × ((fold taking (with_written m more) others).effects
-    ≡ (fold taking (with_written m wrote) took).effects ++ entry ∷ []))))
-MayCome outside m wrote took is_stale pending = Unit {0}
+-- .. and what it leaves of the entries: those that were durable, and then one that was permitted at the halt, or none, after
+-- which calls and tasks have numbers
+abbrev pub listed : Option Entry → List Entry
+listed (Some entry) = entry ∷ []
+listed None = []
 
--- it has halted: what both stores hold is what a permitted stop leaves
+abbrev pub IsLeftOf : Outside → Moment → List Entry → List Entry → Type 0
+IsLeftOf outside m entries found =
+    (kept : Option Entry) × MayKeep outside m kept × HasSourceWhere kept
+    × (has_numbers (keeping m kept).known ≡ true) × (found ≡ entries ++ listed kept)
+
+-- a store tells its bodies, and whatever they say is so
+abbrev pub FindsIn : Option (List (List ℕ)) → (List (List ℕ) → List Entry → Type 0) → (List Entry → Type 0) → Type 0
+FindsIn (Some bodies) Says Is = (found : List Entry) → Says bodies found → Is found
+FindsIn None Says Is = ⊥
+
+-- what the bodies of a cloud's store say that was done, and what those of a director's spell
+abbrev pub SayDone : List (List ℕ) → List Entry → Type 0
+SayDone bodies effects = effects_in bodies ≡ Ok effects
+
+-- bodies are in the present format
+abbrev pub IsPresent : Option (List (List ℕ)) → Type 0
+IsPresent (Some bodies) = format_of bodies ≡ Present
+IsPresent None = ⊥
+
+-- it has halted: what is found in both stores is what a permitted stop leaves
 pub record HasHalted {K L : Type 0} {k : keeper.Ghosts K} {l : keeper.Ghosts L}
     (outside : Outside) (bodies : K → Option (List (List ℕ))) (cloud_bodies : L → Option (List (List ℕ))) (m : Moment)
     (site : Site K L k l) : Type 0 where
-  pub wrote : Option Entry
-  pub took : List ℕ
-  pub may_write : MayWrite m wrote
-  pub may_take : MayTake outside (with_written m wrote) 0 took
-  pub effects : site.cloud.effects ≡ (fold taking (with_written m wrote) took).effects
-  pub may_come : MayCome outside m wrote took site.cloud.is_stale site.cloud.pending
-  pub may_pend : MayPend outside m site.book.journal.is_broken site.book.journal.pending
-  pub book_kept : journal.IsKept (bodies_of bodies) site.book.journal
-  pub cloud_kept : cloud.IsKept cloud_bodies site.cloud
+  pub cloud : FindsIn (cloud_bodies site.cloud.store) SayDone (IsLeft outside m)
+  pub book : FindsIn (bodies_of bodies site.book.journal.store) Spell (IsLeftOf outside m site.book.journal.entries)
+  pub present : IsPresent (bodies_of bodies site.book.journal.store)
 
 -- what is recorded stands for what the entries tell and fits it, and that agrees with the moment
 pub record IsRecorded {K L : Type 0} {k : keeper.Ghosts K} {l : keeper.Ghosts L} (m : Moment) (site : Site K L k l) : Type 0
