@@ -17,7 +17,7 @@ use Rattle.bosh_asks.specs.declared.fault.BookFault.TheVariants as faults
 use Rattle.bosh_asks.specs.declared.fault.BookFault.TheVariants.{Memory}
 use Rattle.bosh_book.specs.Faults.{FailsAs, IsNoteFault, IsStartFault}
 use Rattle.bosh_book.specs.Appends.{LeavesPending}
-use Rattle.bosh_book.specs.Starts.{Finishes, Interrupts, InterruptsWhere, IsNextPending, Starts, StartsFrom, Takes}
+use Rattle.bosh_book.specs.Starts.{ComesOut, Finishes, Interrupts, InterruptsWhere, IsNextPending, Starts, StartsFrom, Takes}
 use Rattle.bosh_book.specs.Starts.{interruption, open_tasks, standing_after}
 use Rattle.bosh_journal.specs.JournalView.{JournalView}
 use Rattle.bosh_journal.specs.Kept.{IsKept}
@@ -157,16 +157,17 @@ none_ended {K} bodies faults tasks book fault is = record {
 pub started : {K T : Type 0} (bodies : K → Option (List (List ℕ))) (faults : K → ℕ) (compacts : Bool)
     (was mid now : Book K) (taken : Result (Unit {0}) BookFault) (result : Result T BookFault)
     → Takes bodies faults compacts was taken mid → Finishes bodies faults mid taken result now
-    → OnOk result (is_ok taken ≡ true) → Starts bodies faults compacts was result now
-started bodies faults compacts was mid now taken result takes finishes all =
-    record { taken = taken; mid = mid; takes = takes; finishes = finishes; all_taken = all }
+    → ComesOut faults taken mid result now → OnOk result (is_ok taken ≡ true) → Starts bodies faults compacts was result now
+started bodies faults compacts was mid now taken result takes finishes out all =
+    record { taken = taken; mid = mid; takes = takes; finishes = finishes; comes_out = out; all_taken = all }
 
 -- .. and then the book goes on
 pub started_running : {K T : Type 0} (bodies : K → Option (List (List ℕ))) (faults : K → ℕ) (compacts : Bool)
     (was mid last : Book K) (taken : Result (Unit {0}) BookFault) (result : Result T BookFault)
     → Takes bodies faults compacts was taken mid → Finishes bodies faults mid taken result last
-    → OnOk result (is_ok taken ≡ true) → Starts bodies faults compacts was result (record last { standing = Running })
-started_running bodies faults compacts was mid last taken result takes it all = record {
+    → ComesOut faults taken mid result last → OnOk result (is_ok taken ≡ true)
+    → Starts bodies faults compacts was result (record last { standing = Running })
+started_running {T = T} bodies faults compacts was mid last taken result takes it out all = record {
   taken = taken;
   mid = mid;
   takes = takes;
@@ -180,8 +181,14 @@ started_running bodies faults compacts was mid last taken result takes it all = 
     kept = it.kept;
     count = it.count;
   };
+  comes_out = out_running taken result out;
   all_taken = all;
 }
+  where
+    out_running : (taken : Result (Unit {0}) BookFault) (result : Result T BookFault) → ComesOut faults taken mid result last
+        → ComesOut faults taken mid result (record last { standing = Running })
+    out_running (Ok done) result out = out
+    out_running (Err fault) result out = out
 
 -- interruptions bring no upload, and no task and no call
 none_come : (tasks : List ℕ) (before : Arrivals) → arrivals_by (map interruption tasks) before ≡ before

@@ -12,7 +12,7 @@ use Rattle.bosh_base.specs.declared.snapshot.Snapshot.{Snapshot}
 use Rattle.bosh_base.specs.declared.task.TaskRow.{TaskRow}
 use Rattle.bosh_book.specs.Adds.{Adds, IsRecorded}
 use Rattle.bosh_book.specs.declared.book.Book.{Book}
-use Rattle.bosh_book.specs.Faults.{FailsAs, IsNoteFault, IsStartFault, of_journal}
+use Rattle.bosh_book.specs.Faults.{FailsAs, IsNoteFault, IsQuiet, IsStartFault, of_journal}
 use Rattle.bosh_book.specs.Folds.{IsRead}
 use Rattle.bosh_book.specs.declared.standing.Standing.{Standing}
 use Rattle.bosh_book.specs.declared.standing.Standing.TheVariants.{Running, Unread}
@@ -58,13 +58,15 @@ abbrev pub ReadsAll : {T : Type 0} → Result T BookFault → List Entry → Rec
 ReadsAll (Ok value) read records = IsRead read records
 ReadsAll (Err fault) read records = Unit {0}
 
--- The entries that were read are taken in, and many give way to a snapshot. A refusal leaves them.
+-- The entries that were read are taken in, and many give way to a snapshot. A refusal leaves them, and is no fault of the
+-- store where they do not give way.
 pub record Takes {K T : Type 0}
     (bodies : K → Option (List (List ℕ))) (faults : K → ℕ) (compacts : Bool) (was : Book K) (result : Result T BookFault)
     (now : Book K) : Type 0 where
   pub reads : ReadsAll result was.journal.entries now.records
   pub taken :
       IsShortenedWhere (gives_way compacts was.journal.entries) result now.records was.journal.entries now.journal.entries
+  pub quiet : gives_way compacts was.journal.entries ≡ false → IfErr result IsQuiet
   pub kept : IsKept bodies was.journal → IsKept bodies now.journal
   pub count : NeverFalls (faults was.journal.store) (faults now.journal.store)
   pub standing : now.standing ≡ was.standing
@@ -133,7 +135,7 @@ pub record Finishes {K S T : Type 0}
   pub count : NeverFalls (faults was.journal.store) (faults now.journal.store)
 
 -- how that came out, where entries were taken in; else the refusal is handed on, and the journal stays
-abbrev pub ComesOut : {K T : Type 0} → (K → ℕ) → Result T BookFault → Book K → Result T BookFault → Book K → Type 0
+abbrev pub ComesOut : {K S T : Type 0} → (K → ℕ) → Result S BookFault → Book K → Result T BookFault → Book K → Type 0
 ComesOut faults (Ok value) was result now = FailsAs faults result was.journal now.journal × IfErr result IsNoteFault
 ComesOut faults (Err fault) was result now = (result ≡ Err fault) × (now.journal ≡ was.journal)
 
@@ -146,6 +148,7 @@ pub record Starts {K T : Type 0}
   pub mid : Book K
   pub takes : Takes bodies faults compacts was taken mid
   pub finishes : Finishes bodies faults mid taken result now
+  pub comes_out : ComesOut faults taken mid result now
   pub all_taken : OnOk result (is_ok taken ≡ true)
 
 abbrev pub standing_after : {T : Type 0} → Result T BookFault → Standing

@@ -3,7 +3,7 @@ ghost use Rattle.std.specs.Option.{option_copied};
 ghost use Rattle.bosh_asks.specs.declared.fault.BookFault.TheVariants as faults;
 ghost use Rattle.bosh_book.specs.Adds.{Adds, IsRecorded};
 ghost use Rattle.bosh_book.specs.Appends.{LeavesPending, unless_refused};
-ghost use Rattle.bosh_book.specs.Faults.{FailsAs, IsNoteFault, IsStartFault};
+ghost use Rattle.bosh_book.specs.Faults.{FailsAs, IsNoteFault, IsQuiet, IsStartFault};
 ghost use Rattle.bosh_book.specs.Starts.{Compacts, ComesOut, Finishes, IsShortened, IsShortenedWhere, Interrupts, InterruptsWhere};
 ghost use Rattle.bosh_book.specs.Starts.{IsNotLoaded, IsNotReloaded, Starts, StartsFrom, Takes};
 ghost use Rattle.bosh_book.specs.Starts.{gives_way, interruption, is_open, open_tasks, shortened, standing_after};
@@ -133,6 +133,7 @@ impl<K: Keeper> Book<K> {
         ensures shortens { IsShortenedWhere (gives_way compacts self.old.journal.entries) result self.old.records
             self.old.journal.entries self.new.journal.entries }
         ensures compacts { Compacts K.bodies K.faults self.old self.new }
+        ensures quiet { gives_way compacts self.old.journal.entries ≡ false → IfErr result IsQuiet }
         ensures failed { FailsAs K.faults result self.old.journal self.new.journal }
         ensures fault { IfErr result IsNoteFault }
     {

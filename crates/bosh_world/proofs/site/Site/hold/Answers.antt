@@ -1,4 +1,4 @@
-use Rattle.std.proofs.Common.{◌∙◌, ap, refl}
+use Rattle.std.proofs.Common.{◌∙◌, ap, length, refl}
 use Rattle.bosh_base.specs.Call.{method_of}
 use Rattle.bosh_base.specs.declared.moves.Move.TheVariants as moves
 use Rattle.bosh_calls.specs.Calls.{with_performed}
@@ -17,7 +17,7 @@ invariant_of-self g c = record {
 pub returns-clause-holds : goal.returns-clause-holds
 returns-clause-holds g c = record {
   comes = push_comes c.args.self.now _ (moves.Did c.args.did) c.push_with-place.new.self.free _ c.requires.told
-      (λ j. c.args.self.now.book) c.push_with-place.ensures.pushed TELLS;
+      (λ j. c.args.self.now.book) c.push_with-place.ensures.pushed (c.len-effects.ensures ∙ ap length c.effects.ensures);
   moves = λ j. (c.push_with-place.ensures.pushed j).moves;
   calls = c.perform.ensures
       ∙ ap (λ m. with_performed m c.push_with-place.result c.args.self.now.calls.unsettled) c.n.ensures
