@@ -54,13 +54,13 @@ story_anew was mid now entries effects entries_now effects_now read halt first a
     (tail entries_now effects_now read halt (length entries) (effects_told was effects))
 
 -- a restart tells all effects
-after_stop : (off : Bool) (stop : stops.Stop) (entries : List Entry) (halt : Option Cause) (there told : ℕ) →
+pub after_stop : (off : Bool) (stop : stops.Stop) (entries : List Entry) (halt : Option Cause) (there told : ℕ) →
     effects_after (first_halt off ++ (moves.Stop stop ∷ map moves.Note entries ++ halts halt)) there told ≡ there
 after_stop true stop entries halt there told = after_notes entries halt there there
 after_stop false stop entries halt there told = after_notes entries halt there there
 
 -- .. and a halt before it none
-after_halt : (off : Bool) (there told : ℕ) → effects_after (first_halt off) there told ≡ told
+pub after_halt : (off : Bool) (there told : ℕ) → effects_after (first_halt off) there told ≡ told
 after_halt true there told = refl
 after_halt false there told = refl
 

@@ -60,24 +60,20 @@ same_found a b is = cc
 module _ (outside : Outside) (m : Moment) (wrote : Option Entry) (took : List ℕ) (may_write : MayWrite m wrote)
     (may_take : MayTake outside (with_written m wrote) 0 took) where
   left : (found : List Entry) → found ≡ (fold taking (with_written m wrote) took).effects → IsLeft outside m found
-  left found is = (wrote, (took, (may_write, may_take, is)))
+  left found is = (wrote, took, may_write, may_take, is)
 
   left_more : (body : List ℕ) (entry : Entry) (found : List Entry) → entry_of body ≡ Some entry
       → found ≡ (fold taking (with_written m wrote) took).effects ++ entry ∷ []
       → MayCome outside m wrote took true (Some body) → IsLeft outside m found
   left_more body entry found says is (it, spelled, (more, (others, (may, may_others, effects)))) = (
     more,
-    (
-      others,
-      (
-        may,
-        may_others,
-        is
-            ∙ ap (λ (e : Entry). (fold taking (with_written m wrote) took).effects ++ e ∷ [])
-            (some_entry entry it (sym says ∙ spelled))
-            ∙ sym effects,
-      ),
-    ),
+    others,
+    may,
+    may_others,
+    is
+        ∙ ap (λ (e : Entry). (fold taking (with_written m wrote) took).effects ++ e ∷ [])
+        (some_entry entry it (sym says ∙ spelled))
+        ∙ sym effects,
   )
 
   in_cloud : (told : Option (List (List ℕ))) (is_stale : Bool) (pending : Option (List ℕ)) (effects : List Entry)
@@ -113,7 +109,7 @@ same_entries list xs ys one other = same_spelled xs ys (sym one ∙ other)
 
 module _ (outside : Outside) (m : Moment) (entries : List Entry) (numbers : has_numbers m.known ≡ true) where
   nothing_more : (found : List Entry) → found ≡ entries → IsLeftOf outside m entries found
-  nothing_more found is = (None, (tt, tt, numbers, is ∙ sym (append-nil entries)))
+  nothing_more found is = (None, tt, tt, numbers, is ∙ sym (append-nil entries))
 
   in_book : (told : Option (List (List ℕ))) (is_broken : Bool) (pending : Option Pending)
       → MayPend outside m is_broken pending → journal.TellAll told is_broken pending entries
@@ -127,13 +123,11 @@ module _ (outside : Outside) (m : Moment) (entries : List Entry) (numbers : has_
   in_book (Some list) true (Some it) pend (inr (present, spelled)) = (
     λ found says. (
       Some it.entry,
-      (
-        pend.1,
-        pend.2,
-        pend.3,
-        same_entries list found (journal.with_pending it entries) says spelled
-            ∙ (λ i. if pend.0 i then it.entry ∷ [] else entries ++ it.entry ∷ []),
-      ),
+      pend.1,
+      pend.2,
+      pend.3,
+      same_entries list found (journal.with_pending it entries) says spelled
+          ∙ (λ i. if pend.0 i then it.entry ∷ [] else entries ++ it.entry ∷ []),
     ),
     present,
   )

@@ -126,7 +126,7 @@ pending_stopped outside m e is_broken pending may room numbers is =
 
 -- ---- moves that note, and then a halt
 
-whole_noted : (outside : Outside) (m : Moment) (noted : List Entry) → Whole m
+pub whole_noted : (outside : Outside) (m : Moment) (noted : List Entry) → Whole m
     → IsRunFrom outside m (map moves.Note noted) → Whole (fold later m (map moves.Note noted))
 whole_noted outside m [] whole may = whole
 whole_noted outside m (e ∷ noted) whole may =
