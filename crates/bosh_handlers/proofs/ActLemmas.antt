@@ -12,7 +12,7 @@ use Rattle.bosh_base.specs.declared.moves.Move.TheVariants as moves
 use Rattle.bosh_handlers.specs.Acts.{Acts, past_of}
 use Rattle.bosh_moves.proofs.SilentLemmas.{halts_silent, notes_silent}
 use Rattle.bosh_moves.specs.Replies.{replies_in}
-use Rattle.bosh_moves.specs.Story.{halts, kept_count, story}
+use Rattle.bosh_moves.specs.Story.{effects_told, halts, kept_count, story}
 use Rattle.bosh_ports.specs.declared.keeper.Keeper as keeper
 use Rattle.bosh_transcript.proofs.PastLemmas.{proceeds_none, proceeds_then, silent_then}
 use Rattle.bosh_transcript.specs.Past.{AreSilent, Continues}
@@ -69,6 +69,7 @@ pub acts_same : {K L : Type 0} {k : keeper.Ghosts K} {l : keeper.Ghosts L} (was 
 acts_same was now same = acts_comes was now [] (record {
   grows = ([], ap (λ h. h.moves) same.same_history ∙ sym (append-nil was.history.moves));
   story = same_story was now same ∙ sym (append-nil (story_of was));
+  told = λ i. effects_told (same.same_history i) (same.same_cloud i).effects;
 }) refl same.same_opening
 
 -- ---- entries are noted
@@ -164,6 +165,12 @@ armed_story was (traps.Fail method owner k outcome) = refl
 armed_story was (traps.Store k how) = refl
 armed_story was (traps.Stop before method owner k all) = refl
 
+armed_told : {K L : Type 0} {k : keeper.Ghosts K} {l : keeper.Ghosts L} (was : Site K L k l) (trap : Trap) →
+    effects_told was.history (cloud_with was.cloud trap).effects ≡ effects_told was.history was.cloud.effects
+armed_told was (traps.Fail method owner k outcome) = refl
+armed_told was (traps.Store k how) = refl
+armed_told was (traps.Stop before method owner k all) = refl
+
 -- a trap is set
 pub acts_armed : {K L : Type 0} {k : keeper.Ghosts K} {l : keeper.Ghosts L} (was now : Site K L k l) (trap : Trap) →
     Arms was trap now → Acts was now
@@ -171,6 +178,7 @@ acts_armed was now trap arms = acts_comes was now [] (record {
   grows = ([], ap (λ h. h.moves) arms.same_history ∙ sym (append-nil was.history.moves));
   story = (λ i. story (arms.same_history i) (arms.book i).journal.entries (arms.cloud i).effects) ∙ armed_story was trap
       ∙ sym (append-nil (story_of was));
+  told = (λ i. effects_told (arms.same_history i) (arms.cloud i).effects) ∙ armed_told was trap;
 }) refl arms.same_opening
 
 -- the director starts anew
