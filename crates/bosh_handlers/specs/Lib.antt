@@ -1,3 +1,4 @@
 pub mod Acts
+pub mod Keeps
 pub mod SiteFaults
 pub mod Tasks

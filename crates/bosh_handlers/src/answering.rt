@@ -1,5 +1,6 @@
 //! A command is carried out and answered.
 ghost use Rattle.bosh_handlers.specs.Acts.{Acts};
+ghost use Rattle.bosh_handlers.specs.Keeps.{Keeps};
 
 use crate::config::update_config;
 use crate::listings::list;
@@ -24,6 +25,7 @@ pub fn answer<F: Shelf, K: Keeper, L: Keeper>(
     site: &mut Site<K, L>,
 ) -> Result<Reply, AnswerFault>
     ensures acts { Acts site.old site.new }
+    ensures kept { Keeps K.bodies L.bodies site.old site.new }
 {
     match opens_task(&request) {
         true => run_task(alloc, request, files, shelf, site),
@@ -46,6 +48,7 @@ fn answer_at_once<F: Shelf, K: Keeper, L: Keeper>(
     site: &mut Site<K, L>,
 ) -> Result<Reply, AnswerFault>
     ensures acts { Acts site.old site.new }
+    ensures kept { Keeps K.bodies L.bodies site.old site.new }
 {
     let reply = take_up(alloc, &request, files, shelf, site);
     drop(request);
@@ -61,6 +64,7 @@ fn take_up<F: Shelf, K: Keeper, L: Keeper>(
     site: &mut Site<K, L>,
 ) -> Result<Reply, AnswerFault>
     ensures acts { Acts site.old site.new }
+    ensures kept { Keeps K.bodies L.bodies site.old site.new }
 {
     match &request.asked {
         Ok(command) => obey(alloc, command, &request.block, files, shelf, site),
@@ -77,6 +81,7 @@ fn obey<F: Shelf, K: Keeper, L: Keeper>(
     site: &mut Site<K, L>,
 ) -> Result<Reply, AnswerFault>
     ensures acts { Acts site.old site.new }
+    ensures kept { Keeps K.bodies L.bodies site.old site.new }
 {
     match command {
         Command::File { path } => keep_file(alloc, path, block, files),
@@ -104,6 +109,7 @@ fn carry_out<F: Shelf, K: Keeper, L: Keeper>(
     site: &mut Site<K, L>,
 ) -> Result<Reply, AnswerFault>
     ensures acts { Acts site.old site.new }
+    ensures kept { Keeps K.bodies L.bodies site.old site.new }
 {
     match command {
         Command::UploadRelease { folder, version } => upload_folder(
@@ -129,6 +135,7 @@ fn run_task<F: Shelf, K: Keeper, L: Keeper>(
     site: &mut Site<K, L>,
 ) -> Result<Reply, AnswerFault>
     ensures acts { Acts site.old site.new }
+    ensures kept { Keeps K.bodies L.bodies site.old site.new }
 {
     match open_request(alloc, request, files, shelf, site) {
         Ok(opened) => finish(alloc, opened, site),
@@ -143,6 +150,7 @@ fn attend<K: Keeper, L: Keeper>(
     site: &mut Site<K, L>,
 ) -> Result<Reply, AnswerFault>
     ensures acts { Acts site.old site.new }
+    ensures kept { Keeps K.bodies L.bodies site.old site.new }
 {
     match command {
         Command::UploadStemcell(stemcell) => upload_stemcell(alloc, stemcell, site),

@@ -1,5 +1,6 @@
 //! The cloud config is set.
 ghost use Rattle.bosh_handlers.specs.Acts.{Acts};
+ghost use Rattle.bosh_handlers.specs.Keeps.{Keeps};
 
 use crate::ends::refused_by_site;
 use bosh_answers::{AnswerFault, Files, read_file, refused};
@@ -19,6 +20,7 @@ pub(crate) fn update_config<F: Shelf, K: Keeper, L: Keeper>(
     site: &mut Site<K, L>,
 ) -> Result<Reply, AnswerFault>
     ensures acts { Acts site.old site.new }
+    ensures kept { Keeps K.bodies L.bodies site.old site.new }
 {
     match read_file(alloc, files, shelf, path) {
         Ok(text) => set_config(alloc, text.as_slice(), site),
@@ -33,6 +35,7 @@ pub fn set_config<K: Keeper, L: Keeper>(
     site: &mut Site<K, L>,
 ) -> Result<Reply, AnswerFault>
     ensures acts { Acts site.old site.new }
+    ensures kept { Keeps K.bodies L.bodies site.old site.new }
 {
     match read(alloc, text) {
         Ok(node) => set_checked(alloc, text, &node, site),
@@ -47,6 +50,7 @@ fn set_checked<K: Keeper, L: Keeper>(
     site: &mut Site<K, L>,
 ) -> Result<Reply, AnswerFault>
     ensures acts { Acts site.old site.new }
+    ensures kept { Keeps K.bodies L.bodies site.old site.new }
 {
     match check(alloc, node) {
         Ok(config) => {
@@ -63,6 +67,7 @@ fn put<K: Keeper, L: Keeper>(
     site: &mut Site<K, L>,
 ) -> Result<Reply, AnswerFault>
     ensures acts { Acts site.old site.new }
+    ensures kept { Keeps K.bodies L.bodies site.old site.new }
 {
     match site.set_config(text) {
         Ok(()) => Ok(Reply::ConfigUpdated),

@@ -1,5 +1,6 @@
 //! Jobs write to their disks, and what machines and disks have is shown.
 ghost use Rattle.bosh_handlers.specs.Acts.{Acts};
+ghost use Rattle.bosh_handlers.specs.Keeps.{Keeps};
 
 use crate::ends::{refused_by_site, stopped};
 use bosh_answers::{AnswerFault, show_file};
@@ -17,6 +18,7 @@ pub(crate) fn write<K: Keeper, L: Keeper>(
     site: &mut Site<K, L>,
 ) -> Result<Reply, AnswerFault>
     ensures acts { Acts site.old site.new }
+    ensures kept { Keeps K.bodies L.bodies site.old site.new }
 {
     match site.write_disk(inst, text) {
         Ok(()) => Ok(Reply::Written),
@@ -32,6 +34,7 @@ pub(crate) fn lose<K: Keeper, L: Keeper>(
     site: &mut Site<K, L>,
 ) -> Result<Reply, AnswerFault>
     ensures acts { Acts site.old site.new }
+    ensures kept { Keeps K.bodies L.bodies site.old site.new }
 {
     let whole = match lost {
         Lost::Vm => true,

@@ -1,5 +1,5 @@
 //! What commands do on a site: each is carried out and given its reply. None notes a reply in the history.
-#![tactic(auto, using(crate::proofs::ActLemmas::acts_none))]
+#![tactic(auto, using(crate::proofs::ActLemmas::acts_none, crate::proofs::KeepLemmas::keeps_none))]
 
 mod answering;
 mod config;

@@ -1,6 +1,8 @@
 //! Tasks are opened.
 ghost use Rattle.std.specs.Prelude.{◌≡◌};
 ghost use Rattle.bosh_handlers.specs.Acts.{Acts};
+ghost use Rattle.bosh_handlers.specs.Keeps.{Keeps};
+ghost use Rattle.laws_views.specs.Planned.{IsChecked};
 
 use crate::ends::refused_by_site;
 use bosh_answers::{AnswerFault, Files, How, ask_of, deploy_of, read_file, refused};
@@ -22,6 +24,7 @@ pub fn open_request<F: Shelf, K: Keeper, L: Keeper>(
     site: &mut Site<K, L>,
 ) -> Result<Opened, AnswerFault>
     ensures acts { Acts site.old site.new }
+    ensures kept { Keeps K.bodies L.bodies site.old site.new }
 {
     match asked_of(request) {
         Ok(command) => open(alloc, command, files, shelf, site),
@@ -46,6 +49,7 @@ fn open<F: Shelf, K: Keeper, L: Keeper>(
     site: &mut Site<K, L>,
 ) -> Result<Opened, AnswerFault>
     ensures acts { Acts site.old site.new }
+    ensures kept { Keeps K.bodies L.bodies site.old site.new }
 {
     match is_deploy(&command) {
         true => open_deploy(alloc, command, files, shelf, site),
@@ -65,6 +69,7 @@ fn open_deploy<F: Shelf, K: Keeper, L: Keeper>(
     site: &mut Site<K, L>,
 ) -> Result<Opened, AnswerFault>
     ensures acts { Acts site.old site.new }
+    ensures kept { Keeps K.bodies L.bodies site.old site.new }
 {
     let opened = open_manifest(alloc, &command, files, shelf, site);
     drop(command);
@@ -79,6 +84,7 @@ fn open_manifest<F: Shelf, K: Keeper, L: Keeper>(
     site: &mut Site<K, L>,
 ) -> Result<Opened, AnswerFault>
     ensures acts { Acts site.old site.new }
+    ensures kept { Keeps K.bodies L.bodies site.old site.new }
 {
     match command {
         Command::Deploy(deploy) => open_file(alloc, deploy, files, shelf, site),
@@ -92,6 +98,7 @@ fn open_asked<K: Keeper, L: Keeper>(
     site: &mut Site<K, L>,
 ) -> Result<Opened, AnswerFault>
     ensures acts { Acts site.old site.new }
+    ensures kept { Keeps K.bodies L.bodies site.old site.new }
 {
     match ask {
         Some(ask) => begin(alloc, ask, site),
@@ -112,12 +119,26 @@ fn begin<K: Keeper, L: Keeper>(
     site: &mut Site<K, L>,
 ) -> Result<Opened, AnswerFault>
     ensures acts { Acts site.old site.new }
+    ensures kept { Keeps K.bodies L.bodies site.old site.new }
 {
+    see_checked(&ask);
     let begun = site.begin_task(&ask);
     drop(ask);
     match begun {
         Ok(task) => Ok(Opened::Task(task)),
         Err(fault) => opened_none(refused_by_site(alloc, fault)),
+    }
+}
+
+// The manifest of a deploy is a checked one, since there are no others.
+fn see_checked(ask: &Ask)
+    ensures { IsChecked ask.now }
+{
+    match ask {
+        Ask::Deploy(deploy) => {
+            let _checked = deploy.manifest.contents();
+        }
+        _ => {}
     }
 }
 
@@ -129,6 +150,7 @@ fn open_file<F: Shelf, K: Keeper, L: Keeper>(
     site: &mut Site<K, L>,
 ) -> Result<Opened, AnswerFault>
     ensures acts { Acts site.old site.new }
+    ensures kept { Keeps K.bodies L.bodies site.old site.new }
 {
     let how = How {
         recreate: deploy.recreate,
@@ -157,6 +179,7 @@ pub fn open_text<K: Keeper, L: Keeper>(
     site: &mut Site<K, L>,
 ) -> Result<Opened, AnswerFault>
     ensures acts { Acts site.old site.new }
+    ensures kept { Keeps K.bodies L.bodies site.old site.new }
 {
     match deploy_of(alloc, dep, vars, how, text) {
         Ok(ask) => begin(alloc, ask, site),

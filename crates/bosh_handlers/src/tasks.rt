@@ -5,6 +5,7 @@ ghost use Rattle.bosh_answers.specs.Ends.{end_of, told_end};
 ghost use Rattle.bosh_director.specs.Left.{told_left};
 ghost use Rattle.bosh_handlers.specs.Tasks.{cause_of};
 ghost use Rattle.bosh_handlers.specs.Acts.{Acts};
+ghost use Rattle.bosh_handlers.specs.Keeps.{Keeps};
 
 use crate::ends::{halted_by, stopped};
 use bosh_answers::{AnswerFault, end_of, refused, told_end};
@@ -23,6 +24,7 @@ pub fn carry_out<K: Keeper, L: Keeper>(
     site: &mut Site<K, L>,
 ) -> Result<Left, AnswerFault>
     ensures acts { Acts site.old site.new }
+    ensures kept { Keeps K.bodies L.bodies site.old site.new }
 {
     let driven = drive(site, tasks);
     let left = left_by(&driven);
@@ -68,6 +70,7 @@ pub fn finish<K: Keeper, L: Keeper>(
     site: &mut Site<K, L>,
 ) -> Result<Reply, AnswerFault>
     ensures acts { Acts site.old site.new }
+    ensures kept { Keeps K.bodies L.bodies site.old site.new }
 {
     match opened {
         Opened::Refused(reply) => Ok(reply),
@@ -81,6 +84,7 @@ fn finish_task<K: Keeper, L: Keeper>(
     site: &mut Site<K, L>,
 ) -> Result<Reply, AnswerFault>
     ensures acts { Acts site.old site.new }
+    ensures kept { Keeps K.bodies L.bodies site.old site.new }
 {
     let left = carry_out(&[task], site)?;
     told(alloc, task, site.book().records(), left)

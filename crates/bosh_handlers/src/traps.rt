@@ -2,6 +2,7 @@
 ghost use Rattle.std.specs.Prelude.{◌≤◌};
 ghost use Rattle.bosh_world.specs.Arms.{count_of};
 ghost use Rattle.bosh_handlers.specs.Acts.{Acts};
+ghost use Rattle.bosh_handlers.specs.Keeps.{Keeps};
 
 use crate::ends::refused_by_site;
 use bosh_answers::AnswerFault;
@@ -26,6 +27,7 @@ fn arm<K: Keeper, L: Keeper>(
 ) -> Result<Reply, AnswerFault>
     requires { 1 ≤ count_of trap }
     ensures acts { Acts site.old site.new }
+    ensures kept { Keeps K.bodies L.bodies site.old site.new }
 {
     match site.arm(trap) {
         Ok(()) => Ok(Reply::Nothing),
@@ -40,6 +42,7 @@ pub(crate) fn fail_call<K: Keeper, L: Keeper>(
     site: &mut Site<K, L>,
 ) -> Result<Reply, AnswerFault>
     ensures acts { Acts site.old site.new }
+    ensures kept { Keeps K.bodies L.bodies site.old site.new }
 {
     let owner = doom.owner.copy(alloc)?;
     arm(
@@ -62,6 +65,7 @@ pub(crate) fn fail_store<K: Keeper, L: Keeper>(
     site: &mut Site<K, L>,
 ) -> Result<Reply, AnswerFault>
     ensures acts { Acts site.old site.new }
+    ensures kept { Keeps K.bodies L.bodies site.old site.new }
 {
     let how = match fate {
         Fate::Lose => Rig::FailLost,
@@ -84,6 +88,7 @@ pub(crate) fn stop_call<K: Keeper, L: Keeper>(
     site: &mut Site<K, L>,
 ) -> Result<Reply, AnswerFault>
     ensures acts { Acts site.old site.new }
+    ensures kept { Keeps K.bodies L.bodies site.old site.new }
 {
     let owner = stop.owner.copy(alloc)?;
     arm(
@@ -107,6 +112,7 @@ pub(crate) fn stop_store<K: Keeper, L: Keeper>(
     site: &mut Site<K, L>,
 ) -> Result<Reply, AnswerFault>
     ensures acts { Acts site.old site.new }
+    ensures kept { Keeps K.bodies L.bodies site.old site.new }
 {
     let how = match when {
         When::Before => Rig::StopBefore,
@@ -128,6 +134,7 @@ pub(crate) fn restart<K: Keeper, L: Keeper>(
     site: &mut Site<K, L>,
 ) -> Result<Reply, AnswerFault>
     ensures acts { Acts site.old site.new }
+    ensures kept { Keeps K.bodies L.bodies site.old site.new }
 {
     match site.restart() {
         Ok(()) => Ok(Reply::Restarted),

@@ -1,5 +1,6 @@
 //! Releases and stemcells are uploaded.
 ghost use Rattle.bosh_handlers.specs.Acts.{Acts};
+ghost use Rattle.bosh_handlers.specs.Keeps.{Keeps};
 
 use crate::ends::refused_by_site;
 use bosh_answers::{AnswerFault, Files, read_folder, refused};
@@ -20,6 +21,7 @@ pub(crate) fn upload_folder<F: Shelf, K: Keeper, L: Keeper>(
     site: &mut Site<K, L>,
 ) -> Result<Reply, AnswerFault>
     ensures acts { Acts site.old site.new }
+    ensures kept { Keeps K.bodies L.bodies site.old site.new }
 {
     match read_folder(alloc, files, shelf, folder) {
         Ok(found) => upload_files(alloc, found.as_slice(), version, site),
@@ -35,6 +37,7 @@ pub fn upload_files<K: Keeper, L: Keeper>(
     site: &mut Site<K, L>,
 ) -> Result<Reply, AnswerFault>
     ensures acts { Acts site.old site.new }
+    ensures kept { Keeps K.bodies L.bodies site.old site.new }
 {
     match collect(alloc, files, version) {
         Ok(release) => upload(alloc, release, site),
@@ -59,6 +62,7 @@ fn upload<K: Keeper, L: Keeper>(
     site: &mut Site<K, L>,
 ) -> Result<Reply, AnswerFault>
     ensures acts { Acts site.old site.new }
+    ensures kept { Keeps K.bodies L.bodies site.old site.new }
 {
     match summary(alloc, &release) {
         Ok(summary) => upload_told(alloc, release, summary, site),
@@ -73,6 +77,7 @@ fn upload_told<K: Keeper, L: Keeper>(
     site: &mut Site<K, L>,
 ) -> Result<Reply, AnswerFault>
     ensures acts { Acts site.old site.new }
+    ensures kept { Keeps K.bodies L.bodies site.old site.new }
 {
     match site.upload(release) {
         Ok(Added::New) => Ok(Reply::ReleaseAdded(summary)),
@@ -91,6 +96,7 @@ pub fn upload_stemcell<K: Keeper, L: Keeper>(
     site: &mut Site<K, L>,
 ) -> Result<Reply, AnswerFault>
     ensures acts { Acts site.old site.new }
+    ensures kept { Keeps K.bodies L.bodies site.old site.new }
 {
     let told = stemcell.copy(alloc)?;
     match site.add_stemcell(&stemcell.os, stemcell.version.as_slice()) {
