@@ -8,6 +8,7 @@ use Rattle.bosh_ports.specs.Faults.{Rose}
 use Rattle.bosh_ports.specs.declared.keeper.Keeper as keeper
 use Rattle.bosh_report.specs.Refusal.{refusal_line}
 use Rattle.bosh_program.specs.Ends.{IsLineWritten, IsPlain, IsTextWritten}
+use Rattle.bosh_program.specs.Headline.{Promises}
 use Rattle.bosh_program.specs.declared.plain.Ended as ended
 use Rattle.bosh_transcript.specs.Sessions.{IsSession}
 use Rattle.bosh_transcript.specs.Writing.{WritesFront}
@@ -59,11 +60,11 @@ pub plain_loaded : {I O K L : Type 0} {k : keeper.Ghosts K} {l : keeper.Ghosts L
     (source_before source_after : I) (out_before out_after : O) (store : K) (cloud : L) (was now : Site K L k l)
     (status : Status) (end : ended.Ended K L k l) → Loads bodies faults is_broken cloud_bodies cloud_faults store cloud was →
     IsSession left read_faults written write_faults source_before source_after out_before out_after status (past_of was)
-    (past_of now) →
+    (past_of now) → Promises bodies cloud_bodies store cloud now →
     end.status ≡ status → end.site ≡ Some now → end.refused ≡ None →
     IsPlain left read_faults written write_faults bodies faults is_broken cloud_bodies cloud_faults source_before
     source_after out_before out_after store cloud end
-plain_loaded {I} {O} {K} {L} {k} {l} left read_faults written write_faults bodies faults is_broken cloud_bodies cloud_faults source_before source_after out_before out_after store cloud was now status end loads session ends there none = record {
+plain_loaded {I} {O} {K} {L} {k} {l} left read_faults written write_faults bodies faults is_broken cloud_bodies cloud_faults source_before source_after out_before out_after store cloud was now status end loads session promises ends there none = record {
   loaded = λ site is.
       let same : now ≡ site = some_same end.site now site there is in (
         was,
@@ -73,6 +74,7 @@ plain_loaded {I} {O} {K} {L} {k} {l} left read_faults written write_faults bodie
             (subst (λ (s : Site K L k l). IsSession left read_faults written write_faults source_before source_after out_before
             out_after status (past_of was) (past_of s)) same session),
         none,
+        subst (λ (s : Site K L k l). Promises bodies cloud_bodies store cloud s) same promises,
       );
   not_loaded = λ refused is. absurd (not_none end.refused refused is none);
   memory = λ no_site no_refused. absurd (not_none end.site now there no_site);

@@ -6,6 +6,7 @@ use Rattle.bosh_handlers.specs.SiteFaults.{site_told}
 use Rattle.bosh_options.specs.Words.{Tells}
 use Rattle.bosh_ports.specs.Faults.{Rose}
 use Rattle.bosh_report.specs.Refusal.{refusal_line}
+use Rattle.bosh_program.specs.Headline.{Promises}
 use Rattle.bosh_program.specs.declared.plain.Ended as ended
 use Rattle.bosh_transcript.specs.Sessions.{IsSession}
 use Rattle.bosh_transcript.specs.Writing.{WritesFront}
@@ -28,8 +29,8 @@ IsLineWritten written faults fault before after =
     × ((was : List ℕ) → written before ≡ Some was →
     IsTextWritten was (refusal_line told) (written after) (faults before) (faults after))
 
--- A session over two keepers: over the site that they were loaded as, which it goes on with and gives back; or they
--- were not loaded, are given back, and why is written; or there was no memory for that, and nothing is written. Nothing
+-- A session over two keepers: over the site that they were loaded as, which it goes on with and gives back, as is promised of
+-- its history; or they were not loaded, are given back, and why is written; or there was no memory for that, and nothing is written. Nothing
 -- is read of the input without a site.
 pub record IsPlain {I O K L : Type 0} {k : keeper.Ghosts K} {l : keeper.Ghosts L}
     (left : I → Option (List ℕ)) (read_faults : I → ℕ) (written : O → Option (List ℕ)) (write_faults : O → ℕ)
@@ -40,7 +41,7 @@ pub record IsPlain {I O K L : Type 0} {k : keeper.Ghosts K} {l : keeper.Ghosts L
     pub loaded : (site : Site K L k l) → end.site ≡ Some site →
         (was : Site K L k l) × Loads bodies faults is_broken cloud_bodies cloud_faults store cloud was
         × IsSession left read_faults written write_faults source_before source_after out_before out_after end.status
-        (past_of was) (past_of site) × (end.refused ≡ None)
+        (past_of was) (past_of site) × (end.refused ≡ None) × Promises bodies cloud_bodies store cloud site
     pub not_loaded : (refused : unloaded.Unloaded K L) → end.refused ≡ Some refused →
         (end.status ≡ Unloaded) × (end.site ≡ None)
         × IsNotSite bodies faults is_broken cloud_bodies cloud_faults store cloud refused.store refused.cloud refused.fault

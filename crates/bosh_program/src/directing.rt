@@ -1,4 +1,5 @@
 ghost use Rattle.bosh_handlers.specs.Acts.{past_of};
+ghost use Rattle.bosh_handlers.specs.Keeps.{GoesWell};
 
 use bosh_answers::{AnswerFault, Files, How};
 use bosh_base::{Entry, Move, Name, Reply, Stemcell};
@@ -23,6 +24,8 @@ impl<K: Keeper, L: Keeper> Director for Directing<K, L> {
     ghost records = { λ it. it.site.book.records };
 
     ghost is_halted = { λ it. it.site.history.is_halted };
+
+    ghost is_good = { λ o it. GoesWell K.bodies L.bodies o it.site };
 
     fn moves(&self) -> &[Move] {
         self.site.moves()
