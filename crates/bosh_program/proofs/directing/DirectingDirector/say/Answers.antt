@@ -19,7 +19,7 @@ pub returns-in-Ok-clause-kept : goal.returns-in-Ok-clause-kept
 returns-in-Ok-clause-kept g c = λ o it. (
   it.0,
   said_good shipped g.K.Keeper.bodies g.L.Keeper.bodies o c.args.self.now.site c.say.new.self it.1
-      (said_reply c.args.number c.args.reply) c.in-Ok.ensures.said,
+      (record { command = c.args.number; reply = c.args.reply }) c.in-Ok.ensures.said,
 )
 
 pub returns-in-Err-clause-kept : goal.returns-in-Err-clause-kept
