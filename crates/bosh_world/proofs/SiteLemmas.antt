@@ -1,5 +1,5 @@
 -- What a call of the book leaves of a site.
-use Rattle.std.proofs.Common.{◌≡◌, ℕ, false, Option, Some, None, Result, Ok, Err, List, ◌++◌, refl, sym, ◌∙◌, ap, append_assoc, map, inr}
+use Rattle.std.proofs.Common.{◌≡◌, ℕ, false, Option, Some, None, Result, Ok, Err, List, ◌++◌, refl, sym, ◌∙◌, ap, append_assoc, length, map, inr}
 use Rattle.std.specs.Prelude.{IfErr, IfOk, OnErr}
 use Rattle.bosh_asks.specs.declared.fault.BookFault.{BookFault}
 use Rattle.bosh_asks.specs.declared.fault.BookFault.TheVariants as book

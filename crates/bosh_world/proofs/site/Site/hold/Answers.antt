@@ -17,7 +17,7 @@ invariant_of-self g c = record {
 pub returns-clause-holds : goal.returns-clause-holds
 returns-clause-holds g c = record {
   comes = push_comes c.args.self.now _ (moves.Did c.args.did) c.push_with-place.new.self.free _ c.requires.told
-      (λ j. c.args.self.now.book) c.push_with-place.ensures.pushed (c.len-effects.ensures ∙ ap length c.effects.ensures);
+      (λ j. c.args.self.now.book) c.push_with-place.ensures.pushed (ap length c.effects-effects.ensures);
   moves = λ j. (c.push_with-place.ensures.pushed j).moves;
   calls = c.perform.ensures
       ∙ ap (λ m. with_performed m c.push_with-place.result c.args.self.now.calls.unsettled) c.n.ensures

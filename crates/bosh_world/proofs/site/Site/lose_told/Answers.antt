@@ -20,7 +20,7 @@ returns-in-Ok-clause-lost g c = record {
   does = c.in-Ok.ensures.does;
   fates = c.lose.ensures.fates;
   comes = push_comes c.args.self.now _ (moves.Lost c.args.loss) c.push_with.new.self.free _ c.requires.told
-      (λ j. c.args.self.now.book) c.push_with.ensures.pushed (c.len-effects.ensures ∙ ap length c.effects.ensures);
+      (λ j. c.args.self.now.book) c.push_with.ensures.pushed (ap length c.effects-effects.ensures);
   halted = (λ j. (c.push_with.ensures.pushed j).is_halted) ∙ c.requires.running;
   same_book = λ j. c.args.self.now.book;
   same_calls = λ j. c.args.self.now.calls;
