@@ -31,6 +31,9 @@ pub trait Director {
     /// Nothing more is done before a restart.
     ghost is_halted: { Self → Bool };
 
+    /// What holds of it as long as each call keeps it: that its history is permitted, say.
+    ghost is_good: { Self → Type 0 };
+
     /// What was told of what has happened so far: no reply is left out.
     fn moves(&self) -> &[Move]
         ensures moves { result.now ≡ (past self.now).moves }
@@ -47,7 +50,8 @@ pub trait Director {
     /// Notes the reply of the command of a number. Where that is refused nothing has happened.
     fn say(&mut self, number: u32, reply: Reply) -> Result<(), AnswerFault>
         ensures said { OnOk result (Continues (past self.old) (said_reply number reply ∷ []) (past self.new)) }
-        ensures refused { OnErr result (Continues (past self.old) [] (past self.new)) };
+        ensures refused { OnErr result (Continues (past self.old) [] (past self.new)) }
+        ensures kept { is_good self.old → is_good self.new };
 
     /// Carries out a command, and gives its reply.
     fn answer<F: Shelf>(
@@ -57,7 +61,8 @@ pub trait Director {
         files: &mut Files,
         shelf: &mut F,
     ) -> Result<Reply, AnswerFault>
-        ensures proceeds { Proceeds (past self.old) (past self.new) };
+        ensures proceeds { Proceeds (past self.old) (past self.new) }
+        ensures kept { is_good self.old → is_good self.new };
 
     /// Opens the task of a request. One that opens none is refused.
     fn open<F: Shelf>(
@@ -67,11 +72,13 @@ pub trait Director {
         files: &Files,
         shelf: &mut F,
     ) -> Result<Opened, AnswerFault>
-        ensures proceeds { Proceeds (past self.old) (past self.new) };
+        ensures proceeds { Proceeds (past self.old) (past self.new) }
+        ensures kept { is_good self.old → is_good self.new };
 
     /// Carries tasks to their ends.
     fn carry_out(&mut self, tasks: &[u64]) -> Result<Left, AnswerFault>
-        ensures proceeds { Proceeds (past self.old) (past self.new) };
+        ensures proceeds { Proceeds (past self.old) (past self.new) }
+        ensures kept { is_good self.old → is_good self.new };
 
     /// How a task ended, or why it has no end.
     fn told(&self, alloc: Global, task: u64, left: Left) -> Result<Reply, AnswerFault>
@@ -80,7 +87,8 @@ pub trait Director {
 
     /// Uploads a stemcell.
     fn upload_stemcell(&mut self, alloc: Global, stemcell: &Stemcell) -> Result<Reply, AnswerFault>
-        ensures proceeds { Proceeds (past self.old) (past self.new) };
+        ensures proceeds { Proceeds (past self.old) (past self.new) }
+        ensures kept { is_good self.old → is_good self.new };
 
     /// Uploads the release that files are.
     fn upload_files(
@@ -89,13 +97,16 @@ pub trait Director {
         files: &[File],
         version: &[u8],
     ) -> Result<Reply, AnswerFault>
-        ensures proceeds { Proceeds (past self.old) (past self.new) };
+        ensures proceeds { Proceeds (past self.old) (past self.new) }
+        ensures kept { is_good self.old → is_good self.new };
 
     /// Sets the cloud config that a text is.
     fn set_config(&mut self, alloc: Global, text: &[u8]) -> Result<Reply, AnswerFault>
-        ensures proceeds { Proceeds (past self.old) (past self.new) };
+        ensures proceeds { Proceeds (past self.old) (past self.new) }
+        ensures kept { is_good self.old → is_good self.new };
 
     /// Deploys the manifest that a text is.
     fn deploy_text(&mut self, alloc: Global, dep: &Name, text: &[u8]) -> Result<Reply, AnswerFault>
-        ensures proceeds { Proceeds (past self.old) (past self.new) };
+        ensures proceeds { Proceeds (past self.old) (past self.new) }
+        ensures kept { is_good self.old → is_good self.new };
 }

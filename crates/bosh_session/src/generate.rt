@@ -46,6 +46,7 @@ pub(crate) fn generate<O: Sink, D: Director>(
     ensures cut { IfErr result (AnswersUpTo O.written O.faults
         (AreAnsweredUpTo (number ∷ number ∷ number ∷ number ∷ number ∷ []))
         (D.past director.old) (D.past director.new) out.old out.new) }
+    ensures kept { D.is_good director.old → D.is_good director.new }
 {
     let fleet = Fleet {
         instances: instances.min(MOST_INSTANCES),
@@ -86,6 +87,7 @@ fn prepare<O: Sink, D: Director>(
         (D.past director.old) (D.past director.new) out.old out.new) }
     ensures cut { IfErr result (AnswersUpTo O.written O.faults (AreAnsweredUpTo (number ∷ number ∷ number ∷ []))
         (D.past director.old) (D.past director.new) out.old out.new) }
+    ensures kept { D.is_good director.old → D.is_good director.new }
 {
     let stemcell = step_told(alloc, Step::Stemcell, number, out, director)?;
     let release = step_told(alloc, Step::Release, number, out, director)?;
@@ -105,6 +107,7 @@ fn step_told<O: Sink, D: Director>(
         (D.past director.old) (D.past director.new) out.old out.new) }
     ensures cut { IfErr result (AnswersUpTo O.written O.faults (AreAnsweredUpTo (number ∷ []))
         (D.past director.old) (D.past director.new) out.old out.new) }
+    ensures kept { D.is_good director.old → D.is_good director.new }
 {
     let reply = take_step(alloc, step, director);
     tell_answer(alloc, number, reply, out, director)
@@ -112,6 +115,7 @@ fn step_told<O: Sink, D: Director>(
 
 fn take_step<D: Director>(alloc: Global, step: Step, director: &mut D) -> Result<Reply, AnswerFault>
     ensures proceeds { Proceeds (D.past director.old) (D.past director.new) }
+    ensures kept { D.is_good director.old → D.is_good director.new }
 {
     match step {
         Step::Stemcell => add_stemcell(alloc, director),
@@ -138,6 +142,7 @@ fn stemcell(alloc: Global) -> Result<Stemcell, AnswerFault> {
 
 fn add_stemcell<D: Director>(alloc: Global, director: &mut D) -> Result<Reply, AnswerFault>
     ensures proceeds { Proceeds (D.past director.old) (D.past director.new) }
+    ensures kept { D.is_good director.old → D.is_good director.new }
 {
     match stemcell(alloc) {
         Ok(stemcell) => director.upload_stemcell(alloc, &stemcell),
@@ -147,6 +152,7 @@ fn add_stemcell<D: Director>(alloc: Global, director: &mut D) -> Result<Reply, A
 
 fn add_release<D: Director>(alloc: Global, director: &mut D) -> Result<Reply, AnswerFault>
     ensures proceeds { Proceeds (D.past director.old) (D.past director.new) }
+    ensures kept { D.is_good director.old → D.is_good director.new }
 {
     let files = release(alloc)?;
     director.upload_files(alloc, files.as_slice(), b"1")
@@ -154,6 +160,7 @@ fn add_release<D: Director>(alloc: Global, director: &mut D) -> Result<Reply, An
 
 fn deploy<D: Director>(alloc: Global, fleet: Fleet, director: &mut D) -> Result<Reply, AnswerFault>
     ensures proceeds { Proceeds (D.past director.old) (D.past director.new) }
+    ensures kept { D.is_good director.old → D.is_good director.new }
 {
     let dep = name(alloc)?;
     let text = manifest(alloc, fleet.instances)?;

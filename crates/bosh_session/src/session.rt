@@ -31,8 +31,9 @@ pub fn carry_out_all<I: Source, O: Sink, F: Shelf, D: Director>(
     shelf: &mut F,
     director: &mut D,
 ) -> Status
-    ensures { IsSession I.left I.faults O.written O.faults source.old source.new out.old out.new result
+    ensures session { IsSession I.left I.faults O.written O.faults source.old source.new out.old out.new result
         (D.past director.old) (D.past director.new) }
+    ensures kept { D.is_good director.old → D.is_good director.new }
 {
     match carry_out_each(alloc, source, out, shelf, director) {
         Ok(false) => Status::Good,
@@ -53,6 +54,7 @@ fn carry_out_each<I: Source, O: Sink, F: Shelf, D: Director>(
         source.old source.new out.old out.new (at_end fails) (D.past director.old) (D.past director.new)) }
     ensures event { IfErr result (λ status. IsSession I.left I.faults O.written O.faults
         source.old source.new out.old out.new status (D.past director.old) (D.past director.new)) }
+    ensures kept { D.is_good director.old → D.is_good director.new }
 {
     let mut input = Input::new(alloc)?;
     let mut files = Files::new(alloc);
@@ -84,6 +86,7 @@ fn carry_out<I: Source, O: Sink, F: Shelf, D: Director>(
     ensures cut { IfErr result (CarriesUpTo I.left I.faults O.written O.faults (extent_of command.request.asked)
         command.number input.old input.new source.old source.new (D.past director.old) (D.past director.new)
         out.old out.new) }
+    ensures kept { D.is_good director.old → D.is_good director.new }
 {
     let Numbered { number, request } = command;
     match extent_of(&request.asked) {
@@ -114,6 +117,7 @@ fn carry_out_one<O: Sink, F: Shelf, D: Director>(
         (D.past director.old) (D.past director.new) out.old out.new) }
     ensures cut { IfErr result (AnswersUpTo O.written O.faults (AreAnsweredUpTo (number ∷ []))
         (D.past director.old) (D.past director.new) out.old out.new) }
+    ensures kept { D.is_good director.old → D.is_good director.new }
 {
     let reply = director.answer(alloc, request, files, shelf);
     tell_answer(alloc, number, reply, out, director)
@@ -131,6 +135,7 @@ pub(crate) fn tell_answer<O: Sink, D: Director>(
         (D.past director.old) (D.past director.new) out.old out.new) }
     ensures cut { IfErr result (AnswersUpTo O.written O.faults (AreToldUpTo (number ∷ []))
         (D.past director.old) (D.past director.new) out.old out.new) }
+    ensures kept { D.is_good director.old → D.is_good director.new }
 {
     match reply {
         Ok(reply) => tell(alloc, number, reply, out, director),
@@ -161,6 +166,7 @@ pub(crate) fn tell<O: Sink, D: Director>(
     ensures fails { IfOk result (λ fails. fails ≡ is_error reply) }
     ensures cut { IfErr result (AnswersUpTo O.written O.faults (IsReplyUpTo number reply)
         (D.past director.old) (D.past director.new) out.old out.new) }
+    ensures kept { D.is_good director.old → D.is_good director.new }
 {
     let fails = is_error(&reply);
     match said(alloc, number, reply, director) {
@@ -191,6 +197,7 @@ fn said<D: Director>(
     ensures text { IfOk result (λ text. text.items ≡ text_of reply) }
     ensures said { OnOk result (Continues (D.past director.old) (said_reply number reply ∷ []) (D.past director.new)) }
     ensures refused { OnErr result (Continues (D.past director.old) [] (D.past director.new)) }
+    ensures kept { D.is_good director.old → D.is_good director.new }
 {
     match say(alloc, &reply) {
         Ok(text) => noted(number, reply, text, director),
@@ -210,6 +217,7 @@ fn noted<D: Director>(
     ensures text { IfOk result (λ noted. noted.items ≡ text.items) }
     ensures said { OnOk result (Continues (D.past director.old) (said_reply number reply ∷ []) (D.past director.new)) }
     ensures refused { OnErr result (Continues (D.past director.old) [] (D.past director.new)) }
+    ensures kept { D.is_good director.old → D.is_good director.new }
 {
     match director.say(number, reply) {
         Ok(()) => Ok(text),

@@ -50,6 +50,7 @@ pub(crate) fn together<I: Source, O: Sink, F: Shelf, D: Director>(
         input.old input.new source.old source.new (D.past director.old) (D.past director.new) out.old out.new) }
     ensures cut { IfErr result (CarriesUpTo I.left I.faults O.written O.faults (extent.Together count) number
         input.old input.new source.old source.new (D.past director.old) (D.past director.new) out.old out.new) }
+    ensures kept { D.is_good director.old → D.is_good director.new }
 {
     tell(alloc, number, Reply::Nothing, out, director)?;
     let commands = next_commands(alloc, count, input, source)?;
@@ -68,6 +69,7 @@ fn carry_out_commands<O: Sink, F: Shelf, D: Director>(
         (D.past director.old) (D.past director.new) out.old out.new) }
     ensures cut { IfErr result (AnswersUpTo O.written O.faults (AreTogetherUpTo (map number_in commands.items))
         (D.past director.old) (D.past director.new) out.old out.new) }
+    ensures kept { D.is_good director.old → D.is_good director.new }
 {
     let mut running = Vec::new(alloc);
     let failed = open_each(alloc, commands, &mut running, files, shelf, out, director)?;
@@ -90,6 +92,7 @@ fn open_each<O: Sink, F: Shelf, D: Director>(
         (D.past director.old) (D.past director.new) out.old out.new) }
     ensures cut { IfErr result (AnswersUpTo O.written O.faults (AreOpenedUpTo (map number_in commands.items))
         (D.past director.old) (D.past director.new) out.old out.new) }
+    ensures kept { D.is_good director.old → D.is_good director.new }
 {
     let mut fails = false;
     for command in commands {
@@ -113,6 +116,7 @@ fn open_one<O: Sink, F: Shelf, D: Director>(
         (D.past director.old) (D.past director.new) out.old out.new) }
     ensures cut { IfErr result (AnswersUpTo O.written O.faults (AreAnsweredUpTo (command.number ∷ []))
         (D.past director.old) (D.past director.new) out.old out.new) }
+    ensures kept { D.is_good director.old → D.is_good director.new }
 {
     let Numbered { number, request } = command;
     match director.open(alloc, request, files, shelf) {
@@ -143,6 +147,7 @@ fn run<O: Sink, D: Director>(
         (D.past director.old) (D.past director.new) out.old out.new) }
     ensures cut { IfErr result (AnswersUpTo O.written O.faults (AreRunUpTo (map number_of running.now))
         (D.past director.old) (D.past director.new) out.old out.new) }
+    ensures kept { D.is_good director.old → D.is_good director.new }
 {
     let before = director.entries().len();
     let left = answered(run_all(alloc, running, director))?;
@@ -157,6 +162,7 @@ fn run_all<D: Director>(
     director: &mut D,
 ) -> Result<Left, AnswerFault>
     ensures proceeds { Proceeds (D.past director.old) (D.past director.new) }
+    ensures kept { D.is_good director.old → D.is_good director.new }
 {
     if director.is_halted() {
         return Ok(Left::Halted(last_halt(director.moves())));
@@ -271,6 +277,7 @@ fn tell_each<O: Sink, D: Director>(
         (D.past director.old) (D.past director.new) out.old out.new) }
     ensures cut { IfErr result (AnswersUpTo O.written O.faults (AreToldUpTo (map number_of order.now))
         (D.past director.old) (D.past director.new) out.old out.new) }
+    ensures kept { D.is_good director.old → D.is_good director.new }
 {
     let mut fails = false;
     for it in order {
@@ -291,6 +298,7 @@ fn tell_one<O: Sink, D: Director>(
         (D.past director.old) (D.past director.new) out.old out.new) }
     ensures cut { IfErr result (AnswersUpTo O.written O.faults (AreToldUpTo (it.number ∷ []))
         (D.past director.old) (D.past director.new) out.old out.new) }
+    ensures kept { D.is_good director.old → D.is_good director.new }
 {
     let reply = director.told(alloc, it.task, left);
     tell_answer(alloc, it.number, reply, out, director)

@@ -68,3 +68,12 @@ returns-clause-answers g c =
     (reply_for g.O.Sink.written g.O.Sink.faults c.args.number _ (g.D.Director.past c.step_told.new.director)
     (g.D.Director.past c.tell.new.director) c.step_told.new.out c.tell.new.out (Ok c.in_ok-tell.field-0)
     c.in_ok-tell.ensures.answers))
+
+pub returns-in_err-deployed-clause-kept : goal.returns-in_err-deployed-clause-kept
+returns-in_err-deployed-clause-kept g c = λ good. c.step_told.ensures.kept (c.prepare.ensures.kept good)
+
+pub returns-in_err-tell-clause-kept : goal.returns-in_err-tell-clause-kept
+returns-in_err-tell-clause-kept g c = λ good. c.tell.ensures.kept (c.step_told.ensures.kept (c.prepare.ensures.kept good))
+
+pub returns-clause-kept : goal.returns-clause-kept
+returns-clause-kept g c = λ good. c.tell.ensures.kept (c.step_told.ensures.kept (c.prepare.ensures.kept good))

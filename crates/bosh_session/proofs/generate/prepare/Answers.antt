@@ -57,3 +57,14 @@ returns-clause-answers g c =
     c.args.out.now c.step_told.new.out c.step_told-2.new.out c.in_ok-stemcell.stemcell c.in_ok-release.release
     c.in_ok-stemcell.ensures.answers c.in_ok-release.ensures.answers)
     c.in_ok-config.ensures.answers
+
+pub returns-in_err-release-clause-kept : goal.returns-in_err-release-clause-kept
+returns-in_err-release-clause-kept g c = λ good. c.step_told-2.ensures.kept (c.step_told.ensures.kept good)
+
+pub returns-in_err-config-clause-kept : goal.returns-in_err-config-clause-kept
+returns-in_err-config-clause-kept g c =
+    λ good. c.step_told-3.ensures.kept (c.step_told-2.ensures.kept (c.step_told.ensures.kept good))
+
+pub returns-clause-kept : goal.returns-clause-kept
+returns-clause-kept g c =
+    λ good. c.step_told-3.ensures.kept (c.step_told-2.ensures.kept (c.step_told.ensures.kept good))

@@ -12,3 +12,6 @@ returns-clause-cut g c =
     part_later g.O.Sink.written g.O.Sink.faults c.args.number (g.D.Director.past c.args.director.now)
     (g.D.Director.past c.take_step-reply.new.director) (g.D.Director.past c.tell_answer.new.director) c.args.out.now
     c.tell_answer.new.out c.tell_answer.result c.take_step-reply.ensures.proceeds c.tell_answer.ensures.cut
+
+pub returns-clause-kept : goal.returns-clause-kept
+returns-clause-kept g c = λ good. c.tell_answer.ensures.kept (c.take_step-reply.ensures.kept good)

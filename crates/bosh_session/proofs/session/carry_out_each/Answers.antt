@@ -16,9 +16,11 @@ returns-in_err-input-clause-event g c =
     (g.D.Director.past c.args.director.now))
 
 pub loop-files-init : goal.loop-files-init
-loop-files-init g c =
-    way_begins g.I.Source.left g.I.Source.faults g.O.Sink.written g.O.Sink.faults c.args.source.now c.args.out.now
-    c.in_ok-input.input (g.D.Director.past c.args.director.now) c.in_ok-input.ensures
+loop-files-init g c = record {
+  under_way = way_begins g.I.Source.left g.I.Source.faults g.O.Sink.written g.O.Sink.faults c.args.source.now c.args.out.now
+      c.in_ok-input.input (g.D.Director.past c.args.director.now) c.in_ok-input.ensures;
+  kept = λ good. good;
+}
 
 pub returns-in_err-command-clause-event : goal.returns-in_err-command-clause-event
 returns-in_err-command-clause-event g c =
@@ -30,7 +32,7 @@ returns-in_err-command-clause-event g c =
     (over_stopped g.I.Source.left g.I.Source.faults g.O.Sink.written g.O.Sink.faults c.args.source.now c.loop-files.source
     c.next.new.source c.args.out.now c.loop-files.out c.loop-files.input c.next.new.input (g.D.Director.past c.args.director.now)
     (g.D.Director.past c.loop-files.director)
-    c.loop-files.fails c.in_err-command.field-0.0 c.loop-files.invariant c.in_err-command.ensures.event)
+    c.loop-files.fails c.in_err-command.field-0.0 c.loop-files.invariant.under_way c.in_err-command.ensures.event)
 
 pub returns-in_err-failed-clause-event : goal.returns-in_err-failed-clause-event
 returns-in_err-failed-clause-event g c =
@@ -42,7 +44,7 @@ returns-in_err-failed-clause-event g c =
     (over_taken g.I.Source.left g.I.Source.faults g.O.Sink.written g.O.Sink.faults c.args.source.now c.loop-files.source
     c.next.new.source c.carry_out.new.source c.args.out.now c.loop-files.out c.carry_out.new.out c.loop-files.input
     c.next.new.input c.carry_out.new.input c.in-Some.command (g.D.Director.past c.args.director.now) (g.D.Director.past c.loop-files.director) (g.D.Director.past c.carry_out.new.director)
-    c.loop-files.fails c.in_err-failed.field-0.0 c.loop-files.invariant (rw c.in-Some.is at c.in_ok-command.ensures.next)
+    c.loop-files.fails c.in_err-failed.field-0.0 c.loop-files.invariant.under_way (rw c.in-Some.is at c.in_ok-command.ensures.next)
     c.in_err-failed.ensures.cut)
 
 pub loop-files-smaller : goal.loop-files-smaller
@@ -50,20 +52,31 @@ loop-files-smaller g c =
     fewer_turns g.I.Source.left g.I.Source.faults g.O.Sink.written g.O.Sink.faults c.args.source.now c.loop-files.source
     c.next.new.source c.carry_out.new.source c.args.out.now c.loop-files.out c.carry_out.new.out c.loop-files.input
     c.next.new.input c.carry_out.new.input c.in-Some.command (g.D.Director.past c.args.director.now) (g.D.Director.past c.loop-files.director) (g.D.Director.past c.carry_out.new.director)
-    c.loop-files.fails c.in_ok-failed.failed c.loop-files.invariant (rw c.in-Some.is at c.in_ok-command.ensures.next)
+    c.loop-files.fails c.in_ok-failed.failed c.loop-files.invariant.under_way (rw c.in-Some.is at c.in_ok-command.ensures.next)
     c.in_ok-failed.ensures.carries
 
 pub loop-files-preserved : goal.loop-files-preserved
-loop-files-preserved g c =
-    way_taken g.I.Source.left g.I.Source.faults g.O.Sink.written g.O.Sink.faults c.args.source.now c.loop-files.source
-    c.next.new.source c.carry_out.new.source c.args.out.now c.loop-files.out c.carry_out.new.out c.loop-files.input
-    c.next.new.input c.carry_out.new.input c.in-Some.command (g.D.Director.past c.args.director.now) (g.D.Director.past c.loop-files.director) (g.D.Director.past c.carry_out.new.director)
-    c.loop-files.fails c.in_ok-failed.failed c.loop-files.invariant (rw c.in-Some.is at c.in_ok-command.ensures.next)
-    c.in_ok-failed.ensures.carries
+loop-files-preserved g c = record {
+  under_way = way_taken g.I.Source.left g.I.Source.faults g.O.Sink.written g.O.Sink.faults c.args.source.now c.loop-files.source
+      c.next.new.source c.carry_out.new.source c.args.out.now c.loop-files.out c.carry_out.new.out c.loop-files.input
+      c.next.new.input c.carry_out.new.input c.in-Some.command (g.D.Director.past c.args.director.now) (g.D.Director.past c.loop-files.director) (g.D.Director.past c.carry_out.new.director)
+      c.loop-files.fails c.in_ok-failed.failed c.loop-files.invariant.under_way (rw c.in-Some.is at c.in_ok-command.ensures.next)
+      c.in_ok-failed.ensures.carries;
+  kept = λ good. c.carry_out.ensures.kept (c.loop-files.invariant.kept good);
+}
 
 pub returns-clause-complete : goal.returns-clause-complete
 returns-clause-complete g c =
     over_whole g.I.Source.left g.I.Source.faults g.O.Sink.written g.O.Sink.faults c.args.source.now c.loop-files.source
     c.next.new.source c.args.out.now c.loop-files.out c.loop-files.input c.next.new.input (g.D.Director.past c.args.director.now)
     (g.D.Director.past c.loop-files.director)
-    c.loop-files.fails c.loop-files.invariant (rw c.in_default.is at c.in_ok-command.ensures.next)
+    c.loop-files.fails c.loop-files.invariant.under_way (rw c.in_default.is at c.in_ok-command.ensures.next)
+
+pub returns-in_err-command-clause-kept : goal.returns-in_err-command-clause-kept
+returns-in_err-command-clause-kept g c = c.loop-files.invariant.kept
+
+pub returns-in_err-failed-clause-kept : goal.returns-in_err-failed-clause-kept
+returns-in_err-failed-clause-kept g c = λ good. c.carry_out.ensures.kept (c.loop-files.invariant.kept good)
+
+pub returns-clause-kept : goal.returns-clause-kept
+returns-clause-kept g c = c.loop-files.invariant.kept

@@ -36,3 +36,9 @@ returns-clause-answers g c =
     (g.D.Director.past c.open_each.new.director) (g.D.Director.past c.run.new.director) c.args.out.now c.open_each.new.out
     c.run.new.out c.in_ok-failed.failed c.in_ok-ended.ended c.new-running.ensures.items c.as_slice.ensures.value
     c.in_ok-failed.ensures.opens c.in_ok-ended.ensures.answers
+
+pub returns-in_err-ended-clause-kept : goal.returns-in_err-ended-clause-kept
+returns-in_err-ended-clause-kept g c = λ good. c.run.ensures.kept (c.open_each.ensures.kept good)
+
+pub returns-clause-kept : goal.returns-clause-kept
+returns-clause-kept g c = λ good. c.run.ensures.kept (c.open_each.ensures.kept good)

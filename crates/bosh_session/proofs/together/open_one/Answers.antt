@@ -38,3 +38,6 @@ pub returns-in-Err-Memory-clause-cut : goal.returns-in-Err-Memory-clause-cut
 returns-in-Err-Memory-clause-cut g c =
     lost_opening g.O.Sink.written g.O.Sink.faults c.args.command.number (g.D.Director.past c.args.director.now)
     (g.D.Director.past c.open.new.self) c.args.out.now c.open.ensures.proceeds
+
+pub returns-in-Ok-Refused-clause-kept : goal.returns-in-Ok-Refused-clause-kept
+returns-in-Ok-Refused-clause-kept g c = λ good. c.tell.ensures.kept (c.open.ensures.kept good)

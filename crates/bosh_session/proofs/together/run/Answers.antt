@@ -55,3 +55,6 @@ returns-clause-cut g c =
     (subst (λ (order : List running.Running). IsPermutation c.args.running.now order) (sym c.as_slice.ensures.value)
     (rw c.in_ok-order.ensures.answer at c.by_end.ensures.order)))
     c.run_all.ensures.proceeds c.tell_each.ensures.cut
+
+pub returns-clause-kept : goal.returns-clause-kept
+returns-clause-kept g c = λ good. c.tell_each.ensures.kept (c.run_all.ensures.kept good)

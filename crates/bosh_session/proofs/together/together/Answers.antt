@@ -56,3 +56,6 @@ returns-clause-cut g c =
     (g.D.Director.past c.args.director.now) (g.D.Director.past c.tell.new.director) (g.D.Director.past c.carry_out_commands.new.director) c.args.out.now
     c.tell.new.out c.carry_out_commands.new.out c.carry_out_commands.result c.requires first c.in_ok-commands.ensures.taken
     c.carry_out_commands.ensures.cut
+
+pub returns-clause-kept : goal.returns-clause-kept
+returns-clause-kept g c = λ good. c.carry_out_commands.ensures.kept (c.tell.ensures.kept good)
