@@ -39,7 +39,7 @@ use Rattle.laws_views.specs.Planned.{IsChecked}
 -- nothing happens
 pub keeps_none : {K L : Type 0} {k : keeper.Ghosts K} {l : keeper.Ghosts L} (bodies : K → Option (List (List ℕ)))
     (cloud_bodies : L → Option (List (List ℕ))) (site : Site K L k l) → Keeps bodies cloud_bodies site site
-keeps_none bodies cloud_bodies site = λ o it. it
+keeps_none bodies cloud_bodies site = λ it. it
 
 module _ {K L : Type 0} {k : keeper.Ghosts K} {l : keeper.Ghosts L} (bodies : K → Option (List (List ℕ))) (faults : K → ℕ)
     (is_broken : K → Bool) (cloud_bodies : L → Option (List (List ℕ))) (cloud_faults : L → ℕ) (was now : Site K L k l) where
@@ -48,18 +48,20 @@ module _ {K L : Type 0} {k : keeper.Ghosts K} {l : keeper.Ghosts L} (bodies : K 
   pub keeps_release : (release : Release) (added : Added) → now.calls ≡ was.calls
       → IsUpload was.book.records.releases.items release added
       → Notes bodies faults was (entries_for added (entries.Release release)) None now → Keeps bodies cloud_bodies was now
-  keeps_release release added calls is notes = λ o it. (
+  keeps_release release added calls is notes = λ it. (
     it.0,
-    release_good shipped bodies cloud_bodies faults o was now it.0 it.1 calls shipped_is_found_out release added is notes,
+    it.1,
+    release_good shipped bodies cloud_bodies faults it.0 was now it.1 it.2 calls shipped_is_found_out release added is notes,
   )
 
   pub keeps_no_release : (release : Release) (fault : SiteFault) → now.calls ≡ was.calls
       → Refuses bodies faults was [] fault now
       → Pends was (IsAllowed (IsUpload was.book.records.releases.items release New) (entries.Release release)) now
       → Keeps bodies cloud_bodies was now
-  keeps_no_release release fault calls refuses pends = λ o it. (
+  keeps_no_release release fault calls refuses pends = λ it. (
     it.0,
-    release_refused shipped bodies cloud_bodies faults o was now it.0 it.1 calls shipped_is_found_out release fault refuses
+    it.1,
+    release_refused shipped bodies cloud_bodies faults it.0 was now it.1 it.2 calls shipped_is_found_out release fault refuses
         pends,
   )
 
@@ -67,57 +69,64 @@ module _ {K L : Type 0} {k : keeper.Ghosts K} {l : keeper.Ghosts L} (bodies : K 
       → IsAdded was.book.records.stemcells.items os version added
       → Notes bodies faults was (entries_for added (entries.Stemcell (record { os = os; version = version }))) None now
       → Keeps bodies cloud_bodies was now
-  keeps_stemcell os version added calls is notes = λ o it. (
+  keeps_stemcell os version added calls is notes = λ it. (
     it.0,
-    stemcell_good shipped bodies cloud_bodies faults o was now it.0 it.1 calls shipped_is_found_out os version added is notes,
+    it.1,
+    stemcell_good shipped bodies cloud_bodies faults it.0 was now it.1 it.2 calls shipped_is_found_out os version added is notes,
   )
 
   pub keeps_no_stemcell : (os version : List ℕ) (fault : SiteFault) → now.calls ≡ was.calls
       → Refuses bodies faults was [] fault now
       → Pends was (IsAllowed (IsAdded was.book.records.stemcells.items os version New)
       (entries.Stemcell (record { os = os; version = version }))) now → Keeps bodies cloud_bodies was now
-  keeps_no_stemcell os version fault calls refuses pends = λ o it. (
+  keeps_no_stemcell os version fault calls refuses pends = λ it. (
     it.0,
-    stemcell_refused shipped bodies cloud_bodies faults o was now it.0 it.1 calls shipped_is_found_out os version fault
+    it.1,
+    stemcell_refused shipped bodies cloud_bodies faults it.0 was now it.1 it.2 calls shipped_is_found_out os version fault
         refuses pends,
   )
 
   pub keeps_config : (file : List ℕ) → now.calls ≡ was.calls → is_some (config_in file) ≡ true
       → Notes bodies faults was (entries.Config file ∷ []) None now → Keeps bodies cloud_bodies was now
-  keeps_config file calls is notes = λ o it. (
+  keeps_config file calls is notes = λ it. (
     it.0,
-    config_good shipped bodies cloud_bodies faults o was now it.0 it.1 calls shipped_is_found_out file is notes,
+    it.1,
+    config_good shipped bodies cloud_bodies faults it.0 was now it.1 it.2 calls shipped_is_found_out file is notes,
   )
 
   pub keeps_no_config : (file : List ℕ) (fault : SiteFault) → now.calls ≡ was.calls → Refuses bodies faults was [] fault now
       → Pends was (IsAllowed (is_some (config_in file) ≡ true) (entries.Config file)) now
       → Keeps bodies cloud_bodies was now
-  keeps_no_config file fault calls refuses pends = λ o it. (
+  keeps_no_config file fault calls refuses pends = λ it. (
     it.0,
-    config_refused shipped bodies cloud_bodies faults o was now it.0 it.1 calls shipped_is_found_out file fault refuses pends,
+    it.1,
+    config_refused shipped bodies cloud_bodies faults it.0 was now it.1 it.2 calls shipped_is_found_out file fault refuses pends,
   )
 
   -- ---- tasks
 
   pub keeps_opened : (ask : Ask) (task : ℕ) → IsChecked ask → now.calls ≡ was.calls
       → OpensTask bodies faults was ask task now → Keeps bodies cloud_bodies was now
-  keeps_opened ask task checked calls opens = λ o it. (
+  keeps_opened ask task checked calls opens = λ it. (
     it.0,
-    task_good shipped bodies cloud_bodies faults o was now it.0 it.1 calls one_more_stands ask task checked opens,
+    it.1,
+    task_good shipped bodies cloud_bodies faults it.0 was now it.1 it.2 calls one_more_stands ask task checked opens,
   )
 
   pub keeps_unopened : (ask : Ask) (fault : SiteFault) → IsChecked ask → now.calls ≡ was.calls
       → Refuses bodies faults was [] fault now → Pends was (IsOpening was.book ask) now → Keeps bodies cloud_bodies was now
-  keeps_unopened ask fault checked calls refuses pends = λ o it. (
+  keeps_unopened ask fault checked calls refuses pends = λ it. (
     it.0,
-    task_refused shipped bodies cloud_bodies faults o was now it.0 it.1 calls ask fault checked refuses pends,
+    it.1,
+    task_refused shipped bodies cloud_bodies faults it.0 was now it.1 it.2 calls ask fault checked refuses pends,
   )
 
   pub keeps_carried : (tasks : List ℕ) (worker : ℕ) (result : Result (Unit {0}) SiteFault)
       → Carries bodies faults cloud_bodies cloud_faults tasks worker was result now → Keeps bodies cloud_bodies was now
-  keeps_carried tasks worker result carries = λ o it. (
+  keeps_carried tasks worker result carries = λ it. (
     it.0,
-    carried_good one_more_stands bodies faults cloud_bodies cloud_faults shipped refl o it.0 tasks worker was result now it.1
+    it.1,
+    carried_good one_more_stands bodies faults cloud_bodies cloud_faults shipped refl it.0 it.1 tasks worker was result now it.2
         carries,
   )
 
@@ -127,52 +136,58 @@ module _ {K L : Type 0} {k : keeper.Ghosts K} {l : keeper.Ghosts L} (bodies : K 
       → written_disk was.book.records was.cloud.effects inst ≡ Some disk
       → Changes cloud_bodies cloud_faults was (entries.Write (record { disk = disk; text = text }))
       (moves.Wrote (record { inst = inst; text = text })) now → Keeps bodies cloud_bodies was now
-  keeps_written inst text disk is changes = λ o it. (
+  keeps_written inst text disk is changes = λ it. (
     it.0,
-    wrote_good shipped bodies cloud_bodies cloud_faults o was now it.0 it.1 inst text disk changes.running is changes,
+    it.1,
+    wrote_good shipped bodies cloud_bodies cloud_faults it.0 was now it.1 it.2 inst text disk changes.running is changes,
   )
 
   pub keeps_unwritten : (inst : Inst) (text : List ℕ) (fault : SiteFault)
       → RefusesJob cloud_bodies cloud_faults was (IsWrite was inst text) (IsNotRunning was inst) fault now
       → Keeps bodies cloud_bodies was now
-  keeps_unwritten inst text fault refuses = λ o it. (
+  keeps_unwritten inst text fault refuses = λ it. (
     it.0,
-    write_refused_good shipped bodies cloud_bodies cloud_faults o was now it.0 it.1 inst text fault refuses,
+    it.1,
+    write_refused_good shipped bodies cloud_bodies cloud_faults it.0 was now it.1 it.2 inst text fault refuses,
   )
 
   pub keeps_lost : (inst : Inst) (loss : Loss) → lost_vm was.book.records was.cloud.effects inst ≡ Some loss.vm
       → Changes cloud_bodies cloud_faults was (entries.Lost loss) (moves.Lost loss) now → Keeps bodies cloud_bodies was now
-  keeps_lost inst loss is changes = λ o it. (
+  keeps_lost inst loss is changes = λ it. (
     it.0,
-    lost_good shipped bodies cloud_bodies cloud_faults o was now it.0 it.1 inst loss changes.running is changes,
+    it.1,
+    lost_good shipped bodies cloud_bodies cloud_faults it.0 was now it.1 it.2 inst loss changes.running is changes,
   )
 
   pub keeps_unlost : (inst : Inst) (whole : Bool) (fault : SiteFault)
       → RefusesJob cloud_bodies cloud_faults was (IsLoss was inst whole) (IsMissing was inst) fault now
       → Keeps bodies cloud_bodies was now
-  keeps_unlost inst whole fault refuses = λ o it. (
+  keeps_unlost inst whole fault refuses = λ it. (
     it.0,
-    loss_refused_good shipped bodies cloud_bodies cloud_faults o was now it.0 it.1 inst whole fault refuses,
+    it.1,
+    loss_refused_good shipped bodies cloud_bodies cloud_faults it.0 was now it.1 it.2 inst whole fault refuses,
   )
 
   -- ---- traps, and a restart
 
   pub keeps_armed : (trap : Trap) → Arms was trap now → Keeps bodies cloud_bodies was now
-  keeps_armed trap arms = λ o it. (it.0, armed_good shipped bodies cloud_bodies o was now it.1 trap arms)
+  keeps_armed trap arms = λ it. (it.0, it.1, armed_good shipped bodies cloud_bodies it.0 was now it.2 trap arms)
 
   pub keeps_same : IsSame was now → Keeps bodies cloud_bodies was now
-  keeps_same same = λ o it. (it.0, same_parts_good shipped bodies cloud_bodies o was now it.1 same)
+  keeps_same same = λ it. (it.0, it.1, same_parts_good shipped bodies cloud_bodies it.0 was now it.2 same)
 
   pub keeps_restarted : Restarts bodies faults is_broken cloud_bodies cloud_faults was (Ok tt) None now
       → Keeps bodies cloud_bodies was now
-  keeps_restarted restarts = λ o it. (
+  keeps_restarted restarts = λ it. (
     it.0,
-    goes_on_good shipped bodies faults is_broken cloud_bodies cloud_faults o was now it.0 it.1 (Ok tt) None restarts refl refl,
+    it.1,
+    goes_on_good shipped bodies faults is_broken cloud_bodies cloud_faults it.0 was now it.1 it.2 (Ok tt) None restarts refl refl,
   )
 
   pub keeps_unstarted : (fault : SiteFault)
       → RefusesRestart bodies faults is_broken cloud_bodies cloud_faults was fault now → Keeps bodies cloud_bodies was now
-  keeps_unstarted fault refuses = λ o it. (
+  keeps_unstarted fault refuses = λ it. (
     it.0,
-    refused_good shipped bodies faults is_broken cloud_bodies cloud_faults o was now it.0 it.1 fault refuses,
+    it.1,
+    refused_good shipped bodies faults is_broken cloud_bodies cloud_faults it.0 was now it.1 it.2 fault refuses,
   )

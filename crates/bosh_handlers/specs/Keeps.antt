@@ -7,12 +7,11 @@ use Rattle.bosh_world.specs.declared.site.Site.{Site}
 use Rattle.laws_outside.specs.Shipped.{shipped}
 use Rattle.laws_sites.specs.Good.{IsGood}
 
--- the pair that its history begins on is fit, all that has happened since is permitted, and what it holds is as that tells
+-- its history begins on a fit pair, all that has happened since is permitted, and what it holds is as that tells
 abbrev pub GoesWell : {K L : Type 0} {k : keeper.Ghosts K} {l : keeper.Ghosts L} → (K → Option (List (List ℕ))) →
-    (L → Option (List (List ℕ))) → Opening → Site K L k l → Type 0
-GoesWell bodies cloud_bodies o site = IsFit shipped o × IsGood shipped bodies cloud_bodies o site
+    (L → Option (List (List ℕ))) → Site K L k l → Type 0
+GoesWell bodies cloud_bodies site = (o : Opening) × IsFit shipped o × IsGood shipped bodies cloud_bodies o site
 
--- whatever pair it begins on
 abbrev pub Keeps : {K L : Type 0} {k : keeper.Ghosts K} {l : keeper.Ghosts L} → (K → Option (List (List ℕ))) →
     (L → Option (List (List ℕ))) → Site K L k l → Site K L k l → Type 0
-Keeps bodies cloud_bodies was now = (o : Opening) → GoesWell bodies cloud_bodies o was → GoesWell bodies cloud_bodies o now
+Keeps bodies cloud_bodies was now = GoesWell bodies cloud_bodies was → GoesWell bodies cloud_bodies now

@@ -44,18 +44,18 @@ module _ {K L : Type 0} {k : keeper.Ghosts K} {l : keeper.Ghosts L} (bodies : K 
       by None told_is spelled there = absurd (false≢true there)
 
   pub promised : Promises bodies cloud_bodies store cloud now
-  promised tells cloud_tells hold = kept began.0 (keeps began.0 (began.1, began.2))
+  promised tells cloud_tells hold = kept (keeps began)
     where
-      began : (o : Opening) × IsFit shipped o × IsGood shipped bodies cloud_bodies o was
+      began : GoesWell bodies cloud_bodies was
       began = loaded_good bodies faults is_broken cloud_bodies cloud_faults store cloud was loads tells cloud_tells shipped
           one_more_stands (read_fit hold tells cloud_tells)
 
-      kept : (o : Opening) → GoesWell bodies cloud_bodies o now → IsHeadline bodies cloud_bodies now
-      kept o it = record {
-        opening = o;
-        fit = it.0;
-        counted = it.1.opening;
-        lawful = lawful_run shipped o (story_of now) it.0 it.1.run;
+      kept : GoesWell bodies cloud_bodies now → IsHeadline bodies cloud_bodies now
+      kept it = record {
+        opening = it.0;
+        fit = it.1;
+        counted = it.2.opening;
+        lawful = lawful_run shipped it.0 (story_of now) it.1 it.2.run;
         leaves = λ list cloud_list entries effects.
-            leaves_fit shipped bodies cloud_bodies o now it.0 it.1 list cloud_list entries effects;
+            leaves_fit shipped bodies cloud_bodies it.0 now it.1 it.2 list cloud_list entries effects;
       }

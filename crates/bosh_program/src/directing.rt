@@ -25,7 +25,7 @@ impl<K: Keeper, L: Keeper> Director for Directing<K, L> {
 
     ghost is_halted = { λ it. it.site.history.is_halted };
 
-    ghost is_good = { λ o it. GoesWell K.bodies L.bodies o it.site };
+    ghost is_good = { λ it. GoesWell K.bodies L.bodies it.site };
 
     fn moves(&self) -> &[Move] {
         self.site.moves()

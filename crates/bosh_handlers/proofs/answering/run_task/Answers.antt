@@ -5,5 +5,5 @@ pub returns-in-Ok : goal.returns-in-Ok
 returns-in-Ok g c = record {
   acts = acts_then c.args.site.now c.open_request.new.site c.finish.new.site c.open_request.ensures.acts
       c.finish.ensures.acts;
-  kept = λ o it. c.finish.ensures.kept o (c.open_request.ensures.kept o it);
+  kept = λ it. c.finish.ensures.kept (c.open_request.ensures.kept it);
 }

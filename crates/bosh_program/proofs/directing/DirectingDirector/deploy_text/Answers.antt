@@ -5,5 +5,5 @@ pub returns-in-Ok : goal.returns-in-Ok
 returns-in-Ok g c = record {
   proceeds = acts_then c.args.self.now.site c.open_text.new.site c.finish.new.site c.open_text.ensures.acts
       c.finish.ensures.acts;
-  kept = λ o it. c.finish.ensures.kept o (c.open_text.ensures.kept o it);
+  kept = λ it. c.finish.ensures.kept (c.open_text.ensures.kept it);
 }

@@ -16,15 +16,17 @@ returns-in-Err-clause-refused g c =
     c.in-Err.ensures.refused.1.same_opening
 
 pub returns-in-Ok-clause-kept : goal.returns-in-Ok-clause-kept
-returns-in-Ok-clause-kept g c = λ o it. (
+returns-in-Ok-clause-kept g c = λ it. (
   it.0,
-  said_good shipped g.K.Keeper.bodies g.L.Keeper.bodies o c.args.self.now.site c.say.new.self it.1
+  it.1,
+  said_good shipped g.K.Keeper.bodies g.L.Keeper.bodies it.0 c.args.self.now.site c.say.new.self it.2
       (record { command = c.args.number; reply = c.args.reply }) c.in-Ok.ensures.said,
 )
 
 pub returns-in-Err-clause-kept : goal.returns-in-Err-clause-kept
-returns-in-Err-clause-kept g c = λ o it. (
+returns-in-Err-clause-kept g c = λ it. (
   it.0,
-  unsaid_good shipped g.K.Keeper.bodies g.L.Keeper.bodies o c.args.self.now.site c.say.new.self it.1
+  it.1,
+  unsaid_good shipped g.K.Keeper.bodies g.L.Keeper.bodies it.0 c.args.self.now.site c.say.new.self it.2
       c.in-Err.ensures.refused.0 c.in-Err.ensures.refused.1,
 )
