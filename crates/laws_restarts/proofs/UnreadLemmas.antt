@@ -14,8 +14,6 @@ use Rattle.bosh_journal.specs.Reads as journal_reads
 use Rattle.bosh_journal.specs.Spelled.{Spell, format_of, written_in}
 use Rattle.bosh_journal.specs.declared.fault.JournalFault.{JournalFault}
 use Rattle.bosh_journal.specs.declared.fault.JournalFault.TheVariants as journal_faults
-use Rattle.bosh_journal.specs.declared.format.Format.{Format}
-use Rattle.bosh_journal.specs.declared.format.Format.TheVariants.{Present}
 use Rattle.bosh_moves.specs.Story.{effects_told}
 use Rattle.bosh_ports.specs.Rigged.{RigState}
 use Rattle.bosh_ports.specs.declared.keeper.Keeper as keeper
