@@ -1,5 +1,5 @@
 -- A good site stays good where a restart of it is refused.
-use Rattle.std.proofs.Common.{◌≡◌, ◌∙◌, Bool, true, false, List, [], ◌++◌, Option, Some, None, Ok, Err, ap, append-nil, inl, inr, length, refl, subst, sym}
+use Rattle.std.proofs.Common.{◌≡◌, ◌∙◌, ℕ, Bool, true, false, List, [], ◌++◌, Option, Some, None, Ok, Err, ap, append-nil, inl, inr, length, refl, subst, sym}
 use Rattle.std.specs.Prelude.{◌≢◌, ◌⊎◌, IfSome}
 use Rattle.std.specs.List.{filter_map}
 use Rattle.std.proofs.lemmas.Bool.{false≢true}
