@@ -237,8 +237,7 @@ module _ {K L : Type 0} {k : keeper.Ghosts K} {l : keeper.Ghosts L} (outside : O
     may : IsRunFrom outside (moment_of o was) more
     may = run_from outside (moment_of o was) (first_halt was.history.is_halted)
         (moves.Stop the_stop ∷ map moves.Note ended ++ halts halt)
-        (halted.halt_run outside bodies cloud_bodies o was good)
-        (
+        (halted.halt_run outside bodies cloud_bodies o was good) (
           stop_run.0,
           run_from outside after (map moves.Note ended) (halts halt) it.may (may_halt halt),
           stop_run.2,
