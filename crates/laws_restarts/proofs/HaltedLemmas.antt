@@ -20,8 +20,6 @@ use Rattle.bosh_history.specs.Permitted.{IsRun, IsRunFrom, Stops}
 use Rattle.bosh_journal.specs.Kept as journal
 use Rattle.bosh_journal.specs.Reads as journal_reads
 use Rattle.bosh_journal.specs.Spelled.{Spell, format_of, written_in}
-use Rattle.bosh_journal.specs.declared.format.Format.{Format}
-use Rattle.bosh_journal.specs.declared.format.Format.TheVariants.{Present}
 use Rattle.bosh_ports.specs.declared.keeper.Keeper as keeper
 use Rattle.bosh_world.specs.Restarts.{first_halt}
 use Rattle.bosh_world.specs.Steps.{bodies_of}

@@ -1,6 +1,6 @@
 -- A good site that starts anew is good.
 use Rattle.std.proofs.Common.{◌≡◌, ◌∙◌, ◌<◌, ◌≤◌, ℕ, ◌+◌, ◌-◌, Bool, true, false, List, [], ◌∷◌, ◌++◌, Option, Some, None, Result, Ok, Err}
-use Rattle.std.proofs.Common.{ap, append-nil, append_assoc, arith, drop, inl, inr, length, length-append, map, map-append, min, refl, subst, sym}
+use Rattle.std.proofs.Common.{ap, append-nil, append_assoc, arith, drop, inl, inr, length, length-append, map, min, refl, subst, sym}
 use Rattle.std.specs.Prelude.{◌≢◌, ◌⊎◌, OnOk, fold, is_ok, is_some}
 use Rattle.std.specs.List.{filter_map}
 use Rattle.std.proofs.lemmas.Bool.{false≢true}
@@ -66,6 +66,7 @@ use Rattle.laws_stands.specs.Told.{Told, telling}
 use Rattle.laws_stands_fits.specs.Whole.{StandsWhole}
 use Rattle.laws_stands_kept.proofs.KeptLemmas.{one_more_stands}
 use Rattle.laws_stands_noted.proofs.AgreesLemmas.{move_agrees}
+use Rattle.std.proofs.lemmas.List.{map-append}
 
 -- ---- entries that end tasks
 
@@ -236,8 +237,7 @@ module _ {K L : Type 0} {k : keeper.Ghosts K} {l : keeper.Ghosts L} (outside : O
     may : IsRunFrom outside (moment_of o was) more
     may = run_from outside (moment_of o was) (first_halt was.history.is_halted)
         (moves.Stop the_stop ∷ map moves.Note ended ++ halts halt)
-        (halted.halt_run outside bodies cloud_bodies o was good)
-        (
+        (halted.halt_run outside bodies cloud_bodies o was good) (
           stop_run.0,
           run_from outside after (map moves.Note ended) (halts halt) it.may (may_halt halt),
           stop_run.2,

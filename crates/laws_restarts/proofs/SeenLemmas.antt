@@ -1,8 +1,8 @@
 -- What a restart sees of the entries: the one that was kept, where one was, and those that it notes.
-use Rattle.std.proofs.Common.{◌≡◌, ◌∙◌, ◌<◌, ◌≤◌, ℕ, ◌+◌, Bool, true, false, List, [], ◌∷◌, ◌++◌, Option, Some, None, ap, append-nil, arith, drop, length, length-append, map, min, refl, subst, suc, sym}
+use Rattle.std.proofs.Common.{◌≡◌, ◌∙◌, ◌<◌, ◌≤◌, ℕ, ◌+◌, Bool, true, false, List, [], ◌∷◌, ◌++◌, Option, Some, None, ap, append-nil, arith, drop, length, length-append, map, min, refl, subst, sym}
 use Rattle.std.specs.Prelude.{nat_lt, slice_get}
 use Rattle.std.specs.List.{filter_map}
-use Rattle.std.proofs.lemmas.Bool.{lt-ltb}
+use Rattle.std.proofs.lemmas.Bool.{lt-ltb, ltb-true}
 use Rattle.bosh_base.specs.declared.entry.Entry.{Entry}
 use Rattle.bosh_base.specs.declared.moves.Cause.{Cause}
 use Rattle.bosh_base.specs.declared.moves.Move.TheVariants as moves
@@ -10,6 +10,7 @@ use Rattle.bosh_history.specs.Moments.{durable_entry}
 use Rattle.bosh_moves.specs.Found.{kept_at}
 use Rattle.bosh_moves.specs.Story.{halts, kept_count}
 use Rattle.bosh_world.specs.Restarts.{first_halt}
+use Rattle.laws_restarts.proofs.StopLemmas.{drop_front}
 use Rattle.laws_sites.specs.Good.{listed}
 
 seam : (es ended : List Entry) (e : Entry) → slice_get ((es ++ e ∷ []) ++ ended) (length es) ≡ Some e
@@ -17,16 +18,22 @@ seam [] ended e = refl
 seam (x ∷ es) ended e = seam es ended e
 
 behind : (es ended : List Entry) (e : Entry) → drop (length es + 1) ((es ++ e ∷ []) ++ ended) ≡ ended
-behind [] ended e = refl
-behind (x ∷ es) ended e = behind es ended e
+behind es ended e =
+    ap (λ n. drop n ((es ++ e ∷ []) ++ ended)) (sym (length-append es (e ∷ []))) ∙ drop_front (es ++ e ∷ []) ended
 
 behind_all : (es ended : List Entry) → drop (length es + 0) ((es ++ []) ++ ended) ≡ ended
-behind_all [] ended = refl
-behind_all (x ∷ es) ended = behind_all es ended
+behind_all es ended =
+    ap (λ n. drop n ((es ++ []) ++ ended)) (sym (length-append es [])) ∙ drop_front (es ++ []) ended
 
 not_less : (n : ℕ) → nat_lt n n ≡ false
-not_less zero = refl
-not_less (suc n) = not_less n
+not_less n = by (nat_lt n n) refl
+  where
+    over : (a : ℕ) → a < a → ⊥
+    over a less = grind (arith, less)
+
+    by : (b : Bool) → nat_lt n n ≡ b → nat_lt n n ≡ false
+    by false is = is
+    by true is = absurd (over n (ltb-true n n is))
 
 -- what was kept and what was noted since, where so many entries were read
 pub record IsSeen (es all : List Entry) (read : ℕ) (kept : Option Entry) (ended : List Entry) : Type 0 where

@@ -1,5 +1,5 @@
 -- A good site stays good where a restart of it is refused.
-use Rattle.std.proofs.Common.{◌≡◌, ◌∙◌, Bool, true, false, List, [], ◌++◌, Option, Some, None, Ok, Err, ap, append-nil, inl, inr, length, refl, subst, sym}
+use Rattle.std.proofs.Common.{◌≡◌, ◌∙◌, ℕ, Bool, true, false, List, [], ◌++◌, Option, Some, None, Ok, Err, ap, append-nil, inl, inr, length, refl, subst, sym}
 use Rattle.std.specs.Prelude.{◌≢◌, ◌⊎◌, IfSome}
 use Rattle.std.specs.List.{filter_map}
 use Rattle.std.proofs.lemmas.Bool.{false≢true}
@@ -14,8 +14,6 @@ use Rattle.bosh_journal.specs.Reads as journal_reads
 use Rattle.bosh_journal.specs.Spelled.{Spell, format_of, written_in}
 use Rattle.bosh_journal.specs.declared.fault.JournalFault.{JournalFault}
 use Rattle.bosh_journal.specs.declared.fault.JournalFault.TheVariants as journal_faults
-use Rattle.bosh_journal.specs.declared.format.Format.{Format}
-use Rattle.bosh_journal.specs.declared.format.Format.TheVariants.{Present}
 use Rattle.bosh_moves.specs.Story.{effects_told}
 use Rattle.bosh_ports.specs.Rigged.{RigState}
 use Rattle.bosh_ports.specs.declared.keeper.Keeper as keeper

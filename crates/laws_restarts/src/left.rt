@@ -22,7 +22,10 @@ pub fn what_a_good_site_leaves_is_fit<K: Keeper, L: Keeper>(site: &Site<K, L>)
 {}
 
 /// So a site that is loaded on its two stores is good as well, and begins on a fit pair.
-pub fn a_load_of_what_a_good_site_left_is_good<K: Keeper, L: Keeper>(was: &Site<K, L>, now: &Site<K, L>)
+pub fn a_load_of_what_a_good_site_left_is_good<K: Keeper, L: Keeper>(
+    was: &Site<K, L>,
+    now: &Site<K, L>,
+)
     ensures { (outside : Outside) (before : Opening) → IsFit outside before
         → IsGood outside K.bodies L.bodies before was.now
         → Loads K.bodies K.faults K.is_broken L.bodies L.faults was.now.book.journal.store.inner was.now.cloud.store

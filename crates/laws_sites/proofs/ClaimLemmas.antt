@@ -67,7 +67,7 @@ later_then : (m : Moment) (one other : List Entry) → fold later m (map moves.N
 later_then m [] other = refl
 later_then m (e ∷ one) other = later_then (noting m e) one other
 
-run_then : (outside : Outside) (m : Moment) (one other : List Entry) → IsRunFrom outside m (map moves.Note (one ++ other))
+pub run_then : (outside : Outside) (m : Moment) (one other : List Entry) → IsRunFrom outside m (map moves.Note (one ++ other))
     → IsRunFrom outside m (map moves.Note one)
     × IsRunFrom outside (fold later m (map moves.Note one)) (map moves.Note other)
 run_then outside m [] other may = (tt, may)

@@ -112,6 +112,9 @@ module _ (one_more : OneMoreStands) {K L : Type 0} {k : keeper.Ghosts K} {l : ke
           whole = has.notes.whole;
         })
 
+        numbers : has_numbers (fold later m (map moves.Note updates)).known ≡ true
+        numbers = numbered_updated m updates are good.numbers
+
         pending : refusal ≡ book.StoreFault
             → MayPend outside (stopped (fold later m (map moves.Note updates))) now.book.journal.is_broken
             now.book.journal.pending
@@ -133,9 +136,6 @@ module _ (one_more : OneMoreStands) {K L : Type 0} {k : keeper.Ghosts K} {l : ke
                 (subst (λ (es : List Entry). has_numbers (fold later m (map moves.Note es)).known ≡ true) (sym same)
                 numbers) there
             by why is pends = absurd (let no = is in cc)
-
-        numbers : has_numbers (fold later m (map moves.Note updates)).known ≡ true
-        numbers = numbered_updated m updates are good.numbers
 
         goes_on : Notes bodies faults was updates None now → IsGood outside bodies cloud_bodies o now
         goes_on noted =

@@ -86,7 +86,7 @@ module _ (outside : Outside) (m : Moment) (wrote : Option Entry) (took : List �
       λ found says. left found (same_found found effects (sym says ∙ tells) ∙ is)
   in_cloud (Some list) true (Some body) effects is come (inr (entry, spelled, tells)) =
       λ found says. left_more body entry found spelled
-          (same_found found (effects ++ entry ∷ []) (sym says ∙ tells) ∙ ap (λ es. es ++ entry ∷ []) is) come
+      (same_found found (effects ++ entry ∷ []) (sym says ∙ tells) ∙ ap (λ es. es ++ entry ∷ []) is) come
   in_cloud (Some list) true None effects is come (inr none) = absurd none
 
 -- ---- the director's store
@@ -100,9 +100,9 @@ same_spelled (x ∷ xs) (y ∷ ys) is =
     let parts = heads x y (map Some xs) (map Some ys) is in
     (λ i. parts.0 i ∷ same_spelled xs ys parts.1 i)
   where
-    heads : (a b : Entry) (as bs : List (Option Entry)) → ◌≡◌ {A = List (Option Entry)} (Some a ∷ as) (Some b ∷ bs)
-        → (a ≡ b) × (as ≡ bs)
-    heads a b as bs same = (cc, cc)
+    heads : (a b : Entry) (rest others : List (Option Entry))
+        → ◌≡◌ {A = List (Option Entry)} (Some a ∷ rest) (Some b ∷ others) → (a ≡ b) × (rest ≡ others)
+    heads a b rest others same = (cc, cc)
 
 pub same_entries : (list : List (List ℕ)) (xs ys : List Entry) → Spell list xs → Spell list ys → xs ≡ ys
 same_entries list xs ys one other = same_spelled xs ys (sym one ∙ other)

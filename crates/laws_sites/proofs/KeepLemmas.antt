@@ -29,6 +29,7 @@ use Rattle.laws_sites.specs.Good.{GoesOn, HasHalted, IsGood, IsRecorded, moment_
 use Rattle.laws_stands_fits.specs.Whole.{StandsWhole}
 use Rattle.bosh_history.specs.Fit.{has_numbers}
 use Rattle.bosh_journal.specs.Spelled.{Spell}
+use Rattle.bosh_base.specs.declared.entry.Entry.{Entry}
 
 -- ---- what stays of a book, of a cloud, and of a site
 

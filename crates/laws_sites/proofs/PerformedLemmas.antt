@@ -31,6 +31,7 @@ use Rattle.laws_sites.specs.Calls.{AreCalls, AreRising}
 use Rattle.laws_sites.specs.Good.{GoesOn, IsGood, IsRecorded, moment_of}
 use Rattle.laws_stands_fits.specs.Whole.{StandsWhole}
 use Rattle.laws_stands_noted.proofs.AgreesLemmas.{move_agrees}
+use Rattle.bosh_base.specs.declared.entry.Entry.{Entry}
 
 module _ {K L : Type 0} {k : keeper.Ghosts K} {l : keeper.Ghosts L} (outside : Outside) (bodies : K → Option (List (List ℕ)))
     (cloud_bodies : L → Option (List (List ℕ))) (cloud_faults : L → ℕ) (o : Opening) (was now : Site K L k l) (permit : Granted)

@@ -1,6 +1,6 @@
 -- A site whose history is permitted: it began on a pair of stores, each move was permitted, and its book, its cloud and its
 -- open calls are as that history tells.
-use Rattle.std.specs.Prelude.{◌≡◌, ◌≢◌, ℕ, Bool, true, false, List, [], ◌∷◌, ◌++◌, Option, Some, length, fold}
+use Rattle.std.specs.Prelude.{◌≡◌, ◌≢◌, ℕ, Bool, true, false, List, [], ◌∷◌, ◌++◌, Option, Some, length, fold, None, Ok}
 use Rattle.bosh_base.specs.declared.entry.Entry.{Entry}
 use Rattle.bosh_book.specs.declared.standing.Standing.TheVariants.{Unread}
 use Rattle.bosh_cloud.specs.Loading as cloud
@@ -12,7 +12,6 @@ use Rattle.bosh_history.specs.Permitted.{HasSourceWhere, IsRun, MayKeep, MayTake
 use Rattle.bosh_history.specs.Recovered.{is_recovering}
 use Rattle.bosh_journal.specs.Kept as journal
 use Rattle.bosh_journal.specs.Spelled.{Spell, format_of}
-use Rattle.bosh_journal.specs.declared.format.Format.TheVariants.{Present}
 use Rattle.bosh_moves.specs.Story.{effects_told}
 use Rattle.bosh_ports.specs.declared.keeper.Keeper as keeper
 use Rattle.bosh_world.specs.Steps.{bodies_of}
@@ -65,9 +64,9 @@ FindsIn None Says Is = ⊥
 abbrev pub SayDone : List (List ℕ) → List Entry → Type 0
 SayDone bodies effects = effects_in bodies ≡ Ok effects
 
--- bodies are in the present format
+-- bodies are in the present format, as none are
 abbrev pub IsPresent : Option (List (List ℕ)) → Type 0
-IsPresent (Some bodies) = format_of bodies ≡ Present
+IsPresent (Some bodies) = format_of bodies ≡ format_of []
 IsPresent None = ⊥
 
 -- it has halted: what is found in both stores is what a permitted stop leaves
