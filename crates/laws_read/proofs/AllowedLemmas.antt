@@ -15,7 +15,7 @@ use Rattle.bosh_history.specs.Fit.{AreShortened, AreStoredAs, IsFit, IsStoredAs,
 use Rattle.bosh_history.specs.Fit.{plain_entry}
 use Rattle.bosh_history.specs.Known.{Known}
 use Rattle.bosh_history.specs.Learn.{known_of, learn}
-use Rattle.bosh_history.specs.Moments.{Moment, Opening, beginning, durable, durable_entry, later, moment}
+use Rattle.bosh_history.specs.Moments.{Moment, Opening, beginning, durable, durable_entry, later}
 use Rattle.bosh_history.specs.Notes.{Outside}
 use Rattle.bosh_history.specs.Openings.{HasSource, deploys}
 use Rattle.bosh_history.specs.Permitted.{HasSourceWhere, IsPermitted, IsRun, IsRunFrom, MayKeep, TellsSource}
@@ -26,24 +26,21 @@ use Rattle.bosh_records.specs.declared.records.Records.{Records}
 use Rattle.bosh_rows.specs.SoundSnapshot.{is_sound_snapshot}
 use Rattle.laws_allowed_openings.proofs.AllowedLemmas.{note_is_allowed}
 use Rattle.laws_allowed_openings.specs.Sources.{MayTellSource}
-use Rattle.laws_held.proofs.HeldLemmas.{run_holds}
 use Rattle.laws_held.specs.Whole.{Whole}
-use Rattle.laws_read.proofs.FitLemmas.{fit_tellable, snapshot_readable}
 use Rattle.laws_read.proofs.MoveLemmas.{noted_by}
 use Rattle.laws_read.proofs.NoteLemmas.{with_known}
 use Rattle.laws_read.proofs.ReadLemmas.{AreLearned, agrees_later, fit_stands, numbers_before, rest_agrees}
-use Rattle.laws_read.proofs.SoundLemmas.{plain_sound, snapshot_sound}
 use Rattle.laws_read.proofs.StoredLemmas.{IsParted, all_stored_twice, shortened_twice, stored_parted}
 use Rattle.laws_read.proofs.WalkLemmas.{told_behind, walked_back}
 use Rattle.laws_read.specs.Allowed.{AreAllowed}
 use Rattle.laws_read.specs.AtRest.{StandsAtRest}
 use Rattle.laws_runs.proofs.PlainLemmas.{stored_told}
+use Rattle.laws_snapshots.proofs.MomentLemmas.{run_snapshot}
+use Rattle.laws_snapshots.proofs.SnapshotLemmas.{plain_sound}
 use Rattle.laws_stands.specs.Agrees.{Agrees}
 use Rattle.laws_stands.specs.Told.{Told, telling}
 use Rattle.laws_stands_fits.specs.Whole.{StandsWhole}
 use Rattle.laws_stands_kept.proofs.KeptLemmas.{one_more_stands}
-use Rattle.laws_stands_snapshots.specs.Built.{AreBuiltInOrder}
-use Rattle.laws_stands_snapshots.specs.Readable.{IsReadable}
 
 -- ---- sources
 
@@ -192,17 +189,8 @@ module _ (outside : Outside) (first : Records) (is_first : recorded first ≡ no
       → (known_of start).last_call < 18446744073709551615 → AreAllowed first start) where
     sound : is_sound_snapshot (snapshot_of (known_of (durable before session))) ≡ true
     sound =
-        subst (λ (k : Known). is_sound_snapshot (snapshot_of k) ≡ true) known
-        (snapshot_sound (moment before session) (run_holds outside before session fit pair.is_run).holds
-        (subst (λ (k : Known). IsReadable (snapshot_of k)) (sym known) can.0)
-        (subst (λ (k : Known). AreBuiltInOrder k.built) (sym known) can.1))
-      where
-        known : (moment before session).known ≡ known_of (durable before session)
-        known = known_by_entries before session
-
-        can : IsReadable (snapshot_of (known_of (durable before session)))
-            × AreBuiltInOrder (known_of (durable before session)).built
-        can = snapshot_readable outside before next session fit pair (fit_tellable outside before fit)
+        subst (λ (k : Known). is_sound_snapshot (snapshot_of k) ≡ true) (known_by_entries before session)
+        (run_snapshot outside before session fit pair.is_run)
 
     shortened_allowed : (start : List Entry) → AreShortened start (durable before session) → AreAllowed first start
     shortened_allowed [] short = absurd short

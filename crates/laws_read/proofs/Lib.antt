@@ -3,7 +3,6 @@ pub mod FitLemmas
 pub mod MoveLemmas
 pub mod NoteLemmas
 pub mod ReadLemmas
-pub mod SoundLemmas
 pub mod StoredLemmas
 pub mod TellableLemmas
 pub mod WalkLemmas

@@ -6,7 +6,6 @@ use Rattle.std.proofs.Common.{◌+◌}
 use Rattle.std.specs.Prelude.{◌==◌, eqb, filter, if◌then◌else◌, is_some}
 use Rattle.std.specs.List.{list_all, list_any}
 use Rattle.std.specs.Str.{bytes_eq}
-use Rattle.bosh_base.specs.declared.entry.Begin.{Begin}
 use Rattle.bosh_base.specs.declared.entry.Entry.{Entry}
 use Rattle.bosh_base.specs.declared.entry.Entry.TheVariants as entries
 use Rattle.bosh_base.specs.declared.entry.TaskOpen.{TaskOpen}
@@ -23,7 +22,7 @@ use Rattle.bosh_base.specs.declared.task.TaskKind.TheVariants as kinds
 use Rattle.bosh_base.specs.declared.view.Held.{Held}
 use Rattle.bosh_history.specs.Fit.{IsStoredAs, plain_entry, plain_opening}
 use Rattle.bosh_history.specs.Goals.{canaries_first, is_waiting, may_begin, to_change, to_delete}
-use Rattle.bosh_history.specs.Held.{held, held_elsewhere, is_open}
+use Rattle.bosh_history.specs.Held.{held, held_elsewhere}
 use Rattle.bosh_history.specs.Items.{candidates, is_before, is_finished, is_in_deployment, is_item, is_to_change, is_to_go}
 use Rattle.bosh_history.specs.Items.{is_to_ping, phase_of}
 use Rattle.bosh_history.specs.Known.{Known, Slot}

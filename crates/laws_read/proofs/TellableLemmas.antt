@@ -1,72 +1,61 @@
 -- What a snapshot that is to be read needs of what is known, beside all facts: it goes on to be so after each entry that may be
 -- noted, so that a snapshot of what is known can be read wherever nothing is under way.
-use Rattle.std.proofs.Common.{◌≡◌, ◌∙◌, ◌+◌, ◌≤◌, ℕ, Bool, true, false, ◌&&◌, ◌||◌, not, Option, Some, None, List, [], ◌∷◌}
+use Rattle.std.proofs.Common.{◌≡◌, ◌∙◌, ◌+◌, ◌≤◌, ℕ, Bool, true, false, ◌&&◌, Option, Some, None, List, [], ◌∷◌}
 use Rattle.std.proofs.Common.{ap, arith, inl, inr, map, refl, subst, sym}
-use Rattle.std.specs.Prelude.{◌==◌, eqb, length, if◌then◌else◌}
-use Rattle.std.specs.List.{list_all, list_any}
+use Rattle.std.specs.Prelude.{eqb, length, if◌then◌else◌}
+use Rattle.std.specs.List.{list_all}
 use Rattle.std.specs.Option.{option_map}
 use Rattle.std.specs.Str.{bytes_eq}
-use Rattle.std.proofs.lemmas.Bool.{eqb-true, false≢true, not-true, true≢false}
+use Rattle.std.proofs.lemmas.Bool.{eqb-true, false≢true}
 use Rattle.bosh_base.specs.declared.answer.Answer.{Answer}
 use Rattle.bosh_base.specs.declared.answer.Answer.TheVariants as answers
 use Rattle.bosh_base.specs.declared.call.Call.{Call}
 use Rattle.bosh_base.specs.declared.call.Call.TheVariants as calls
-use Rattle.bosh_base.specs.declared.digest.Digest.{Digest}
 use Rattle.bosh_base.specs.declared.entry.Begin.{Begin}
-use Rattle.bosh_base.specs.declared.entry.End.{End}
 use Rattle.bosh_base.specs.declared.entry.Entry.{Entry}
 use Rattle.bosh_base.specs.declared.entry.Entry.TheVariants as entries
 use Rattle.bosh_base.specs.declared.goal.Goal.{Goal}
 use Rattle.bosh_base.specs.declared.goal.GoalRow.{GoalRow}
 use Rattle.bosh_base.specs.declared.inst.Inst.{Inst}
-use Rattle.bosh_base.specs.declared.key.KeyWork.{KeyWork}
 use Rattle.bosh_base.specs.declared.moves.Move.{Move}
 use Rattle.bosh_base.specs.declared.owner.Owner.{Owner}
 use Rattle.bosh_base.specs.declared.owner.Owner.TheVariants.{Instance}
-use Rattle.bosh_base.specs.declared.snapshot.BuiltKey.{BuiltKey}
 use Rattle.bosh_base.specs.declared.snapshot.Snapshot.{Snapshot}
 use Rattle.bosh_base.specs.declared.task.TaskKind.{TaskKind}
 use Rattle.bosh_base.specs.declared.task.TaskKind.TheVariants as kinds
 use Rattle.bosh_base.specs.declared.task.TaskRow.{TaskRow}
 use Rattle.bosh_history.proofs.KnownLemmas.{known_later, learned}
-use Rattle.bosh_history.specs.Calls.{call_ended, compiles, ends_of, task_after_ping, task_told, task_with_call}
+use Rattle.bosh_history.specs.Calls.{call_ended, task_after_ping, task_told, task_with_call}
 use Rattle.bosh_history.specs.Fit.{IsStoredAs, plain, plain_row}
 use Rattle.bosh_history.specs.Known.{Known, Task, dep_of_task, no_task, nothing_known, want_in}
 use Rattle.bosh_history.specs.Learn.{learn}
-use Rattle.bosh_history.specs.Moments.{Moment, OpenCall, durable_entry, later}
-use Rattle.bosh_history.specs.Notes.{EndsCall, MayNote, Outside}
+use Rattle.bosh_history.specs.Moments.{Moment, durable_entry, later}
+use Rattle.bosh_history.specs.Notes.{MayNote, Outside}
 use Rattle.bosh_history.specs.Permitted.{IsPermitted, MayKeep}
 use Rattle.bosh_history.specs.Rolling.{is_within_limit}
-use Rattle.bosh_history.specs.Slots.{is_compiled}
 use Rattle.bosh_history.specs.Snapshots.{known_by, snapshot_of}
 use Rattle.bosh_history.specs.Tasks.{settles, task_opened}
 use Rattle.bosh_history.specs.Updates.{update_at, update_done}
-use Rattle.bosh_history.specs.Words.{at, inserted, is_among}
+use Rattle.bosh_history.specs.Words.{at, is_among}
 use Rattle.bosh_roll.specs.declared.upd.Upd.TheVariants.{Busy, Finished}
-use Rattle.bosh_rows.specs.SoundSnapshot.{are_numbered, built_cmp}
-use Rattle.bosh_rows.specs.Standing.{same_truth}
-use Rattle.laws_facts.proofs.BuiltLemmas.{same_answered, same_begun, same_settled, same_updated}
 use Rattle.laws_facts.proofs.FrameLemmas.{numbers_done, numbers_end, numbers_updated}
-use Rattle.laws_facts.specs.CallFacts.{CallFacts}
 use Rattle.laws_facts.specs.KnownFacts.{KnownFacts}
-use Rattle.laws_facts.specs.Lists.{is_built_for}
-use Rattle.laws_facts.specs.OpenCalls.{compiles_new}
 use Rattle.laws_facts.specs.Tasks.{is_open_task}
 use Rattle.laws_read.proofs.MoveLemmas.{noted_by}
 use Rattle.laws_row_facts.specs.Words.{implies}
 use Rattle.laws_runs.proofs.RestLemmas.{Outlasts, Rests, facts_rest, reopened}
 use Rattle.laws_recovery.specs.First.{told_first}
+use Rattle.laws_snapshots.proofs.BuiltLemmas.{note_in_order}
+use Rattle.laws_snapshots.proofs.SnapshotLemmas.{plain_numbered}
 use Rattle.laws_stands.specs.Agrees.{Agrees}
 use Rattle.laws_stands.specs.Told.{TellsWell, Told}
 use Rattle.laws_stands_fits.specs.Own.{TellsOwn}
 use Rattle.laws_stands_kept.proofs.CountLemmas.{few_after}
 use Rattle.laws_stands_kept.proofs.SharedLemmas.{unshared_after}
-use Rattle.laws_stands_snapshots.proofs.BuiltLemmas.{key_flip}
-use Rattle.laws_stands_snapshots.proofs.BuiltOrderLemmas.{one_more_in_order}
 use Rattle.laws_stands_snapshots.proofs.CanReadLemmas.{can_be_read}
 use Rattle.laws_stands_snapshots.proofs.TellsLemmas.{own, well}
 use Rattle.laws_stands_snapshots.specs.Built.{AreBuiltInOrder}
-use Rattle.laws_stands_snapshots.specs.Readable.{IsReadable, is_counted, same_built}
+use Rattle.laws_stands_snapshots.specs.Readable.{IsReadable, is_counted}
 
 -- compile machines are no more than calls, what is not recorded offers nothing, no task counts more calls than there were, and
 -- compiled keys stand in their order
@@ -192,67 +181,6 @@ counted_after outside m e may was t c is =
     still_low c m.known.last_call (learn m.known e).last_call (was t c (sym (calls_same m.known e tt t) ∙ is))
     (calls_grow outside m e may)
 
--- ---- compiled keys
-
--- a key that is not compiled is not listed
-not_listed : (k : Known) (work : KeyWork) (digest : Digest)
-    → same_truth (list_any (is_built_for work.key) k.built) (is_compiled k work.key) ≡ true
-    → not (is_compiled k work.key) ≡ true
-    → list_any (same_built (record { name = work.name; key = work.key; digest = digest })) k.built ≡ false
-not_listed k work digest truth new =
-    flipped k.built
-    ∙ none (list_any (is_built_for work.key) k.built) (is_compiled k work.key) truth (not-true (is_compiled k work.key) new)
-  where
-    none : (a b : Bool) → same_truth a b ≡ true → b ≡ false → a ≡ false
-    none true true truth is = absurd (true≢false is)
-    none true false truth is = absurd (false≢true truth)
-    none false b truth is = refl
-
-    flipped : (built : List BuiltKey)
-        → list_any (same_built (record { name = work.name; key = work.key; digest = digest })) built
-        ≡ list_any (is_built_for work.key) built
-    flipped [] = refl
-    flipped (each ∷ built) = λ j. key_flip work.key each.key j || flipped built j
-
--- an open call ends
-module _ (m : Moment) (facts : KnownFacts m) (was : AreBuiltInOrder m.known.built) where
-  compiled_after : (b : Begin) (now : Known) → now.built ≡ m.known.built → (call : Call) (answer : Answer)
-      → compiles_new m.known call ≡ true → AreBuiltInOrder (compiles call answer now).built
-  compiled_after b now same (calls.CompilePackage vm work deps) (answers.Built digest) new =
-      subst (λ (built : List BuiltKey).
-      AreBuiltInOrder (inserted built_cmp (record { name = work.name; key = work.key; digest = digest }) built))
-      (sym same)
-      (one_more_in_order (record { name = work.name; key = work.key; digest = digest }) m.known.built
-      (not_listed m.known work digest (facts.lists.key_listed work.key) new) was)
-  compiled_after b now same (calls.CompilePackage vm work deps) answer new = subst AreBuiltInOrder (sym same) was
-  compiled_after b now same call answer new = subst AreBuiltInOrder (sym same) was
-
-  ended_after : (e : End) → EndsCall e (m.calls e.n) → AreBuiltInOrder (learn m.known (entries.End e)).built
-  ended_after e ends = by (m.calls e.n) refl ends
-    where
-      by : (call : Option OpenCall) → m.calls e.n ≡ call → EndsCall e call
-          → AreBuiltInOrder (learn m.known (entries.End e)).built
-      by (Some call) is ends =
-          let known : CallFacts m e.n call = facts.calls e.n call is in
-          subst (λ (begun : Option Begin). AreBuiltInOrder (call_ended e.answer begun m.known).built) (sym known.begun)
-          (compiled_after call.begin (ends_of call.begin e.answer call.begin.owner m.known)
-          (same_answered call.begin e.answer call.begin.owner m.known).built call.begin.call e.answer known.compiles_new)
-      by None is ends = absurd ends
-
-built_after : (outside : Outside) (m : Moment) (e : Entry) → KnownFacts m → MayNote outside m e
-    → AreBuiltInOrder m.known.built → AreBuiltInOrder (learn m.known e).built
-built_after outside m (entries.Begin b) facts may was =
-    subst AreBuiltInOrder (sym (same_begun b b.owner m.known).built) was
-built_after outside m (entries.End e) facts may was = ended_after m facts was e may
-built_after outside m (entries.UpdDone u) facts may was =
-    subst AreBuiltInOrder
-    (sym (same_updated (want_in (m.known.task u.task).goal u.inst) u.inst m.known).built) was
-built_after outside m (entries.TaskDone t) facts may was =
-    subst AreBuiltInOrder
-    (sym (same_settled (m.known.task t).kind (m.known.task t).goal (dep_of_task m.known t) m.known).built) was
-built_after outside m (entries.Snapshot s) facts may was = absurd may
-built_after outside m e facts may was = was
-
 -- ---- each move keeps it
 
 tellable_learned : (outside : Outside) (m : Moment) (kept : Option Entry) → KnownFacts m → MayKeep outside m kept
@@ -261,7 +189,7 @@ tellable_learned outside m (Some e) facts (may, follows) was = record {
   few = few_after outside m e may was.few;
   unshared = unshared_after outside m e facts may follows was.unshared;
   counted = counted_after outside m e may was.counted;
-  built = built_after outside m e facts may was.built;
+  built = note_in_order m facts outside e may was.built;
 }
 tellable_learned outside m None facts may was = was
 
@@ -361,10 +289,6 @@ module _ (m : Moment) (rests : Rests m) (facts : KnownFacts m) (tellable : IsTel
       seen_own tellable.built
 
 -- .. also in the older format
-pub numbered_plain : (last : ℕ) (rows : List TaskRow) → are_numbered last (map plain_row rows) ≡ are_numbered last rows
-numbered_plain last [] = refl
-numbered_plain last (row ∷ rows) = λ j. row.task == last + 1 && numbered_plain row.task rows j
-
 counted_plain : (last : ℕ) (rows : List TaskRow) → list_all (is_counted last) (map plain_row rows) ≡ true
 counted_plain last [] = refl
 counted_plain last (row ∷ rows) = counted_plain last rows
@@ -377,7 +301,7 @@ plain_readable s it = record {
   orphans_apart = it.orphans_apart;
   keys_apart = it.keys_apart;
   own_rows = it.own_rows;
-  numbered = numbered_plain 0 s.tasks ∙ it.numbered;
+  numbered = plain_numbered 0 s.tasks ∙ it.numbered;
   counted = counted_plain s.last_call s.tasks;
   few = it.few;
 }

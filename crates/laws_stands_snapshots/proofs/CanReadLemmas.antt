@@ -87,7 +87,7 @@ module _ {X R : Type 0} (same : X → X → Bool) (record_of : X → Option R) (
       by None is none more = (λ j. are_distinct test (cons_option (is j) (filter_map record_of xs))) ∙ more
 
 -- what holds of each record holds of all
-all_recorded : {X R : Type 0} (p : R → Bool) (record_of : X → Option R)
+pub all_recorded : {X R : Type 0} (p : R → Bool) (record_of : X → Option R)
     → ((x : X) (r : R) → record_of x ≡ Some r → p r ≡ true) → (xs : List X) → list_all p (filter_map record_of xs) ≡ true
 all_recorded p record_of each [] = refl
 all_recorded {X} {R} p record_of each (x ∷ xs) = by (record_of x) refl (all_recorded p record_of each xs)
@@ -99,7 +99,7 @@ all_recorded {X} {R} p record_of each (x ∷ xs) = by (record_of x) refl (all_re
         ∙ and_from (p r) (list_all p (filter_map record_of xs)) (each x r is) more
     by None is more = (λ j. list_all p (cons_option (is j) (filter_map record_of xs))) ∙ more
 
-all_mapped : {X R : Type 0} (p : R → Bool) (f : X → R) → ((x : X) → p (f x) ≡ true) → (xs : List X)
+pub all_mapped : {X R : Type 0} (p : R → Bool) (f : X → R) → ((x : X) → p (f x) ≡ true) → (xs : List X)
     → list_all p (map f xs) ≡ true
 all_mapped p f each [] = refl
 all_mapped p f each (x ∷ xs) = and_from (p (f x)) (list_all p (map f xs)) (each x) (all_mapped p f each xs)
@@ -141,7 +141,8 @@ how_many (suc n) =
     next more = omega arith
 
 module _ (k : Known) where
-  tasks_numbered : (n : ℕ) → are_numbered 0 (map (task_row k) (numbers_to n)) ≡ true
+  -- tasks are numbered one after another
+  pub tasks_numbered : (n : ℕ) → are_numbered 0 (map (task_row k) (numbers_to n)) ≡ true
   tasks_numbered zero = refl
   tasks_numbered (suc n) =
       ap (are_numbered 0) (map-append (task_row k) (numbers_to n) (suc n ∷ []))
@@ -169,7 +170,8 @@ module _ (m : Moment) (h : KnownFacts m) where
           sym (ap (λ (it : DepRow). it.dep) e)
       by None is = absurd cc
 
-  deployments_apart : are_distinct same_deployment (snapshot_of k).deployments ≡ true
+  -- no deployment is listed twice
+  pub deployments_apart : are_distinct same_deployment (snapshot_of k).deployments ≡ true
   deployments_apart =
       recorded_apart bytes_eq (dep_row k) (λ (it : DepRow). it.dep) dep_named k.deployments h.lists.deployments_apart
 

@@ -1,10 +1,5 @@
-pub mod BuiltLemmas
 pub mod DamageLemmas
 pub mod FreshLemmas
 pub mod LeftLemmas
-pub mod ListedLemmas
-pub mod MomentLemmas
 pub mod OutsideLemmas
 pub mod ShippedLemmas
-pub mod SnapshotLemmas
-pub mod TaskLemmas

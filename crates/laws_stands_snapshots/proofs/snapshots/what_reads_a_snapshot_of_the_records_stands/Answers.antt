@@ -1,10 +1,9 @@
 use Rattle.std.proofs.Common.{◌≡◌, subst, sym}
 use Rattle.bosh_base.specs.declared.entry.Entry.TheVariants as entries
 use Rattle.bosh_base.specs.declared.snapshot.Snapshot.{Snapshot}
-use Rattle.bosh_history.specs.Moments.{Moment}
 use Rattle.bosh_history.specs.Snapshots.{snapshot_of}
 use Rattle.bosh_records.specs.Recorded.{recorded}
-use Rattle.laws_stands.specs.Told.{Told, telling}
+use Rattle.laws_stands.specs.Told.{telling}
 use Rattle.laws_stands_fits.specs.Whole.{StandsWhole}
 use Rattle.laws_stands_snapshots.proofs.BuiltLemmas.{built_are}
 use Rattle.laws_stands_snapshots.proofs.CanReadLemmas.{can_be_read}

@@ -1,13 +1,13 @@
--- Tasks as a snapshot lists them: they are numbered one after another, and no two open ones have one lock.
-use Rattle.std.proofs.Common.{◌≡◌, ◌∙◌, ◌≤◌, ℕ, ◌+◌, zero, suc, Bool, true, false, ◌&&◌, ◌||◌, ◌==◌, List, [], ◌∷◌, ◌++◌}
+-- Tasks as a snapshot lists them: no two open ones have one lock.
+use Rattle.std.proofs.Common.{◌≡◌, ◌∙◌, ◌≤◌, ℕ, zero, suc, Bool, true, false, ◌&&◌, ◌||◌, ◌==◌, List, [], ◌∷◌, ◌++◌}
 use Rattle.std.proofs.Common.{Option, Some, None, ap, arith, map, refl, sym}
-use Rattle.std.specs.Prelude.{is_none, is_some, length, not}
+use Rattle.std.specs.Prelude.{is_none, is_some, not}
 use Rattle.std.specs.List.{list_all, list_any}
 use Rattle.std.specs.Option.{option_eq}
 use Rattle.std.specs.Str.{bytes_eq}
-use Rattle.std.proofs.lemmas.Bool.{and_from, and_parts, eq-eqb, eqb-true, false≢true, le-leb}
+use Rattle.std.proofs.lemmas.Bool.{and_from, and_parts, false≢true, le-leb}
 use Rattle.std.proofs.lemmas.Bool.Decides.{eqb_tells}
-use Rattle.std.proofs.lemmas.List.{length-append, length-map, map-append}
+use Rattle.std.proofs.lemmas.List.{map-append}
 use Rattle.std.proofs.lemmas.List.Folds.{list_all-map}
 use Rattle.bosh_base.specs.Cloud.{numbers_to}
 use Rattle.bosh_base.specs.declared.task.TaskRow.{TaskRow}
@@ -15,35 +15,9 @@ use Rattle.bosh_history.proofs.BoundLemmas.{each_to}
 use Rattle.bosh_history.specs.Held.{is_open}
 use Rattle.bosh_history.specs.Known.{Known}
 use Rattle.bosh_history.specs.Snapshots.{task_row}
-use Rattle.bosh_rows.specs.SoundSnapshot.{are_numbered, has_lock, have_locks_of_their_own}
+use Rattle.bosh_rows.specs.SoundSnapshot.{has_lock, have_locks_of_their_own}
 use Rattle.laws_facts.specs.Tasks.{has_another_lock, is_open_task}
 use Rattle.laws_row_facts.specs.Words.{implies}
-
--- ---- numbers
-
-one_more : (last : ℕ) (rows : List TaskRow) (row : TaskRow) → are_numbered last rows ≡ true
-    → row.task ≡ last + length rows + 1 → are_numbered last (rows ++ row ∷ []) ≡ true
-one_more last [] row numbered is =
-    and_from (row.task == last + 1) true (eq-eqb row.task (last + 1) (let e : row.task ≡ last + 1 = here is in e)) refl
-  where
-    here : row.task ≡ last + 0 + 1 → row.task ≡ last + 1
-    here is = omega arith
-one_more last (first ∷ rows) row numbered is =
-    let (here, rest) = and_parts (first.task == last + 1) (are_numbered first.task rows) numbered in
-    and_from (first.task == last + 1) (are_numbered first.task (rows ++ row ∷ [])) here
-    (one_more first.task rows row rest (next (eqb-true first.task (last + 1) here)))
-  where
-    next : first.task ≡ last + 1 → row.task ≡ first.task + length rows + 1
-    next at = let e : row.task ≡ last + suc (length rows) + 1 = is in omega arith
-
-how_many : (n : ℕ) → length (numbers_to n) ≡ n
-how_many zero = refl
-how_many (suc n) =
-    let more : length (numbers_to n) ≡ n = how_many n in
-    length-append (numbers_to n) (suc n ∷ []) ∙ next more
-  where
-    next : length (numbers_to n) ≡ n → length (numbers_to n) + 1 ≡ suc n
-    next more = omega arith
 
 -- ---- locks
 
@@ -93,17 +67,6 @@ one_more_lock (row ∷ rows) later apart other =
 -- ---- what is known
 
 module _ (k : Known) where
-  pub tasks_numbered : (n : ℕ) → are_numbered 0 (map (task_row k) (numbers_to n)) ≡ true
-  tasks_numbered zero = refl
-  tasks_numbered (suc n) =
-      ap (are_numbered 0) (map-append (task_row k) (numbers_to n) (suc n ∷ []))
-      ∙ one_more 0 (map (task_row k) (numbers_to n)) (task_row k (suc n)) (tasks_numbered n)
-      (next (length (map (task_row k) (numbers_to n)))
-      (length-map (numbers_to n) (task_row k) ∙ how_many n))
-    where
-      next : (l : ℕ) → l ≡ n → suc n ≡ 0 + l + 1
-      next l is = omega arith
-
   -- a task of a number that was given is open where it has no end
   opened : (t : ℕ) → 1 ≤ t → t ≤ k.tasks → is_open_task k t ≡ is_none (k.task t).end
   opened t low high =

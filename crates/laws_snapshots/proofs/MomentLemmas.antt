@@ -10,8 +10,8 @@ use Rattle.bosh_rows.specs.SoundSnapshot.{is_sound_snapshot}
 use Rattle.laws_held.proofs.HeldLemmas.{run_holds}
 use Rattle.laws_held.specs.Whole.{Whole}
 use Rattle.laws_stands_snapshots.specs.Built.{AreBuiltInOrder}
-use Rattle.laws_undamaged.proofs.BuiltLemmas.{run_built, tested_apart, tested_order}
-use Rattle.laws_undamaged.proofs.SnapshotLemmas.{plain_sound, snapshot_sound}
+use Rattle.laws_snapshots.proofs.BuiltLemmas.{run_built, tested_apart, tested_order}
+use Rattle.laws_snapshots.proofs.SnapshotLemmas.{plain_sound, snapshot_sound}
 
 pub run_snapshot : (outside : Outside) (o : Opening) (moves : List Move) → IsFit outside o → IsRun outside o moves
     → is_sound_snapshot (snapshot_of (moment o moves).known) ≡ true

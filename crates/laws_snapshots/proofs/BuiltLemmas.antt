@@ -44,7 +44,7 @@ use Rattle.laws_stands_snapshots.proofs.BuiltLemmas.{key_flip}
 use Rattle.laws_stands_snapshots.proofs.BuiltOrderLemmas.{one_more_in_order}
 use Rattle.laws_stands_snapshots.specs.Built.{AreBuiltInOrder}
 use Rattle.laws_stands_snapshots.specs.Readable.{same_built}
-use Rattle.laws_undamaged.proofs.ListedLemmas.{in_order}
+use Rattle.laws_snapshots.proofs.ListedLemmas.{in_order}
 
 -- ---- a compilation that is answered
 
@@ -99,7 +99,8 @@ module _ (m : Moment) (h : KnownFacts m) where
           (ended_in_order call.begin e.answer call.begin.call facts.compiles_new in_order)
       by None there may = absurd may
 
-  note_in_order : (outside : Outside) (e : Entry) → MayNote outside m e → AreBuiltInOrder k.built
+  -- compiled keys go on to stand in order after each entry that may be noted
+  pub note_in_order : (outside : Outside) (e : Entry) → MayNote outside m e → AreBuiltInOrder k.built
       → AreBuiltInOrder (learn k e).built
   note_in_order outside (entries.End e) may in_order = end_in_order e may in_order
   note_in_order outside (entries.Begin b) may in_order =

@@ -1,5 +1,5 @@
-use Rattle.laws_undamaged.proofs.MomentLemmas.{run_older, run_snapshot}
-use Rattle.laws_undamaged.proofs.snapshots.snapshots_of_what_is_known_are_sound.Goals as goal
+use Rattle.laws_snapshots.proofs.MomentLemmas.{run_older, run_snapshot}
+use Rattle.laws_snapshots.proofs.snapshots.snapshots_of_what_is_known_are_sound.Goals as goal
 
 pub returns-clause-now : goal.returns-clause-now
 returns-clause-now c = run_snapshot

@@ -1,0 +1,5 @@
+pub mod BuiltLemmas
+pub mod ListedLemmas
+pub mod MomentLemmas
+pub mod SnapshotLemmas
+pub mod TaskLemmas

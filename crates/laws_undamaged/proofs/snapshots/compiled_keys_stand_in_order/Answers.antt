@@ -1,5 +1,0 @@
-use Rattle.laws_undamaged.proofs.BuiltLemmas.{run_built}
-use Rattle.laws_undamaged.proofs.snapshots.compiled_keys_stand_in_order.Goals as goal
-
-pub returns : goal.returns
-returns c = run_built
