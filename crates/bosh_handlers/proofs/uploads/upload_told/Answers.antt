@@ -1,5 +1,4 @@
 use Rattle.std.proofs.Common.{[]}
-use Rattle.bosh_book.specs.declared.uploads.Added.TheVariants.{New, Same}
 use Rattle.bosh_handlers.proofs.ActLemmas.{acts_notes, acts_refused}
 use Rattle.bosh_handlers.proofs.KeepLemmas.{keeps_no_release, keeps_release}
 use Rattle.bosh_handlers.proofs.uploads.upload_told.Goals as goal
@@ -8,14 +7,14 @@ pub returns-in-Ok-New : goal.returns-in-Ok-New
 returns-in-Ok-New g c = record {
   acts = acts_notes g.K.Keeper.bodies g.K.Keeper.faults c.args.site.now c.upload.new.self _ _ c.in-Ok-New.ensures.notes;
   kept = keeps_release g.K.Keeper.bodies g.K.Keeper.faults g.K.Keeper.is_broken g.L.Keeper.bodies g.L.Keeper.faults c.args.site.now
-      c.upload.new.self c.args.release New c.upload.ensures.calls c.in-Ok-New.ensures.told c.in-Ok-New.ensures.notes;
+      c.upload.new.self c.args.release c.in-Ok-New.field-0 c.upload.ensures.calls c.in-Ok-New.ensures.told c.in-Ok-New.ensures.notes;
 }
 
 pub returns-in-Ok-Same : goal.returns-in-Ok-Same
 returns-in-Ok-Same g c = record {
   acts = acts_notes g.K.Keeper.bodies g.K.Keeper.faults c.args.site.now c.upload.new.self _ _ c.in-Ok-Same.ensures.notes;
   kept = keeps_release g.K.Keeper.bodies g.K.Keeper.faults g.K.Keeper.is_broken g.L.Keeper.bodies g.L.Keeper.faults c.args.site.now
-      c.upload.new.self c.args.release Same c.upload.ensures.calls c.in-Ok-Same.ensures.told c.in-Ok-Same.ensures.notes;
+      c.upload.new.self c.args.release c.in-Ok-Same.field-0 c.upload.ensures.calls c.in-Ok-Same.ensures.told c.in-Ok-Same.ensures.notes;
 }
 
 pub returns-in-Err : goal.returns-in-Err
