@@ -1,9 +1,9 @@
-pub mod Asks
 pub mod Checks
 pub mod Deploys
 pub mod Ends
 pub mod Files
 pub mod Folder
+pub mod Kinds
 pub mod Listings
 pub mod Placed
 pub mod Shelved

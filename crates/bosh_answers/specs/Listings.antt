@@ -1,19 +1,15 @@
--- What is listed of what is recorded, and of what is there in the cloud (this project's profile).
+-- What is listed of what is recorded (this project's profile).
 use Rattle.std.specs.Prelude.{◌≡◌, ℕ, List, codes, decimal, map, IsPermutation, Option, None, Some}
-use Rattle.bosh_answers.specs.Checks.{check_reply}
-use Rattle.bosh_base.specs.declared.machine.Disk.{Disk}
-use Rattle.bosh_base.specs.declared.machine.Machine.{Machine}
+use Rattle.bosh_answers.specs.declared.kind.Listing.{Listing}
+use Rattle.bosh_answers.specs.declared.kind.Listing.TheVariants as listings
 use Rattle.bosh_base.specs.declared.reply.Reply.{Reply}
 use Rattle.bosh_base.specs.declared.reply.Reply.TheVariants as replies
 use Rattle.bosh_base.specs.declared.snapshot.BuiltKey.{BuiltKey}
 use Rattle.bosh_base.specs.declared.task.TaskRow.{TaskRow}
-use Rattle.bosh_lines.specs.declared.command.Command.{Command}
-use Rattle.bosh_lines.specs.declared.command.Command.TheVariants as commands
 use Rattle.bosh_records.specs.Keys.{built_of}
 use Rattle.bosh_records.specs.Readers.{task_at}
 use Rattle.bosh_records.specs.declared.records.Records.{Records}
 use Rattle.bosh_refusals.specs.Refused.{refusal_with}
-use Rattle.bosh_shown.specs.Cloud.{cloud_listing}
 use Rattle.bosh_shown.specs.Instances.{instance_lines}
 use Rattle.bosh_shown.specs.Orphans.{orphan_lines}
 use Rattle.bosh_shown.specs.Releases.{release_line}
@@ -29,16 +25,12 @@ abbrev pub TellsCompiled : Records → Reply → Type 0
 TellsCompiled records reply =
     (keys : List BuiltKey) × (reply ≡ replies.Compiled keys) × IsPermutation (built_of records.keys.by_key.entries) keys
 
--- the reply is the list that a command asks for; nothing is told where it asks for none
-abbrev pub IsListed : Command → Records → List (Option Machine) → List (Option Disk) → Reply → Type 0
-IsListed (commands.Instances dep) records machines disks reply =
+-- the reply is the list that is asked for
+abbrev pub IsListed : Listing → Records → Reply → Type 0
+IsListed (listings.Instances dep) records reply =
     reply ≡ replies.Instances (instance_lines dep records.instances.by_inst.entries)
-IsListed commands.OrphanedDisks records machines disks reply =
-    reply ≡ replies.Orphans (orphan_lines records.orphans.places.entries)
-IsListed commands.Tasks records machines disks reply = reply ≡ replies.Tasks (task_lines records.tasks.places.entries)
-IsListed (commands.Task task) records machines disks reply = reply ≡ shown_task task (task_at records task)
-IsListed commands.Releases records machines disks reply = reply ≡ replies.Releases (map release_line records.releases.items)
-IsListed commands.Compiled records machines disks reply = TellsCompiled records reply
-IsListed commands.Cloud records machines disks reply = reply ≡ replies.Cloud (cloud_listing machines disks)
-IsListed (commands.CloudCheck dep) records machines disks reply = reply ≡ check_reply dep records machines disks
-IsListed command records machines disks reply = reply ≡ replies.Nothing
+IsListed listings.OrphanedDisks records reply = reply ≡ replies.Orphans (orphan_lines records.orphans.places.entries)
+IsListed listings.Tasks records reply = reply ≡ replies.Tasks (task_lines records.tasks.places.entries)
+IsListed (listings.Task task) records reply = reply ≡ shown_task task (task_at records task)
+IsListed listings.Releases records reply = reply ≡ replies.Releases (map release_line records.releases.items)
+IsListed listings.Compiled records reply = TellsCompiled records reply

@@ -9,9 +9,8 @@ ghost use Rattle.bosh_shown.specs.Orphans.{orphan_lines};
 ghost use Rattle.bosh_shown.specs.Releases.{release_line};
 ghost use Rattle.bosh_shown.specs.Tasks.{task_lines};
 
-use crate::{AnswerFault, check_cloud, refused};
+use crate::{AnswerFault, Listing, refused};
 use bosh_base::{Disk, Machine, Name, Reply};
-use bosh_lines::Command;
 use bosh_records::Records;
 use bosh_refusals::SessionFault;
 use bosh_shown::{
@@ -76,25 +75,16 @@ pub fn list_cloud(
     Ok(Reply::Cloud(cloud_listing(alloc, machines, disks)?))
 }
 
-/// Lists what a command asks for; nothing where it asks for no list.
-pub fn list(
-    alloc: Global,
-    command: &Command,
-    records: &Records,
-    machines: &[Option<Machine>],
-    disks: &[Option<Disk>],
-) -> Result<Reply, AnswerFault>
-    ensures { IfOk result (IsListed command.now records.now machines.now disks.now) }
+/// Lists what is recorded.
+pub fn list(alloc: Global, listing: &Listing, records: &Records) -> Result<Reply, AnswerFault>
+    ensures { IfOk result (IsListed listing.now records.now) }
 {
-    match command {
-        Command::Instances { dep } => list_instances(alloc, records, dep),
-        Command::OrphanedDisks => list_orphans(alloc, records),
-        Command::Tasks => list_tasks(alloc, records),
-        Command::Task { task } => show_task(alloc, records, *task),
-        Command::Releases => list_releases(alloc, records),
-        Command::Compiled => list_compiled(records),
-        Command::Cloud => list_cloud(alloc, machines, disks),
-        Command::CloudCheck { dep } => check_cloud(alloc, dep, records, machines, disks),
-        _ => Ok(Reply::Nothing),
+    match listing {
+        Listing::Instances(dep) => list_instances(alloc, records, dep),
+        Listing::OrphanedDisks => list_orphans(alloc, records),
+        Listing::Tasks => list_tasks(alloc, records),
+        Listing::Task(task) => show_task(alloc, records, *task),
+        Listing::Releases => list_releases(alloc, records),
+        Listing::Compiled => list_compiled(records),
     }
 }

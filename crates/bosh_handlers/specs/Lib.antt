@@ -1,4 +1,1 @@
-pub mod Acts
-pub mod Keeps
-pub mod SiteFaults
 pub mod Tasks

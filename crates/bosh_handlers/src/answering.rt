@@ -1,91 +1,72 @@
 //! A command is carried out and answered.
-ghost use Rattle.bosh_handlers.specs.Acts.{Acts};
-ghost use Rattle.bosh_handlers.specs.Keeps.{Keeps};
+ghost use Rattle.bosh_transcript.specs.Past.{Proceeds};
 
 use crate::config::update_config;
-use crate::listings::list;
-use crate::opening::open_request;
-use crate::tasks::finish;
+use crate::ends::stopped;
+use crate::opening::{begin, open_file};
+use crate::tasks::run;
 use crate::uploads::{upload_folder, upload_stemcell};
-use crate::{jobs, traps};
-use bosh_answers::{AnswerFault, Files, KeptFile, refused};
+use bosh_answers::{AnswerFault, Files, KeptFile, Kind, Listing, Upload, kind_of, list, refused};
 use bosh_base::{Reply, Text, copy_both};
+use bosh_desk::Desk;
 use bosh_input::Request;
-use bosh_lines::Command;
-use bosh_ports::{Keeper, Shelf};
-use bosh_world::Site;
+use bosh_ports::Shelf;
 use std::alloc::Global;
 
-/// Carries out a command, and gives its reply.
-pub fn answer<F: Shelf, K: Keeper, L: Keeper>(
+/// Carries out a command, and gives its reply. One that the session carries out, since it takes others along or stands for
+/// others, does nothing here.
+pub fn answer<F: Shelf, D: Desk>(
     alloc: Global,
     request: Request,
     files: &mut Files,
     shelf: &mut F,
-    site: &mut Site<K, L>,
+    desk: &mut D,
 ) -> Result<Reply, AnswerFault>
-    ensures acts { Acts site.old site.new }
-    ensures kept { Keeps K.bodies L.bodies site.old site.new }
+    ensures proceeds { Proceeds (D.past desk.old) (D.past desk.new) }
+    ensures kept { D.is_good desk.old → D.is_good desk.new }
 {
-    match opens_task(&request) {
-        true => run_task(alloc, request, files, shelf, site),
-        false => answer_at_once(alloc, request, files, shelf, site),
+    let Request { asked, block } = request;
+    match asked {
+        Ok(command) => {
+            let kind = kind_of(command);
+            let reply = carry_out(alloc, &kind, &block, files, shelf, desk);
+            drop(kind);
+            drop(block);
+            reply
+        }
+        Err(fault) => {
+            drop(block);
+            refused(alloc, fault)
+        }
     }
 }
 
-fn opens_task(request: &Request) -> bool {
-    match &request.asked {
-        Ok(command) => command.opens_task(),
-        Err(_) => false,
-    }
-}
-
-fn answer_at_once<F: Shelf, K: Keeper, L: Keeper>(
+// What a command of a kind asks for is done.
+fn carry_out<F: Shelf, D: Desk>(
     alloc: Global,
-    request: Request,
-    files: &mut Files,
-    shelf: &mut F,
-    site: &mut Site<K, L>,
-) -> Result<Reply, AnswerFault>
-    ensures acts { Acts site.old site.new }
-    ensures kept { Keeps K.bodies L.bodies site.old site.new }
-{
-    let reply = take_up(alloc, &request, files, shelf, site);
-    drop(request);
-    reply
-}
-
-// A command that opens no task.
-fn take_up<F: Shelf, K: Keeper, L: Keeper>(
-    alloc: Global,
-    request: &Request,
-    files: &mut Files,
-    shelf: &mut F,
-    site: &mut Site<K, L>,
-) -> Result<Reply, AnswerFault>
-    ensures acts { Acts site.old site.new }
-    ensures kept { Keeps K.bodies L.bodies site.old site.new }
-{
-    match &request.asked {
-        Ok(command) => obey(alloc, command, &request.block, files, shelf, site),
-        Err(fault) => refused(alloc, *fault),
-    }
-}
-
-fn obey<F: Shelf, K: Keeper, L: Keeper>(
-    alloc: Global,
-    command: &Command,
+    kind: &Kind,
     block: &Text,
     files: &mut Files,
     shelf: &mut F,
-    site: &mut Site<K, L>,
+    desk: &mut D,
 ) -> Result<Reply, AnswerFault>
-    ensures acts { Acts site.old site.new }
-    ensures kept { Keeps K.bodies L.bodies site.old site.new }
+    ensures proceeds { Proceeds (D.past desk.old) (D.past desk.new) }
+    ensures kept { D.is_good desk.old → D.is_good desk.new }
 {
-    match command {
-        Command::File { path } => keep_file(alloc, path, block, files),
-        command => carry_out(alloc, command, files, shelf, site),
+    match kind {
+        Kind::Keep(path) => keep_file(alloc, path, block, files),
+        Kind::Upload(upload) => record(alloc, upload, files, shelf, desk),
+        Kind::Open(ask) => {
+            let opened = begin(alloc, ask, desk);
+            run(alloc, opened, desk)
+        }
+        Kind::Deploy(deploy) => {
+            let opened = open_file(alloc, deploy, files, shelf, desk);
+            run(alloc, opened, desk)
+        }
+        Kind::List(listing) => list_recorded(alloc, listing, desk),
+        Kind::OfSite(command) => desk.obey(alloc, command),
+        Kind::OfSession => Ok(Reply::Nothing),
     }
 }
 
@@ -100,69 +81,39 @@ fn keep_file(
     Ok(Reply::Nothing)
 }
 
-// A command that needs no block.
-fn carry_out<F: Shelf, K: Keeper, L: Keeper>(
+// Something is recorded for the tasks that come.
+fn record<F: Shelf, D: Desk>(
     alloc: Global,
-    command: &Command,
+    upload: &Upload,
     files: &Files,
     shelf: &mut F,
-    site: &mut Site<K, L>,
+    desk: &mut D,
 ) -> Result<Reply, AnswerFault>
-    ensures acts { Acts site.old site.new }
-    ensures kept { Keeps K.bodies L.bodies site.old site.new }
+    ensures proceeds { Proceeds (D.past desk.old) (D.past desk.new) }
+    ensures kept { D.is_good desk.old → D.is_good desk.new }
 {
-    match command {
-        Command::UploadRelease { folder, version } => upload_folder(
+    match upload {
+        Upload::Release { folder, version } => upload_folder(
             alloc,
             folder.as_slice(),
             version.as_slice(),
             files,
             shelf,
-            site,
+            desk,
         ),
-        Command::UpdateCloudConfig { path } => {
-            update_config(alloc, path.as_slice(), files, shelf, site)
-        }
-        command => attend(alloc, command, site),
+        Upload::Stemcell(stemcell) => upload_stemcell(alloc, stemcell, desk),
+        Upload::CloudConfig { path } => update_config(alloc, path.as_slice(), files, shelf, desk),
     }
 }
 
-fn run_task<F: Shelf, K: Keeper, L: Keeper>(
+// What is recorded is listed, unless the desk has halted.
+fn list_recorded<D: Desk>(
     alloc: Global,
-    request: Request,
-    files: &Files,
-    shelf: &mut F,
-    site: &mut Site<K, L>,
-) -> Result<Reply, AnswerFault>
-    ensures acts { Acts site.old site.new }
-    ensures kept { Keeps K.bodies L.bodies site.old site.new }
-{
-    match open_request(alloc, request, files, shelf, site) {
-        Ok(opened) => finish(alloc, opened, site),
-        Err(fault) => Err(fault),
+    listing: &Listing,
+    desk: &D,
+) -> Result<Reply, AnswerFault> {
+    if desk.is_halted() {
+        return stopped(alloc);
     }
-}
-
-// A command about stemcells, machines, traps and lists.
-fn attend<K: Keeper, L: Keeper>(
-    alloc: Global,
-    command: &Command,
-    site: &mut Site<K, L>,
-) -> Result<Reply, AnswerFault>
-    ensures acts { Acts site.old site.new }
-    ensures kept { Keeps K.bodies L.bodies site.old site.new }
-{
-    match command {
-        Command::UploadStemcell(stemcell) => upload_stemcell(alloc, stemcell, site),
-        Command::FailCall(doom) => traps::fail_call(alloc, doom, site),
-        Command::FailStore { fate, appends } => traps::fail_store(alloc, *fate, *appends, site),
-        Command::StopCall(stop) => traps::stop_call(alloc, stop, site),
-        Command::StopStore { when, appends } => traps::stop_store(alloc, *when, *appends, site),
-        Command::Restart => traps::restart(alloc, site),
-        Command::Write { inst, text } => jobs::write(alloc, inst, text.as_slice(), site),
-        Command::Read(inst) => jobs::read(alloc, inst, site),
-        Command::Show { inst, path } => jobs::show(alloc, inst, path, site),
-        Command::Lose { inst, lost } => jobs::lose(alloc, inst, *lost, site),
-        command => list(alloc, command, site),
-    }
+    list(alloc, listing, desk.records())
 }

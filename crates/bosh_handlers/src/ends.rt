@@ -2,17 +2,17 @@
 ghost use Rattle.std.specs.Prelude.{◌≡◌, IfOk, Some, option_map};
 ghost use Rattle.bosh_base.specs.declared.reply.Reply.TheVariants.{Refused};
 ghost use Rattle.bosh_answers.specs.Ends.{stopped_reply, told_halt};
-ghost use Rattle.bosh_handlers.specs.SiteFaults.{site_told};
+ghost use Rattle.bosh_desk.specs.SiteFaults.{site_told};
 
-use crate::site_fault::refusal_of;
 use bosh_answers::{AnswerFault, refused, replied};
 use bosh_base::{Cause, Reply};
 use bosh_book::BookFault;
+use bosh_desk::refusal_of;
 use bosh_world::SiteFault;
 use std::alloc::Global;
 
 /// The reply that tells why the site did not do what it was asked.
-pub(crate) fn refused_by_site(alloc: Global, fault: SiteFault) -> Result<Reply, AnswerFault>
+pub fn refused_by_site(alloc: Global, fault: SiteFault) -> Result<Reply, AnswerFault>
     ensures { IfOk result (λ reply. option_map Refused (site_told fault) ≡ Some reply) }
 {
     let reply = replied(refusal_of(alloc, &fault));
@@ -21,7 +21,7 @@ pub(crate) fn refused_by_site(alloc: Global, fault: SiteFault) -> Result<Reply, 
 }
 
 /// The refusal of a site that has halted.
-pub(crate) fn stopped(alloc: Global) -> Result<Reply, AnswerFault>
+pub fn stopped(alloc: Global) -> Result<Reply, AnswerFault>
     ensures { IfOk result (λ reply. reply ≡ stopped_reply) }
 {
     refused(alloc, BookFault::Stopped)

@@ -1,33 +1,31 @@
 //! Tasks are opened.
 ghost use Rattle.std.specs.Prelude.{◌≡◌};
-ghost use Rattle.bosh_handlers.specs.Acts.{Acts};
-ghost use Rattle.bosh_handlers.specs.Keeps.{Keeps};
-ghost use Rattle.laws_views.specs.Planned.{IsChecked};
+ghost use Rattle.bosh_transcript.specs.Past.{Proceeds};
 
 use crate::ends::refused_by_site;
-use bosh_answers::{AnswerFault, Files, How, ask_of, deploy_of, read_file, refused};
+use bosh_answers::{AnswerFault, Files, How, Kind, deploy_of, kind_of, read_file, refused};
 use bosh_base::{Name, Reply};
 use bosh_book::Ask;
+use bosh_desk::Desk;
 use bosh_director::Opened;
 use bosh_input::Request;
 use bosh_lines::{Command, Deploy, LineFault, Variable};
-use bosh_ports::{Keeper, Shelf};
-use bosh_world::Site;
+use bosh_ports::Shelf;
 use std::alloc::Global;
 
 /// Opens the task of a request. One that opens none is refused.
-pub fn open_request<F: Shelf, K: Keeper, L: Keeper>(
+pub fn open_request<F: Shelf, D: Desk>(
     alloc: Global,
     request: Request,
     files: &Files,
     shelf: &mut F,
-    site: &mut Site<K, L>,
+    desk: &mut D,
 ) -> Result<Opened, AnswerFault>
-    ensures acts { Acts site.old site.new }
-    ensures kept { Keeps K.bodies L.bodies site.old site.new }
+    ensures proceeds { Proceeds (D.past desk.old) (D.past desk.new) }
+    ensures kept { D.is_good desk.old → D.is_good desk.new }
 {
     match asked_of(request) {
-        Ok(command) => open(alloc, command, files, shelf, site),
+        Ok(command) => open(alloc, command, files, shelf, desk),
         Err(fault) => opened_none(refused(alloc, fault)),
     }
 }
@@ -41,68 +39,36 @@ fn asked_of(request: Request) -> Result<Command, LineFault>
     asked
 }
 
-fn open<F: Shelf, K: Keeper, L: Keeper>(
+fn open<F: Shelf, D: Desk>(
     alloc: Global,
     command: Command,
     files: &Files,
     shelf: &mut F,
-    site: &mut Site<K, L>,
+    desk: &mut D,
 ) -> Result<Opened, AnswerFault>
-    ensures acts { Acts site.old site.new }
-    ensures kept { Keeps K.bodies L.bodies site.old site.new }
+    ensures proceeds { Proceeds (D.past desk.old) (D.past desk.new) }
+    ensures kept { D.is_good desk.old → D.is_good desk.new }
 {
-    match is_deploy(&command) {
-        true => open_deploy(alloc, command, files, shelf, site),
-        false => open_asked(alloc, ask_of(command), site),
-    }
-}
-
-fn is_deploy(command: &Command) -> bool {
-    matches!(command, Command::Deploy(_))
-}
-
-fn open_deploy<F: Shelf, K: Keeper, L: Keeper>(
-    alloc: Global,
-    command: Command,
-    files: &Files,
-    shelf: &mut F,
-    site: &mut Site<K, L>,
-) -> Result<Opened, AnswerFault>
-    ensures acts { Acts site.old site.new }
-    ensures kept { Keeps K.bodies L.bodies site.old site.new }
-{
-    let opened = open_manifest(alloc, &command, files, shelf, site);
-    drop(command);
+    let kind = kind_of(command);
+    let opened = open_kind(alloc, &kind, files, shelf, desk);
+    drop(kind);
     opened
 }
 
-fn open_manifest<F: Shelf, K: Keeper, L: Keeper>(
+fn open_kind<F: Shelf, D: Desk>(
     alloc: Global,
-    command: &Command,
+    kind: &Kind,
     files: &Files,
     shelf: &mut F,
-    site: &mut Site<K, L>,
+    desk: &mut D,
 ) -> Result<Opened, AnswerFault>
-    ensures acts { Acts site.old site.new }
-    ensures kept { Keeps K.bodies L.bodies site.old site.new }
+    ensures proceeds { Proceeds (D.past desk.old) (D.past desk.new) }
+    ensures kept { D.is_good desk.old → D.is_good desk.new }
 {
-    match command {
-        Command::Deploy(deploy) => open_file(alloc, deploy, files, shelf, site),
+    match kind {
+        Kind::Open(ask) => begin(alloc, ask, desk),
+        Kind::Deploy(deploy) => open_file(alloc, deploy, files, shelf, desk),
         _ => opened_none(refused(alloc, LineFault::BadTogether)),
-    }
-}
-
-fn open_asked<K: Keeper, L: Keeper>(
-    alloc: Global,
-    ask: Option<Ask>,
-    site: &mut Site<K, L>,
-) -> Result<Opened, AnswerFault>
-    ensures acts { Acts site.old site.new }
-    ensures kept { Keeps K.bodies L.bodies site.old site.new }
-{
-    match ask {
-        Some(ask) => begin(alloc, ask, site),
-        None => opened_none(refused(alloc, LineFault::BadTogether)),
     }
 }
 
@@ -113,44 +79,27 @@ fn opened_none(reply: Result<Reply, AnswerFault>) -> Result<Opened, AnswerFault>
     }
 }
 
-fn begin<K: Keeper, L: Keeper>(
-    alloc: Global,
-    ask: Ask,
-    site: &mut Site<K, L>,
-) -> Result<Opened, AnswerFault>
-    ensures acts { Acts site.old site.new }
-    ensures kept { Keeps K.bodies L.bodies site.old site.new }
+/// Opens the task that does what is asked.
+pub(crate) fn begin<D: Desk>(alloc: Global, ask: &Ask, desk: &mut D) -> Result<Opened, AnswerFault>
+    ensures proceeds { Proceeds (D.past desk.old) (D.past desk.new) }
+    ensures kept { D.is_good desk.old → D.is_good desk.new }
 {
-    see_checked(&ask);
-    let begun = site.begin_task(&ask);
-    drop(ask);
-    match begun {
+    match desk.begin_task(ask) {
         Ok(task) => Ok(Opened::Task(task)),
         Err(fault) => opened_none(refused_by_site(alloc, fault)),
     }
 }
 
-// The manifest of a deploy is a checked one, since there are no others.
-fn see_checked(ask: &Ask)
-    ensures { IsChecked ask.now }
-{
-    match ask {
-        Ask::Deploy(deploy) => {
-            let _checked = deploy.manifest.contents();
-        }
-        _ => {}
-    }
-}
-
-fn open_file<F: Shelf, K: Keeper, L: Keeper>(
+/// Opens the deploy of a file.
+pub(crate) fn open_file<F: Shelf, D: Desk>(
     alloc: Global,
     deploy: &Deploy,
     files: &Files,
     shelf: &mut F,
-    site: &mut Site<K, L>,
+    desk: &mut D,
 ) -> Result<Opened, AnswerFault>
-    ensures acts { Acts site.old site.new }
-    ensures kept { Keeps K.bodies L.bodies site.old site.new }
+    ensures proceeds { Proceeds (D.past desk.old) (D.past desk.new) }
+    ensures kept { D.is_good desk.old → D.is_good desk.new }
 {
     let how = How {
         recreate: deploy.recreate,
@@ -163,26 +112,35 @@ fn open_file<F: Shelf, K: Keeper, L: Keeper>(
             deploy.vars.as_slice(),
             how,
             text.as_slice(),
-            site,
+            desk,
         ),
         Err(fault) => opened_none(refused(alloc, fault)),
     }
 }
 
 /// Opens a deploy of the manifest that a text is.
-pub fn open_text<K: Keeper, L: Keeper>(
+pub fn open_text<D: Desk>(
     alloc: Global,
     dep: &Name,
     vars: &[Variable],
     how: How,
     text: &[u8],
-    site: &mut Site<K, L>,
+    desk: &mut D,
 ) -> Result<Opened, AnswerFault>
-    ensures acts { Acts site.old site.new }
-    ensures kept { Keeps K.bodies L.bodies site.old site.new }
+    ensures proceeds { Proceeds (D.past desk.old) (D.past desk.new) }
+    ensures kept { D.is_good desk.old → D.is_good desk.new }
 {
     match deploy_of(alloc, dep, vars, how, text) {
-        Ok(ask) => begin(alloc, ask, site),
+        Ok(ask) => begin_deploy(alloc, ask, desk),
         Err(fault) => opened_none(refused(alloc, fault)),
     }
+}
+
+fn begin_deploy<D: Desk>(alloc: Global, ask: Ask, desk: &mut D) -> Result<Opened, AnswerFault>
+    ensures proceeds { Proceeds (D.past desk.old) (D.past desk.new) }
+    ensures kept { D.is_good desk.old → D.is_good desk.new }
+{
+    let opened = begin(alloc, &ask, desk);
+    drop(ask);
+    opened
 }

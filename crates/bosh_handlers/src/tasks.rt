@@ -4,29 +4,24 @@ ghost use Rattle.std.specs.Prelude.{◌≡◌, IfOk};
 ghost use Rattle.bosh_answers.specs.Ends.{end_of, told_end};
 ghost use Rattle.bosh_director.specs.Left.{told_left};
 ghost use Rattle.bosh_handlers.specs.Tasks.{cause_of};
-ghost use Rattle.bosh_handlers.specs.Acts.{Acts};
-ghost use Rattle.bosh_handlers.specs.Keeps.{Keeps};
+ghost use Rattle.bosh_transcript.specs.Past.{Proceeds};
 
 use crate::ends::{halted_by, stopped};
 use bosh_answers::{AnswerFault, end_of, refused, told_end};
 use bosh_base::{Cause, Reply};
 use bosh_book::BookFault;
-use bosh_crew::drive;
+use bosh_desk::Desk;
 use bosh_director::{Left, Opened};
-use bosh_ports::Keeper;
 use bosh_records::Records;
-use bosh_world::{Site, SiteFault};
+use bosh_world::SiteFault;
 use std::alloc::Global;
 
 /// Carries tasks to their ends.
-pub fn carry_out<K: Keeper, L: Keeper>(
-    tasks: &[u64],
-    site: &mut Site<K, L>,
-) -> Result<Left, AnswerFault>
-    ensures acts { Acts site.old site.new }
-    ensures kept { Keeps K.bodies L.bodies site.old site.new }
+pub fn carry_out<D: Desk>(tasks: &[u64], desk: &mut D) -> Result<Left, AnswerFault>
+    ensures proceeds { Proceeds (D.past desk.old) (D.past desk.new) }
+    ensures kept { D.is_good desk.old → D.is_good desk.new }
 {
-    let driven = drive(site, tasks);
+    let driven = desk.drive(tasks);
     let left = left_by(&driven);
     drop(driven);
     left
@@ -63,31 +58,28 @@ fn left_after(fault: &SiteFault) -> Result<Left, AnswerFault> {
     }
 }
 
-/// Carries out the task that was opened, where one was, and tells how it ended.
-pub fn finish<K: Keeper, L: Keeper>(
+/// Carries the task that was opened to its end, where one was, and tells how it ended.
+pub fn run<D: Desk>(
     alloc: Global,
-    opened: Opened,
-    site: &mut Site<K, L>,
+    opened: Result<Opened, AnswerFault>,
+    desk: &mut D,
 ) -> Result<Reply, AnswerFault>
-    ensures acts { Acts site.old site.new }
-    ensures kept { Keeps K.bodies L.bodies site.old site.new }
+    ensures proceeds { Proceeds (D.past desk.old) (D.past desk.new) }
+    ensures kept { D.is_good desk.old → D.is_good desk.new }
 {
     match opened {
-        Opened::Refused(reply) => Ok(reply),
-        Opened::Task(task) => finish_task(alloc, task, site),
+        Ok(Opened::Refused(reply)) => Ok(reply),
+        Ok(Opened::Task(task)) => run_task(alloc, task, desk),
+        Err(fault) => Err(fault),
     }
 }
 
-fn finish_task<K: Keeper, L: Keeper>(
-    alloc: Global,
-    task: u64,
-    site: &mut Site<K, L>,
-) -> Result<Reply, AnswerFault>
-    ensures acts { Acts site.old site.new }
-    ensures kept { Keeps K.bodies L.bodies site.old site.new }
+fn run_task<D: Desk>(alloc: Global, task: u64, desk: &mut D) -> Result<Reply, AnswerFault>
+    ensures proceeds { Proceeds (D.past desk.old) (D.past desk.new) }
+    ensures kept { D.is_good desk.old → D.is_good desk.new }
 {
-    let left = carry_out(&[task], site)?;
-    told(alloc, task, site.book().records(), left)
+    let left = carry_out(&[task], desk)?;
+    told(alloc, task, desk.records(), left)
 }
 
 /// How a task ended, or why it has no end.

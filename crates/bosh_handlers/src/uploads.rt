@@ -1,46 +1,45 @@
 //! Releases and stemcells are uploaded.
-ghost use Rattle.bosh_handlers.specs.Acts.{Acts};
-ghost use Rattle.bosh_handlers.specs.Keeps.{Keeps};
+ghost use Rattle.bosh_transcript.specs.Past.{Proceeds};
 
 use crate::ends::refused_by_site;
 use bosh_answers::{AnswerFault, Files, read_folder, refused};
 use bosh_base::{Copyable, Release, ReleaseAdded, ReleaseThere, Reply, Stemcell, copy_both};
 use bosh_book::Added;
-use bosh_ports::{Keeper, Shelf};
+use bosh_desk::Desk;
+use bosh_ports::Shelf;
 use bosh_release::{File, collect};
-use bosh_world::Site;
 use std::alloc::Global;
 
 /// Uploads the release of a folder under a version.
-pub(crate) fn upload_folder<F: Shelf, K: Keeper, L: Keeper>(
+pub(crate) fn upload_folder<F: Shelf, D: Desk>(
     alloc: Global,
     folder: &[u8],
     version: &[u8],
     files: &Files,
     shelf: &mut F,
-    site: &mut Site<K, L>,
+    desk: &mut D,
 ) -> Result<Reply, AnswerFault>
-    ensures acts { Acts site.old site.new }
-    ensures kept { Keeps K.bodies L.bodies site.old site.new }
+    ensures proceeds { Proceeds (D.past desk.old) (D.past desk.new) }
+    ensures kept { D.is_good desk.old → D.is_good desk.new }
 {
     match read_folder(alloc, files, shelf, folder) {
-        Ok(found) => upload_files(alloc, found.as_slice(), version, site),
+        Ok(found) => upload_files(alloc, found.as_slice(), version, desk),
         Err(fault) => refused(alloc, fault),
     }
 }
 
 /// Uploads the release that files are.
-pub fn upload_files<K: Keeper, L: Keeper>(
+pub fn upload_files<D: Desk>(
     alloc: Global,
     files: &[File],
     version: &[u8],
-    site: &mut Site<K, L>,
+    desk: &mut D,
 ) -> Result<Reply, AnswerFault>
-    ensures acts { Acts site.old site.new }
-    ensures kept { Keeps K.bodies L.bodies site.old site.new }
+    ensures proceeds { Proceeds (D.past desk.old) (D.past desk.new) }
+    ensures kept { D.is_good desk.old → D.is_good desk.new }
 {
     match collect(alloc, files, version) {
-        Ok(release) => upload(alloc, release, site),
+        Ok(release) => upload(alloc, release, desk),
         Err(fault) => refused(alloc, fault),
     }
 }
@@ -56,30 +55,26 @@ fn summary(alloc: Global, release: &Release) -> Result<ReleaseAdded, AnswerFault
     })
 }
 
-fn upload<K: Keeper, L: Keeper>(
-    alloc: Global,
-    release: Release,
-    site: &mut Site<K, L>,
-) -> Result<Reply, AnswerFault>
-    ensures acts { Acts site.old site.new }
-    ensures kept { Keeps K.bodies L.bodies site.old site.new }
+fn upload<D: Desk>(alloc: Global, release: Release, desk: &mut D) -> Result<Reply, AnswerFault>
+    ensures proceeds { Proceeds (D.past desk.old) (D.past desk.new) }
+    ensures kept { D.is_good desk.old → D.is_good desk.new }
 {
     match summary(alloc, &release) {
-        Ok(summary) => upload_told(alloc, release, summary, site),
+        Ok(summary) => upload_told(alloc, release, summary, desk),
         Err(fault) => Err(fault),
     }
 }
 
-fn upload_told<K: Keeper, L: Keeper>(
+fn upload_told<D: Desk>(
     alloc: Global,
     release: Release,
     summary: ReleaseAdded,
-    site: &mut Site<K, L>,
+    desk: &mut D,
 ) -> Result<Reply, AnswerFault>
-    ensures acts { Acts site.old site.new }
-    ensures kept { Keeps K.bodies L.bodies site.old site.new }
+    ensures proceeds { Proceeds (D.past desk.old) (D.past desk.new) }
+    ensures kept { D.is_good desk.old → D.is_good desk.new }
 {
-    match site.upload(release) {
+    match desk.upload(release) {
         Ok(Added::New) => Ok(Reply::ReleaseAdded(summary)),
         Ok(Added::Same) => Ok(Reply::ReleaseThere(ReleaseThere {
             name: summary.name,
@@ -90,16 +85,16 @@ fn upload_told<K: Keeper, L: Keeper>(
 }
 
 /// Uploads a stemcell.
-pub fn upload_stemcell<K: Keeper, L: Keeper>(
+pub fn upload_stemcell<D: Desk>(
     alloc: Global,
     stemcell: &Stemcell,
-    site: &mut Site<K, L>,
+    desk: &mut D,
 ) -> Result<Reply, AnswerFault>
-    ensures acts { Acts site.old site.new }
-    ensures kept { Keeps K.bodies L.bodies site.old site.new }
+    ensures proceeds { Proceeds (D.past desk.old) (D.past desk.new) }
+    ensures kept { D.is_good desk.old → D.is_good desk.new }
 {
     let told = stemcell.copy(alloc)?;
-    match site.add_stemcell(&stemcell.os, stemcell.version.as_slice()) {
+    match desk.add_stemcell(&stemcell.os, stemcell.version.as_slice()) {
         Ok(Added::New) => Ok(Reply::StemcellAdded(told)),
         Ok(Added::Same) => Ok(Reply::StemcellThere(told)),
         Err(fault) => refused_by_site(alloc, fault),

@@ -2,8 +2,8 @@
 use Rattle.std.proofs.Common.{◌≡◌, ℕ, Bool, List, ◌++◌, Option, Some, None, Result, Ok, Err, IfErr, OnOk, inl, inr, refl, sym, subst}
 use Rattle.std.specs.Prelude.{IfSome}
 use Rattle.bosh_base.specs.declared.reply.Refusal.{Refusal}
-use Rattle.bosh_handlers.specs.Acts.{past_of}
-use Rattle.bosh_handlers.specs.SiteFaults.{site_told}
+use Rattle.bosh_directing.specs.Acts.{past_of}
+use Rattle.bosh_desk.specs.SiteFaults.{site_told}
 use Rattle.bosh_ports.specs.Faults.{Rose}
 use Rattle.bosh_ports.specs.declared.keeper.Keeper as keeper
 use Rattle.bosh_report.specs.Refusal.{refusal_line}

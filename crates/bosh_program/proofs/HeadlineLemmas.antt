@@ -4,7 +4,7 @@ use Rattle.std.specs.Prelude.{IfSome, is_some}
 use Rattle.std.proofs.lemmas.Bool.{false≢true}
 use Rattle.bosh_base.specs.declared.entry.Entry.{Entry}
 use Rattle.bosh_cloud.specs.Loading.{effects_in}
-use Rattle.bosh_handlers.specs.Keeps.{GoesWell, Keeps}
+use Rattle.bosh_directing.specs.Keeps.{GoesWell, Keeps}
 use Rattle.bosh_history.specs.Fit.{IsFit}
 use Rattle.bosh_history.specs.Moments.{Opening}
 use Rattle.bosh_journal.specs.Reads.{Says}

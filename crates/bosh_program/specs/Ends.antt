@@ -1,8 +1,8 @@
 -- How a session ended, as a whole.
 use Rattle.std.specs.Prelude.{◌≡◌, ◌⊎◌, ℕ, Bool, List, ◌++◌, MatchOption, Option, Some, None, codes}
 use Rattle.bosh_base.specs.declared.reply.Refusal.{Refusal}
-use Rattle.bosh_handlers.specs.Acts.{past_of}
-use Rattle.bosh_handlers.specs.SiteFaults.{site_told}
+use Rattle.bosh_directing.specs.Acts.{past_of}
+use Rattle.bosh_desk.specs.SiteFaults.{site_told}
 use Rattle.bosh_options.specs.Words.{Tells}
 use Rattle.bosh_ports.specs.Faults.{Rose}
 use Rattle.bosh_report.specs.Refusal.{refusal_line}

@@ -1,14 +1,14 @@
 ghost use Rattle.std.specs.Prelude.{◌≡◌, IfOk, IfSome, None, OnErr, OnOk, Some};
 ghost use Rattle.bosh_base.specs.declared.reply.Refusal.{Refusal};
-ghost use Rattle.bosh_handlers.specs.SiteFaults.{site_told};
+ghost use Rattle.bosh_desk.specs.SiteFaults.{site_told};
 ghost use Rattle.bosh_program.specs.Ends.{IsLineWritten, IsPlain, stores_back, stores_left};
 ghost use Rattle.bosh_report.specs.Refusal.{refusal_line};
 ghost use Rattle.bosh_transcript.specs.declared.status.Status.TheVariants as statuses;
 
-use crate::Directing;
 use bosh_answers::AnswerFault;
 use bosh_base::Reply;
-use bosh_handlers::refusal_of;
+use bosh_desk::refusal_of;
+use bosh_directing::Directing;
 use bosh_ports::{Keeper, Shelf, Sink, Source};
 use bosh_report::say;
 use bosh_session::carry_out_all;
