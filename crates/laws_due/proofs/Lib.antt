@@ -1,4 +1,5 @@
 pub mod JobLemmas
+pub mod ListLemmas
 pub mod OutcomeLemmas
 pub mod RefusedLemmas
 pub mod StemcellLemmas

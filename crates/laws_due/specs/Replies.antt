@@ -1,5 +1,8 @@
--- What is told of what a site answered; want of memory is told by nothing (this project's profile).
+-- What is told of what a site answered, where want of memory is told by nothing; and of what is known (this project's
+-- profile).
 use Rattle.std.specs.Prelude.{ℕ, List, Option, Some, None, option_map, Result, Ok, Err}
+use Rattle.bosh_answers.specs.declared.kind.Listing.{Listing}
+use Rattle.bosh_answers.specs.declared.kind.Listing.TheVariants as listings
 use Rattle.bosh_base.specs.declared.release.Release.{Release}
 use Rattle.bosh_base.specs.declared.reply.Reply.{Reply}
 use Rattle.bosh_base.specs.declared.reply.Reply.TheVariants as replies
@@ -7,7 +10,9 @@ use Rattle.bosh_base.specs.declared.stemcell.Stemcell.{Stemcell}
 use Rattle.bosh_book.specs.declared.uploads.Added.{Added}
 use Rattle.bosh_book.specs.declared.uploads.Added.TheVariants.{New, Same}
 use Rattle.bosh_desk.specs.SiteFaults.{site_told}
+use Rattle.bosh_due.specs.Listed.{compiled_reply, instances_reply, orphans_reply, releases_reply, shown_task_reply, tasks_reply}
 use Rattle.bosh_due.specs.Uploads.{added, there_already}
+use Rattle.bosh_history.specs.Known.{Known}
 use Rattle.bosh_world.specs.declared.fault.SiteFault.{SiteFault}
 
 -- a fault
@@ -45,3 +50,12 @@ read_reply (Err fault) = fault_reply fault
 abbrev pub loss_reply : Result (Unit {0}) SiteFault → Option Reply
 loss_reply (Ok value) = Some replies.Lost
 loss_reply (Err fault) = fault_reply fault
+
+-- a list of what is known
+abbrev pub listed_reply : Known → Listing → Reply
+listed_reply k (listings.Instances dep) = instances_reply k dep
+listed_reply k listings.OrphanedDisks = orphans_reply k
+listed_reply k listings.Tasks = tasks_reply k
+listed_reply k (listings.Task task) = shown_task_reply k task
+listed_reply k listings.Releases = releases_reply k
+listed_reply k listings.Compiled = compiled_reply k

@@ -63,7 +63,7 @@ module _ (told : Told) (m : Moment) (same : told.known ≡ m.known) (h : ListFac
   abbrev k : Known
   k = m.known
 
-  rows_are : recorded_rows it.instances ≡ map k.row k.instances
+  pub rows_are : recorded_rows it.instances ≡ map k.row k.instances
   rows_are =
       table_lists inst_cmp same_inst inst_order (λ (known : Instance). known.row) it.instances k.instances
       (λ i. Some (k.row i)) stands.ordered.instances h.instances_in_order
@@ -105,7 +105,7 @@ module _ (told : Told) (m : Moment) (same : told.known ≡ m.known) (h : ListFac
   orphan_truth : (d : ℕ) → same_truth (is_among eqb d k.orphans) (is_some (k.orphan d)) ≡ true
   orphan_truth d = (and_parts (same_truth (is_among eqb d k.orphans) (is_some (k.orphan d))) _ (h.orphan_listed d)).0
 
-  orphans_are : loose_disks it.orphans ≡ filter_map k.orphan k.orphans
+  pub orphans_are : loose_disks it.orphans ≡ filter_map k.orphan k.orphans
   orphans_are =
       mapped_filter (λ (e : ℕ × Option LooseDisk). e.1) (λ (loose : LooseDisk). loose.orphan) it.orphans
       ∙ table_lists nat_cmp eqb number_order (option_map (λ (loose : LooseDisk). loose.orphan)) it.orphans k.orphans
