@@ -62,7 +62,7 @@ over_then bodies faults cloud_bodies cloud_faults task worker was mid now (Err f
     places.Empty,
     steps was places.Empty mid places.Empty mid places.Empty (claims task Over refl refl there claimed.0 claimed.1)
         (stays mid places.Empty),
-    ended tasks worker there,
+    ended tasks worker there (was, claimed.0),
   ),
 )
 

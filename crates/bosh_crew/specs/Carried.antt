@@ -68,15 +68,21 @@ pub data Reaches {K L : Type 0} {k : keeper.Ghosts K} {l : keeper.Ghosts L}
         Reaches bodies faults cloud_bodies cloud_faults tasks worker mid at now next →
         Reaches bodies faults cloud_bodies cloud_faults tasks worker was place now next
 
--- the site is as a claim of one of the tasks left it, which had to wait
+-- the site is as a claim of work of the task left it, which was answered so
+abbrev pub IsAfterClaim : {K L : Type 0} {k : keeper.Ghosts K} {l : keeper.Ghosts L} → (K → Option (List (List ℕ))) →
+    (K → ℕ) → ℕ → ℕ → Claim → Site K L k l → Type 0
+IsAfterClaim {K} {L} {k} {l} bodies faults task worker claim now =
+    (before : Site K L k l) × Claims bodies faults before task worker claim now
+
+-- .. of one of the tasks, which had to wait
 abbrev pub IsWaiting : {K L : Type 0} {k : keeper.Ghosts K} {l : keeper.Ghosts L} → (K → Option (List (List ℕ))) → (K → ℕ) →
     List ℕ → ℕ → ℕ → Site K L k l → Type 0
-IsWaiting {K} {L} {k} {l} bodies faults tasks worker task now =
-    Contains tasks task × ((before : Site K L k l) × Claims bodies faults before task worker Wait now)
+IsWaiting bodies faults tasks worker task now =
+    Contains tasks task × IsAfterClaim bodies faults task worker Wait now
 
--- The step in which the worker is stopped, by what it has at hand. With nothing at hand a claim or the end of a task is
--- refused, all that is left waits for calls that were open before, or there is no memory; a call that could be performed, or
--- settled, is refused and given up.
+-- The step in which the worker is stopped, by what it has at hand. With nothing at hand a claim is refused, or the end of a
+-- task that is over, as a claim of its work said; all that is left waits for calls that were open before, or there is no
+-- memory; a call that could be performed, or settled, is refused and given up.
 pub data Stops {K L : Type 0} {k : keeper.Ghosts K} {l : keeper.Ghosts L}
     (bodies : K → Option (List (List ℕ))) (faults : K → ℕ) (cloud_bodies : L → Option (List (List ℕ)))
     (cloud_faults : L → ℕ) (tasks : List ℕ) (worker : ℕ) (was : Site K L k l) (place : Place) (fault : SiteFault)
@@ -95,7 +101,8 @@ pub data Stops {K L : Type 0} {k : keeper.Ghosts K} {l : keeper.Ghosts L}
         Pends was (IsAllowed (MayEnd was.book call.permit call.answer)
         (entries.End (record { n = call.permit.n; answer = call.answer }))) mid → Abandons mid call.permit now →
         Stops bodies faults cloud_bodies cloud_faults tasks worker was place fault now
-    in_end : (task : ℕ) → place ≡ places.Empty → Contains tasks task → Refuses bodies faults was [] fault now →
+    in_end : (task : ℕ) → place ≡ places.Empty → Contains tasks task →
+        IsAfterClaim bodies faults task worker Over was → Refuses bodies faults was [] fault now →
         IsBooks (IsEndFault was.book task) fault → now.calls ≡ was.calls →
         Pends was (IsClosing was.book.records task) now →
         Stops bodies faults cloud_bodies cloud_faults tasks worker was place fault now
@@ -125,14 +132,14 @@ HasClaimed bodies faults task worker was claim now =
     Claims bodies faults was task worker claim now
     × (now.calls.unsettled ≡ calls_claimed {F = SiteFault} (Ok claim) was.calls.unsettled)
 
--- a task that is over ends, and nothing is at hand then; or that is refused
+-- A task ends, and nothing is at hand then; or that is refused, which stops a worker that was told that the task is over.
 abbrev pub Ends : {K L : Type 0} {k : keeper.Ghosts K} {l : keeper.Ghosts L} → (K → Option (List (List ℕ))) → (K → ℕ) →
     (L → Option (List (List ℕ))) → (L → ℕ) → ℕ → Site K L k l → Result Step SiteFault → Site K L k l → Type 0
 Ends bodies faults cloud_bodies cloud_faults task was (Ok (step.Moved places.Empty)) now =
     (end : TaskEnd) × EndsTask bodies faults was task end now × (now.calls ≡ was.calls)
 Ends bodies faults cloud_bodies cloud_faults task was (Ok step) now = ⊥
 Ends bodies faults cloud_bodies cloud_faults task was (Err fault) now =
-    (tasks : List ℕ) (worker : ℕ) → Contains tasks task →
+    (tasks : List ℕ) (worker : ℕ) → Contains tasks task → IsAfterClaim bodies faults task worker Over was →
     Stops bodies faults cloud_bodies cloud_faults tasks worker was places.Empty fault now
 
 -- The next step of a worker for a task. With nothing at hand it claims: it is given a call, has to wait, or ends the task,

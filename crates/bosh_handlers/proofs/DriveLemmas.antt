@@ -158,7 +158,7 @@ module _ {K L : Type 0} {k : keeper.Ghosts K} {l : keeper.Ghosts L} (bodies : K 
   adds_stops was place now fault (in_settling call mid from held refused is calls pends abandons) =
       adds_then was mid now (adds_acts was mid (acts_refused bodies faults was mid [] fault refused))
       (adds_abandons mid now call.permit abandons)
-  adds_stops was place now fault (in_end task from there refused is calls pends) =
+  adds_stops was place now fault (in_end task from there over refused is calls pends) =
       adds_acts was now (acts_refused bodies faults was now [] fault refused)
   adds_stops was place now fault (waits task from is told same) = adds_acts was now (acts_is was now same)
   adds_stops was place now fault (lacks from memory same) = adds_acts was now (acts_is was now same)

@@ -65,7 +65,7 @@ module _ (one_more : OneMoreStands) {K L : Type 0} {k : keeper.Ghosts K} {l : ke
   stopped_good was place fault now good (in_settling call mid from held refuses is calls pends abandons) =
       settling_stopped_good bodies cloud_bodies faults outside o was mid now call fault fit good held refuses
       calls pends abandons
-  stopped_good was place fault now good (in_end task from among refuses is calls pends) =
+  stopped_good was place fault now good (in_end task from among over refuses is calls pends) =
       end_stopped_good bodies cloud_bodies faults outside o was now task fault fit good refuses calls pends
   stopped_good was place fault now good (waits task from is told same) =
       same_good outside bodies cloud_bodies o was now good same

@@ -182,7 +182,7 @@ module _ {K L : Type 0} {k : keeper.Ghosts K} {l : keeper.Ghosts L} (bodies : K 
       ∙ given_up_halts mid call.permit now abandons
       (unnoted_still was call.permit why mid (subst (λ (p : Place). IsInOrder p was.book.records) from order) held.0
       refuses)))
-  stopped_at_hand was place why now has order (in_end task from among refuses is calls pends) running =
+  stopped_at_hand was place why now has order (in_end task from among over refuses is calls pends) running =
       (λ i. (calls i).unsettled) ∙ subst (λ (p : Place). IsAtHand p was.calls.unsettled) from has
   stopped_at_hand was place why now has order (waits task from is told same) running =
       (λ i. (same i).calls.unsettled) ∙ subst (λ (p : Place). IsAtHand p was.calls.unsettled) from has
