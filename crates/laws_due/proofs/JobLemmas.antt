@@ -65,7 +65,7 @@ module _ {K L : Type 0} {k : keeper.Ghosts K} {l : keeper.Ghosts L} (outside : O
     row_told inst =
         recorded.whole.stands.rows inst
         ∙ (λ i. if is_among same_inst inst (recorded.agrees.known_is i).instances
-            then Some ((recorded.agrees.known_is i).row inst) else None)
+        then Some ((recorded.agrees.known_is i).row inst) else None)
 
     -- what is found by the row that is recorded, is found by the one that is known
     found_by : {A : Type 0} (find : Option Row → A) (inst : Inst) → find None ≡ find (Some (bare inst))

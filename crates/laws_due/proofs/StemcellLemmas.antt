@@ -89,9 +89,9 @@ module _ {K L : Type 0} {k : keeper.Ghosts K} {l : keeper.Ghosts L} (outside : O
         ≡ unless_halted b (stemcell_outcome b s)
     added_is answer running version is =
         (λ i. if sym (has_is answer running is) i then Answers (replies.StemcellThere s)
-            else Notes (entries.Stemcell s) (replies.StemcellAdded s))
+        else Notes (entries.Stemcell s) (replies.StemcellAdded s))
         ∙ (λ i. if sym version i then stemcell_added_outcome b s
-            else Refuses (book_told (book_fault.Differs (name_and_version s.os s.version))))
+        else Refuses (book_told (book_fault.Differs (name_and_version s.os s.version))))
         ∙ goes_on_with b (stemcell_outcome b s) (good.halted ∙ running)
 
     abbrev StemcellMay : BookFault → Type 0
@@ -102,7 +102,7 @@ module _ {K L : Type 0} {k : keeper.Ghosts K} {l : keeper.Ghosts L} (outside : O
     stemcell_own (book_fault.Differs name) running is may =
         ap (λ (told : List ℕ). Refuses (book_told (book_fault.Differs told))) may.1
         ∙ (λ i. if sym (not_version (is_version s.version) may.2) i then stemcell_added_outcome b s
-            else Refuses (book_told (book_fault.Differs (name_and_version s.os s.version))))
+        else Refuses (book_told (book_fault.Differs (name_and_version s.os s.version))))
         ∙ goes_on_with b (stemcell_outcome b s) (good.halted ∙ running)
     stemcell_own book_fault.Stopped running is may = absurd is
     stemcell_own book_fault.StoreFault running is may = absurd is

@@ -30,10 +30,7 @@ use bosh_world::Site;
 
 /// A good site that is given a release does what is due of it, and tells that: it is recorded, or there already, or differs; or
 /// the site has halted, or halts in it.
-pub fn a_release_is_answered_as_it_is_due<K: Keeper, L: Keeper>(
-    was: &Site<K, L>,
-    now: &Site<K, L>,
-)
+pub fn a_release_is_answered_as_it_is_due<K: Keeper, L: Keeper>(was: &Site<K, L>, now: &Site<K, L>)
     ensures { (outside : Outside) (o : Opening) (under : UnderWay) (release : Release) (result : Result Added SiteFault)
         → IsGood outside K.bodies L.bodies o was.now → IfOk result (IsUpload was.now.book.records.releases.items release)
         → IfOk result (λ added. Notes K.bodies K.faults was.now (entries_for added (entries.Release release)) None now.now)
@@ -45,10 +42,7 @@ pub fn a_release_is_answered_as_it_is_due<K: Keeper, L: Keeper>(
 {}
 
 /// .. a stemcell.
-pub fn a_stemcell_is_answered_as_it_is_due<K: Keeper, L: Keeper>(
-    was: &Site<K, L>,
-    now: &Site<K, L>,
-)
+pub fn a_stemcell_is_answered_as_it_is_due<K: Keeper, L: Keeper>(was: &Site<K, L>, now: &Site<K, L>)
     ensures { (outside : Outside) (o : Opening) (under : UnderWay) (stemcell : Stemcell) (result : Result Added SiteFault)
         → IsGood outside K.bodies L.bodies o was.now
         → IfOk result (IsAdded was.now.book.records.stemcells.items stemcell.os stemcell.version)
@@ -63,10 +57,7 @@ pub fn a_stemcell_is_answered_as_it_is_due<K: Keeper, L: Keeper>(
 {}
 
 /// .. a text that spells a cloud config.
-pub fn a_config_is_answered_as_it_is_due<K: Keeper, L: Keeper>(
-    was: &Site<K, L>,
-    now: &Site<K, L>,
-)
+pub fn a_config_is_answered_as_it_is_due<K: Keeper, L: Keeper>(was: &Site<K, L>, now: &Site<K, L>)
     ensures { (outside : Outside) (o : Opening) (under : UnderWay) (text : List ℕ) (result : Result (Unit {0}) SiteFault)
         → IsGood outside K.bodies L.bodies o was.now → is_some (config_in text) ≡ true
         → OnOk result (Notes K.bodies K.faults was.now (entries.Config text ∷ []) None now.now)
