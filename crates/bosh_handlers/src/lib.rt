@@ -1,5 +1,5 @@
 //! What commands do at a desk: each is carried out and given its reply. None notes a reply in the history.
-#![tactic(auto, using(Rattle.bosh_transcript.proofs.PastLemmas.proceeds_none))]
+#![tactic(auto, using(crate::proofs::PastLemmas::none_came))]
 
 mod answering;
 mod config;

@@ -11,6 +11,6 @@ returns-in-Open g c = record {
 pub returns-in-Deploy : goal.returns-in-Deploy
 returns-in-Deploy g c = record {
   proceeds = proceeds_then (g.D.Desk.past c.args.desk.now) (g.D.Desk.past c.open_file-opened.new.desk)
-      (g.D.Desk.past c.run.new.desk) c.open_file-opened.ensures.proceeds c.run.ensures.proceeds;
-  kept = λ it. c.run.ensures.kept (c.open_file-opened.ensures.kept it);
+      (g.D.Desk.past c.run-in-Deploy.new.desk) c.open_file-opened.ensures.proceeds c.run-in-Deploy.ensures.proceeds;
+  kept = λ it. c.run-in-Deploy.ensures.kept (c.open_file-opened.ensures.kept it);
 }
