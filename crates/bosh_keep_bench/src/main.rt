@@ -19,6 +19,7 @@ use crate::fault::WorkFault;
 use crate::work::{Work, append_all, append_each, count_written, replace_all, work_of};
 use bosh_keep_sql::SqlKeeper;
 use bosh_ports::Keeper;
+use bosh_sql_files::open;
 use sqlite::{Alter, Connection};
 use std::process::ExitCode;
 use std::rt::Clock;
@@ -107,10 +108,10 @@ fn do_over<S: Alter + Drop>(
 /// Opens the file of a path and does a work on its bodies. Whether it was done.
 fn do_at(rt: &HostRuntime, path: &str, work: Work, count: u64) -> io::Result<bool> {
     let start = Instant::now(rt)?;
-    match Connection::open(rt, path) {
+    match open(rt, path) {
         Ok(connection) => do_over(rt, connection, start, work, count),
-        Err(error) => {
-            eprintln!(rt; "not opened: {error}")?;
+        Err(fault) => {
+            eprintln!(rt; "not opened: {fault:?}")?;
             Ok(false)
         }
     }

@@ -10,6 +10,7 @@ use bosh_keep_sql::{LoadFault, SqlKeeper};
 use bosh_options::threads;
 use bosh_ports::{FolderShelf, OpenGate, Reading, Writing};
 use bosh_program::{Status, StoreName, run, unmade, usage};
+use bosh_sql_files::{OpenFault, open};
 use sqlite::{Alter, Connection, FileStore};
 use sqlite_disk::Disk;
 use std::io;
@@ -29,6 +30,14 @@ fn not_made(rt: &HostRuntime, store: StoreName, fault: LoadFault) -> Status {
     }
 }
 
+// A store whose files are not open.
+fn not_opened(rt: &HostRuntime, store: StoreName, fault: OpenFault) -> Status {
+    match fault {
+        OpenFault::Memory => Status::Memory,
+        OpenFault::Failed => not_made(rt, store, LoadFault::Failed),
+    }
+}
+
 // No file is made where the words are none of the command.
 fn carry_out(rt: &HostRuntime, words: &[Text]) -> Status {
     match threads(rt.alloc(), words) {
@@ -39,13 +48,13 @@ fn carry_out(rt: &HostRuntime, words: &[Text]) -> Status {
 }
 
 fn with_words(rt: &HostRuntime, words: &[Text]) -> Status {
-    match Connection::open(rt, DIRECTOR) {
+    match open(rt, DIRECTOR) {
         Ok(connection) => {
             let (status, store) = with_director(rt, words, connection);
             end(store);
             status
         }
-        Err(_) => not_made(rt, StoreName::Director, LoadFault::Failed),
+        Err(fault) => not_opened(rt, StoreName::Director, fault),
     }
 }
 
@@ -66,16 +75,13 @@ fn with_store<S: Alter + Drop>(
     words: &[Text],
     store: SqlKeeper<S>,
 ) -> (Status, Option<SqlKeeper<S>>) {
-    match Connection::open(rt, CLOUD) {
+    match open(rt, CLOUD) {
         Ok(connection) => {
             let (status, store, cloud) = with_cloud(rt, words, store, connection);
             end(cloud);
             (status, store)
         }
-        Err(_) => (
-            not_made(rt, StoreName::Cloud, LoadFault::Failed),
-            Some(store),
-        ),
+        Err(fault) => (not_opened(rt, StoreName::Cloud, fault), Some(store)),
     }
 }
 
