@@ -43,23 +43,23 @@ use Rattle.laws_waits.specs.Opened.{IsOpened}
 
 module _ {K L : Type 0} {k : keeper.Ghosts K} {l : keeper.Ghosts L} (outside : Outside)
     (bodies : K → Option (List (List ℕ))) (cloud_bodies : L → Option (List (List ℕ))) (o : Opening) (fit : IsFit outside o)
-    where
-  -- the answer of a call that is held is of its kind
-  held_in_kind : (site : Site K L k l) (call : HeldCall) → IsGood outside bodies cloud_bodies o site
-      → site.history.is_halted ≡ false → IsHeld site call → is_kind (method_of call.permit.call) call.answer ≡ true
-  held_in_kind site call good running held =
-      ap (λ (c : Call). is_kind (method_of c) call.answer) (sym begun.is_for.call)
-      ∙ ap (λ (b : Option Begin). option_map_or (λ (begin : Begin). is_kind (method_of begin.call) call.answer) b false)
-      (sym begun.is_open)
-      ∙ end_is_allowed (moment_of o site) it.told site.book.records (record { n = call.permit.n; answer = call.answer })
-      it.whole.stands it.agrees (run_facts outside o (story_of site) fit good.run)
-      (held_may_end outside bodies cloud_bodies o site call good running held).2
-    where
-      begun : IsOpenCall site.book.records call.permit
-      begun = held.0.1
+  where
+    -- the answer of a call that is held is of its kind
+    held_in_kind : (site : Site K L k l) (call : HeldCall) → IsGood outside bodies cloud_bodies o site
+        → site.history.is_halted ≡ false → IsHeld site call → is_kind (method_of call.permit.call) call.answer ≡ true
+    held_in_kind site call good running held =
+        ap (λ (c : Call). is_kind (method_of c) call.answer) (sym begun.is_for.call)
+        ∙ ap (λ (b : Option Begin). option_map_or (λ (begin : Begin). is_kind (method_of begin.call) call.answer) b false)
+        (sym begun.is_open)
+        ∙ end_is_allowed (moment_of o site) it.told site.book.records (record { n = call.permit.n; answer = call.answer })
+        it.whole.stands it.agrees (run_facts outside o (story_of site) fit good.run)
+        (held_may_end outside bodies cloud_bodies o site call good running held).2
+      where
+        begun : IsOpenCall site.book.records call.permit
+        begun = held.0.1
 
-      it : IsRecorded (moment_of o site) site
-      it = good.recorded (book_goes_on site running).1
+        it : IsRecorded (moment_of o site) site
+        it = good.recorded (book_goes_on site running).1
 
 module _ (one_more : OneMoreStands) {K L : Type 0} {k : keeper.Ghosts K} {l : keeper.Ghosts L}
     (bodies : K → Option (List (List ℕ))) (faults : K → ℕ) (cloud_bodies : L → Option (List (List ℕ))) (cloud_faults : L → ℕ)
