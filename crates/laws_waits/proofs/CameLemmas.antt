@@ -13,7 +13,7 @@ use Rattle.bosh_fold.specs.ArrivalsWith.{arrivals_with}
 use Rattle.bosh_records.specs.Arrivals.{Arrivals, arrivals}
 
 -- updates leave what came as it was
-came_with : (e : Entry) (before : Arrivals) → IsUpdate e → arrivals_with e before ≡ before
+pub came_with : (e : Entry) (before : Arrivals) → IsUpdate e → arrivals_with e before ≡ before
 came_with (entries.UpdBegin u) before is = refl
 came_with (entries.UpdDone u) before is = refl
 came_with (entries.Gone u) before is = refl

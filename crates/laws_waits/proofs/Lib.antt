@@ -4,5 +4,8 @@ pub mod CurrentLemmas
 pub mod DepLemmas
 pub mod HandLemmas
 pub mod KindLemmas
+pub mod OpenedLemmas
+pub mod OverLemmas
 pub mod SiteLemmas
 pub mod TurnLemmas
+pub mod UnlockedLemmas
