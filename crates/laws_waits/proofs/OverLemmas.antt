@@ -21,7 +21,6 @@ use Rattle.bosh_records.specs.Arrivals.{Arrivals}
 use Rattle.bosh_records.specs.Readers.{task_at, work_at}
 use Rattle.bosh_records.specs.declared.records.Records.{Records}
 use Rattle.bosh_work.specs.declared.work.Work.{Work}
-use Rattle.laws_facts.specs.Owners.{works}
 use Rattle.laws_sites.proofs.EndLemmas.{working_is}
 use Rattle.laws_stands.specs.Agrees.{Agrees}
 use Rattle.laws_stands.specs.Stands.{IsWork, Stands}
