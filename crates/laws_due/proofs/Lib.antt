@@ -1,0 +1,5 @@
+pub mod ListLemmas
+pub mod OutcomeLemmas
+pub mod RefusedLemmas
+pub mod StemcellLemmas
+pub mod UploadLemmas
