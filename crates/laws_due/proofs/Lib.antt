@@ -1,3 +1,4 @@
+pub mod JobLemmas
 pub mod ListLemmas
 pub mod OutcomeLemmas
 pub mod RefusedLemmas

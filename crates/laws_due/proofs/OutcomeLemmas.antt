@@ -12,8 +12,8 @@ use Rattle.bosh_base.specs.declared.reply.Reply.TheVariants.{Refused}
 use Rattle.bosh_due.specs.Before.{Before}
 use Rattle.bosh_due.specs.Ends.{leaves_under_way}
 use Rattle.bosh_due.specs.Ends.Makes.{makes_none}
-use Rattle.bosh_due.specs.Outcomes.{Outcome, is_directors_halt}
-use Rattle.bosh_due.specs.Outcomes.Outcome.{Answers, Notes, Refuses}
+use Rattle.bosh_due.specs.Outcomes.{MakesMove, Outcome, is_clouds_halt, is_directors_halt}
+use Rattle.bosh_due.specs.Outcomes.Outcome.{Answers, Changes, Notes, Refuses}
 use Rattle.laws_due.specs.Answered.{ComesTo}
 
 module _ (Comes : Outcome → Type 0) (b : Before) where
@@ -53,6 +53,26 @@ module _ (Comes : Outcome → Type 0) (b : Before) where
         (leaves_under_way (Notes entry good) b (moves.Halt cause ∷ []))
     unnoted_due cause is = record {
       outcome = Notes entry good;
+      comes = comes;
+      ends = record { ends = (is, refl); is_left = refl };
+    }
+
+  module _ (move : Move) (done : Entry) (good : Reply) (comes : Comes (Changes move done good)) where
+    -- the cloud is changed by a move that is no halt
+    pub changed_due : MakesMove is_clouds_halt move good (move ∷ []) good
+        → ComesTo Comes b (Some good) (move ∷ []) (leaves_under_way (Changes move done good) b (move ∷ []))
+    changed_due makes = record {
+      outcome = Changes move done good;
+      comes = comes;
+      ends = record { ends = makes; is_left = refl };
+    }
+
+    -- .. or its store failed in it
+    pub unchanged_due : (cause : Cause) → is_clouds_halt cause ≡ true
+        → ComesTo Comes b (Some (told_halt cause)) (moves.Halt cause ∷ [])
+        (leaves_under_way (Changes move done good) b (moves.Halt cause ∷ []))
+    unchanged_due cause is = record {
+      outcome = Changes move done good;
       comes = comes;
       ends = record { ends = (is, refl); is_left = refl };
     }

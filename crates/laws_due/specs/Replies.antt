@@ -1,6 +1,6 @@
 -- What is told of what a site answered, where want of memory is told by nothing; and of what is known (this project's
 -- profile).
-use Rattle.std.specs.Prelude.{Option, Some, option_map, Result, Ok, Err}
+use Rattle.std.specs.Prelude.{ℕ, List, Option, Some, option_map, Result, Ok, Err}
 use Rattle.bosh_answers.specs.declared.kind.Listing.{Listing}
 use Rattle.bosh_answers.specs.declared.kind.Listing.TheVariants as listings
 use Rattle.bosh_base.specs.declared.release.Release.{Release}
@@ -35,6 +35,21 @@ stemcell_reply s (Err fault) = fault_reply fault
 abbrev pub config_reply : Result (Unit {0}) SiteFault → Option Reply
 config_reply (Ok value) = Some replies.ConfigUpdated
 config_reply (Err fault) = fault_reply fault
+
+-- .. a write of a job
+abbrev pub write_reply : Result (Unit {0}) SiteFault → Option Reply
+write_reply (Ok value) = Some replies.Written
+write_reply (Err fault) = fault_reply fault
+
+-- .. what a disk holds
+abbrev pub read_reply : Result (List ℕ) SiteFault → Option Reply
+read_reply (Ok contents) = Some (replies.Contents contents)
+read_reply (Err fault) = fault_reply fault
+
+-- .. a loss
+abbrev pub loss_reply : Result (Unit {0}) SiteFault → Option Reply
+loss_reply (Ok value) = Some replies.Lost
+loss_reply (Err fault) = fault_reply fault
 
 -- a list of what is known
 abbrev pub listed_reply : Known → Listing → Reply
