@@ -13,6 +13,7 @@ pub mod Openings
 pub mod Outcomes
 pub mod Plans
 pub mod Restarting
+pub mod Room
 pub mod Serving
 pub mod Together
 pub mod Turns

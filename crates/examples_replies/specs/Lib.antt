@@ -13,6 +13,7 @@ pub mod Others
 pub mod Planned
 pub mod Releases
 pub mod Replies
+pub mod Rooms
 pub mod Scenes
 pub mod Served
 pub mod Shelves

@@ -15,7 +15,7 @@ returns-clause-stopped c = record {
     goes_on = record { is_open = refl; has_number = refl; has_kept = refl; has_shelf = refl };
     makes_up_to = untold (record { none = refl; goes_on = refl })
         (record {
-          may_make = record { is_due = refl; is_its_work = refl; ends_last = refl };
+          may_make = record { is_due = refl; is_its_work = refl; by_room = refl; ends_last = refl };
           is_left = refl;
         });
     causes = record { unread = tt; caused = (refl, refl) };
