@@ -6,13 +6,14 @@ use Rattle.bosh_answers.specs.declared.files.KeptFile.{KeptFile}
 use Rattle.bosh_base.specs.declared.moves.Move.{Move}
 use Rattle.bosh_base.specs.declared.moves.Move.TheVariants as moves
 use Rattle.bosh_due.specs.Before.{before_of}
-use Rattle.bosh_due.specs.Causes.{HasCauses, StoreFailures, Waits, with_line, without_last_stop}
+use Rattle.bosh_due.specs.Causes.{HasCauses, StoreFailures, without_last_stop}
 use Rattle.bosh_due.specs.Files.{FilesRead, Shelved}
 use Rattle.bosh_due.specs.HaltedBy.HaltedBy.{no_line}
 use Rattle.bosh_due.specs.Restarting.{interruptions}
 use Rattle.bosh_due.specs.Turns.{MakesTurn, MakesTurnUpTo, TurnRead, kept_after}
 use Rattle.bosh_due.specs.UnderWay.{UnderWay}
 use Rattle.bosh_due.specs.UnderWay.UnderWay.{idle}
+use Rattle.bosh_due.specs.Waiting.{Waits, with_line}
 use Rattle.bosh_history.specs.Learn.{known_of}
 use Rattle.bosh_history.specs.Moments.{Opening}
 use Rattle.bosh_input.specs.Ended.{bounded_request}
@@ -110,7 +111,7 @@ at_first o = record {
   kept = [];
   commands = 0;
   has_ended = false;
-  waits = record { lines = []; has_lost_count = false; halted_by = no_line };
+  waits = record { lines = []; halted_by = no_line };
 }
 
 -- the commands that a turn read

@@ -15,8 +15,10 @@ pub mod Plans
 pub mod Restarting
 pub mod Room
 pub mod Serving
+pub mod Taken
 pub mod Together
 pub mod Turns
 pub mod UnderWay
 pub mod Uploads
+pub mod Waiting
 pub mod Work

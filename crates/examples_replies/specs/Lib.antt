@@ -5,6 +5,7 @@ pub mod CutOff
 pub mod Deployed
 pub mod Generated
 pub mod Halted
+pub mod InCalls
 pub mod Kept
 pub mod Laws
 pub mod OneTurn

@@ -7,6 +7,7 @@ mod cut_off;
 mod deployed;
 mod files;
 mod generated;
+mod in_calls;
 mod jobs;
 mod laws;
 mod listings;
@@ -36,6 +37,9 @@ pub use cut_off::{
 pub use deployed::manifests_are_deployed;
 pub use files::{configs_are_told, files_are_kept, files_are_looked_for_first};
 pub use generated::deployments_are_made;
+pub use in_calls::{
+    failing_lines_are_spent_in_stops, first_lines_stop_in_calls, stores_fail_in_calls,
+};
 pub use jobs::{disks_are_written_and_read, machines_are_lost_and_shown};
 pub use laws::{nothing_is_left, what_is_due_may_be_made};
 pub use listings::{instances_are_listed, records_are_listed, the_cloud_is_listed};
