@@ -18,6 +18,8 @@ use Rattle.bosh_lines.specs.declared.command.StopCall.{StopCall}
 use Rattle.bosh_lines.specs.declared.word.Others.TheVariants.{Undone}
 use Rattle.bosh_lines.specs.declared.word.When.{When}
 use Rattle.bosh_lines.specs.declared.word.When.TheVariants.{Before}
+use Rattle.bosh_transcript.specs.declared.status.Status.{Status}
+use Rattle.bosh_transcript.specs.declared.status.Status.TheVariants.{Memory}
 use Rattle.examples_histories.specs.Failed.{failed}
 use Rattle.examples_histories.specs.Scenes.{Builder, did, prepared}
 use Rattle.examples_replies.specs.AtOnce.{asks}
@@ -131,8 +133,11 @@ cut_by cause = record {
   segment = clean_up_opened ∷ Halt cause ∷ [];
 }
 
--- though no store failed and no line asked for it
-abbrev pub IsCutOffBy : Cause → Type 0
-IsCutOffBy cause =
-    MakesSession nothing ((asks 1 commands.CleanUp).request ∷ []) (clean_up_opened ∷ Halt cause ∷ []) (Some [])
+-- with this status, though no store failed and no line asked for it
+abbrev pub IsCutOffAs : Status → Cause → Type 0
+IsCutOffAs status cause =
+    MakesSession status nothing ((asks 1 commands.CleanUp).request ∷ []) (clean_up_opened ∷ Halt cause ∷ []) (Some [])
     (counted 0) (counted 0) [] (Some (cut_by cause))
+
+abbrev pub IsCutOffBy : Cause → Type 0
+IsCutOffBy cause = IsCutOffAs Memory cause

@@ -6,7 +6,8 @@ ghost use Rattle.bosh_base.specs.declared.moves.Move.TheVariants.{Halt, Note};
 ghost use Rattle.bosh_due.specs.HaltedBy.HaltedBy.{in_append, in_call};
 ghost use Rattle.bosh_due.specs.InTurn.{FailAsCounted};
 ghost use Rattle.examples_histories.specs.Scenes.{config, stop};
-ghost use Rattle.examples_replies.specs.Caused.{AreCaused, AreCausedBy, AreUncaused, AreUncausedBy, IsCausedAfter, IsCutOffBy, IsUncausedAfter};
+ghost use Rattle.bosh_transcript.specs.declared.status.Status.TheVariants as statuses;
+ghost use Rattle.examples_replies.specs.Caused.{AreCaused, AreCausedBy, AreUncaused, AreUncausedBy, IsCausedAfter, IsCutOffAs, IsCutOffBy, IsUncausedAfter};
 ghost use Rattle.examples_replies.specs.Caused.{MayFindAfter, MayFindIn, NeverFindsAfter, NeverFindsIn, both_at_once, fail_append};
 ghost use Rattle.examples_replies.specs.Caused.{fail_call, none_wait, none_wait_after, one_waits, performed, performed_with};
 ghost use Rattle.examples_replies.specs.Caused.{stop_append, stop_call};
@@ -78,6 +79,9 @@ pub fn stops_find_what_lines_say()
 pub fn want_of_memory_stops()
     ensures stopped { IsCutOffBy Stop }
     ensures not_failed { IsCutOffBy Store → ⊥ }
+    ensures not_at_the_end { IsCutOffAs statuses.Failed Stop → ⊥ }
+    ensures not_by_the_output { IsCutOffAs statuses.Sink Stop → ⊥ }
+    ensures not_by_the_input { IsCutOffAs statuses.Source Stop → ⊥ }
 {}
 
 /// A store failed as often as its count rose, at most; a count at its last number does not tell.
