@@ -1,18 +1,15 @@
 -- Lines that wait for calls, as the director halts in one.
-use Rattle.std.specs.Prelude.{ℕ, List, [], ◌∷◌, None, Option, Some}
+use Rattle.std.specs.Prelude.{ℕ, List, []}
 use Rattle.bosh_base.specs.declared.call.Call.TheVariants.{CreateVm}
 use Rattle.bosh_base.specs.declared.entry.Begin.{Begin}
 use Rattle.bosh_base.specs.declared.entry.Entry.TheVariants as entries
 use Rattle.bosh_base.specs.declared.method.Method.TheVariants as methods
-use Rattle.bosh_base.specs.declared.moves.Cause.TheVariants.{CloudStore, Stop}
 use Rattle.bosh_base.specs.declared.moves.Move.{Move}
-use Rattle.bosh_base.specs.declared.moves.Move.TheVariants.{Halt, Note}
+use Rattle.bosh_base.specs.declared.moves.Move.TheVariants.{Note}
 use Rattle.bosh_base.specs.declared.owner.Owner.TheVariants.{Instance}
 use Rattle.bosh_due.specs.Causes.{HaveCauses, StoreFailures}
-use Rattle.bosh_due.specs.HaltedBy.HaltedBy.{in_call, no_line}
 use Rattle.bosh_due.specs.Waiting.{WaitingLine, Waits}
 use Rattle.bosh_history.specs.Moments.{Moment, noting}
-use Rattle.bosh_lines.specs.declared.command.Command.{Command}
 use Rattle.bosh_lines.specs.declared.command.Command.TheVariants as commands
 use Rattle.bosh_lines.specs.declared.word.When.{When}
 use Rattle.examples_histories.specs.Scenes.{prepared}
