@@ -1,6 +1,6 @@
 -- Answers of other layers as answers to what is asked.
-use Rattle.std.proofs.Common.{◌≡◌, ◌⊎◌, ⊎_elim, sym, subst, ℕ, List, Result, Ok, Err, true, Option}
-use Rattle.std.specs.Prelude.{IfErr, IfOk}
+use Rattle.std.proofs.Common.{◌≡◌, ◌⊎◌, ⊎_elim, refl, sym, subst, ℕ, ◌-◌, List, Result, Ok, Err, true, Option, Some, None, length}
+use Rattle.std.specs.Prelude.{IfErr, IfOk, slice_get}
 use Rattle.bosh_base.specs.declared.goal.Goal.{Goal}
 use Rattle.bosh_base.specs.declared.inst.Inst.{Inst}
 use Rattle.bosh_base.specs.declared.release.Release.{Release}
@@ -13,7 +13,7 @@ use Rattle.bosh_goal.specs.declared.change.Change.{Change}
 use Rattle.bosh_manifest_names.specs.Answer.{IsAnswer}
 use Rattle.bosh_manifest_names.specs.declared.fault.GoalFault.{GoalFault}
 use Rattle.bosh_manifest_names.specs.declared.fault.GoalFault.TheVariants as goals
-use Rattle.bosh_asks.specs.Faults.{answered, of_goal}
+use Rattle.bosh_asks.specs.Faults.{answered, of_goal, unsound, unsound_by}
 use Rattle.bosh_asks.proofs.GoalLemmas.{given_dep}
 use Rattle.bosh_asks.specs.Changed.{is_in}
 use Rattle.bosh_asks.specs.Goals.{AreSound, Gives, Renews, recorded_config}
@@ -24,15 +24,17 @@ use Rattle.bosh_asks.specs.declared.fault.BookFault.TheVariants as faults
 
 -- ---- a goal, or why there is none
 
-told : (R : BookFault → Type 0) → R faults.Memory → (fault : GoalFault) → R (faults.Goal fault) → R (of_goal fault)
-told R memory goals.NoConfig h = h
-told R memory (goals.Unknown kind name) h = h
-told R memory (goals.Link fault) h = h
-told R memory (goals.Share fault) h = h
-told R memory (goals.Pool fault) h = h
-told R memory (goals.DiskInAz inst) h = h
-told R memory (goals.Template fault) h = h
-told R memory goals.Limit h = h
+told :
+    (R : BookFault → Type 0) → R faults.Memory → (fault : GoalFault)
+    → (of_goal fault ≡ faults.Goal fault → R (faults.Goal fault)) → R (of_goal fault)
+told R memory goals.NoConfig h = h refl
+told R memory (goals.Unknown kind name) h = h refl
+told R memory (goals.Link fault) h = h refl
+told R memory (goals.Share fault) h = h refl
+told R memory (goals.Pool fault) h = h refl
+told R memory (goals.DiskInAz inst) h = h refl
+told R memory (goals.Template fault) h = h refl
+told R memory goals.Limit h = h refl
 told R memory goals.Memory h = memory
 
 pub given :
@@ -43,12 +45,12 @@ given P (Err fault) result is h = subst (λ (r : Result Goal BookFault). IfOk r 
 
 pub refused :
     (P : Result Goal GoalFault → Type 0) (R : BookFault → Type 0) → R faults.Memory
-    → ((fault : GoalFault) → P (Err fault) → R (faults.Goal fault))
+    → ((fault : GoalFault) → of_goal fault ≡ faults.Goal fault → P (Err fault) → R (faults.Goal fault))
     → (answer : Result Goal GoalFault) (result : Result Goal BookFault)
     → result ≡ answered answer → P answer → IfErr result R
 refused P R memory goal (Ok it) result is h = subst (λ (r : Result Goal BookFault). IfErr r R) (sym is) tt
 refused P R memory goal (Err fault) result is h =
-    subst (λ (r : Result Goal BookFault). IfErr r R) (sym is) (told R memory fault (goal fault h))
+    subst (λ (r : Result Goal BookFault). IfErr r R) (sym is) (told R memory fault (λ told. goal fault told h))
 
 pub gives :
     (it : Deploy) (releases : List Release) (stemcells : List Stemcell) (view : View) (config : Option Config)
@@ -74,12 +76,17 @@ renews inst change current view config file answer wanted is h = record {
 
 -- ---- a goal that is not taken up
 
-pub unsound :
-    (it : Deploy) (fault : BookFault) → ((name : List ℕ) × (fault ≡ faults.Differs name)) ⊎ (fault ≡ faults.Memory)
+unsound_named : (it : Deploy) (last : Option Release) → SomeUnsound → RefusesDeploy it (unsound_by last)
+unsound_named it (Some release) some = some
+unsound_named it None some = tt
+
+pub unsound_refuses :
+    (it : Deploy) (fault : BookFault) (releases : List Release) → (fault ≡ unsound releases) ⊎ (fault ≡ faults.Memory)
     → SomeUnsound → RefusesDeploy it fault
-unsound it fault h some =
+unsound_refuses it fault releases h some =
     ⊎_elim
-    (λ (named : (name : List ℕ) × (fault ≡ faults.Differs name)). subst (RefusesDeploy it) (sym named.1) some)
+    (λ (told : fault ≡ unsound releases). subst (RefusesDeploy it) (sym told)
+    (unsound_named it (slice_get releases (length releases - 1)) some))
     (λ (memory : fault ≡ faults.Memory). subst (RefusesDeploy it) (sym memory) tt)
     h
 

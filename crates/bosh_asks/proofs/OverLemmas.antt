@@ -1,7 +1,8 @@
 -- What is done, and why not, by the records that are given.
-use Rattle.std.proofs.Common.{◌≡◌, refl, sym, subst, ℕ, true, false, List, Option, Some, None, Result, Ok}
+use Rattle.std.proofs.Common.{◌≡◌, ap, refl, sym, subst, ℕ, ◌-◌, true, false, List, Option, Some, None, Result, Ok}
+use Rattle.std.proofs.Common.{length}
 use Rattle.std.proofs.Common.{Err, ◌⊎◌, inl, inr}
-use Rattle.std.specs.Prelude.{IfErr, IfOk, OnOk, is_ok, is_some}
+use Rattle.std.specs.Prelude.{IfErr, IfOk, OnOk, is_ok, is_some, slice_get}
 use Rattle.std.specs.Option.{option_map}
 use Rattle.bosh_base.specs.declared.goal.Goal.{Goal}
 use Rattle.bosh_base.specs.declared.inst.Inst.{Inst}
@@ -19,7 +20,8 @@ use Rattle.bosh_goal.specs.declared.change.Change.{Change}
 use Rattle.bosh_manifest_names.specs.Answer.{IsAnswer}
 use Rattle.bosh_manifest_names.specs.declared.fault.GoalFault.{GoalFault}
 use Rattle.bosh_asks.proofs.AnswerLemmas.{of_err}
-use Rattle.bosh_asks.specs.Cause.{IsCause}
+use Rattle.bosh_asks.specs.Cause.{AreUnsound, IsCause}
+use Rattle.bosh_asks.specs.Faults.{unsound, unsound_by}
 use Rattle.bosh_asks.specs.Goals.{AreSound, recorded_config}
 use Rattle.bosh_asks.specs.Known.{is_recorded, lacks_room, lock_holder}
 use Rattle.bosh_asks.specs.Over.{GivesOver, Is, RenewsOver}
@@ -92,45 +94,72 @@ tested P (Err other) (Err fault) is h = tt
 
 cause_of_deploy :
     (records : Records) (it : Deploy) (goal : Goal) (fault : BookFault) → GivesOver records it (Ok goal)
-    → goal.dep ≡ it.manifest.name → IsCause records (Some goal.dep) (Is goal) fault
-    → IsCause records (Some it.manifest.name) (GivesOver records it) fault
+    → goal.dep ≡ it.manifest.name → IsCause records (Unit {0}) (Some goal.dep) (Is goal) fault
+    → IsCause records (Unit {0}) (Some it.manifest.name) (GivesOver records it) fault
 cause_of_deploy records it goal faults.Stopped g of h = tt
 cause_of_deploy records it goal faults.StoreFault g of h = tt
 cause_of_deploy records it goal (faults.Damaged position) g of h = tt
 cause_of_deploy records it goal (faults.Locked task) g of h =
-    subst (λ (dep : List ℕ). lock_holder records (Some dep) ≡ Some task) of h
-cause_of_deploy records it goal (faults.Differs name) g of h = h
+    (tt, subst (λ (dep : List ℕ). lock_holder records (Some dep) ≡ Some task) of h.1)
+cause_of_deploy records it goal (faults.Differs name) g of h =
+    subst (λ (dep : List ℕ). AreUnsound records (Some dep) name) of h
 cause_of_deploy records it goal (faults.NoDeployment name) g of h = h
 cause_of_deploy records it goal (faults.NoInstance inst) g of h = h
 cause_of_deploy records it goal (faults.NoDisk disk) g of h = h
 cause_of_deploy records it goal (faults.NotOrphaned disk) g of h = h
-cause_of_deploy records it goal (faults.Goal fault) g of h = absurd cc
-cause_of_deploy records it goal faults.Limit g of h = subst (λ (dep : List ℕ). lacks_room records dep ≡ true) of h
+cause_of_deploy records it goal (faults.Goal fault) g of h = let none : Err fault ≡ Ok goal = h.2.why in absurd cc
+cause_of_deploy records it goal faults.Limit g of h = (
+  subst (λ (dep : List ℕ). lock_holder records (Some dep) ≡ None) of h.0,
+  record {
+    goal = h.1.goal;
+    given = subst (GivesOver records it) (sym h.1.given) g;
+    unused = h.1.unused;
+    full = subst (λ (dep : List ℕ). lacks_room records dep ≡ true) of h.1.full;
+  },
+)
 cause_of_deploy records it goal faults.Full g of h = tt
-cause_of_deploy records it goal (faults.Consumed by) g of h = record {
-  goal = h.goal;
-  given = subst (GivesOver records it) (sym h.given) g;
-  first = h.first;
-}
+cause_of_deploy records it goal (faults.Consumed by) g of h = (
+  tt,
+  subst (λ (dep : List ℕ). lock_holder records (Some dep) ≡ None) of h.1,
+  record {
+    goal = h.2.goal;
+    given = subst (GivesOver records it) (sym h.2.given) g;
+    first = h.2.first;
+  },
+)
 cause_of_deploy records it goal faults.Memory g of h = tt
 
 pub failed_over :
     {X : Type 0} (records : Records) (it : Deploy) (goal : Goal) (test : Result X BookFault)
     (result : Result Goal BookFault) → GivesOver records it (Ok goal) → goal.dep ≡ it.manifest.name
-    → IfErr test (IsCause records (Some goal.dep) (Is goal)) → IfErr result (λ fault. test ≡ Err fault)
-    → IfErr result (IsCause records (Some it.manifest.name) (GivesOver records it))
-failed_over records it goal test (Ok passed) g of h is = tt
-failed_over records it goal test (Err fault) g of h is =
+    → lock_holder records (Some it.manifest.name) ≡ None
+    → (lock_holder records (Some goal.dep) ≡ None → IfErr test (IsCause records (Unit {0}) (Some goal.dep) (Is goal)))
+    → IfErr result (λ fault. test ≡ Err fault)
+    → IfErr result (IsCause records (Unit {0}) (Some it.manifest.name) (GivesOver records it))
+failed_over records it goal test (Ok passed) g of free h is = tt
+failed_over records it goal test (Err fault) g of free h is =
     cause_of_deploy records it goal fault g of
-    (of_err test fault (IsCause records (Some goal.dep) (Is goal)) is h)
+    (of_err test fault (IsCause records (Unit {0}) (Some goal.dep) (Is goal)) is
+    (h (subst (λ (dep : List ℕ). lock_holder records (Some dep) ≡ None) (sym of) free)))
 
 -- ---- releases that are no good
 
--- which of them is named is not said
+-- the last of them is named
+last_named :
+    (records : Records) (Named : Type 0) (dep : Option (List ℕ)) (Goals : Result Goal GoalFault → Type 0)
+    (last : Option Release) → lock_holder records dep ≡ None → ¬ AreSound records.releases.items
+    → unsound records.releases.items ≡ unsound_by last → IsCause records Named dep Goals (unsound_by last)
+last_named records Named dep Goals (Some release) free bad told = record { free = free; bad = bad; told = told }
+last_named records Named dep Goals None free bad told = tt
+
 pub unsound_cause :
-    (records : Records) (dep : Option (List ℕ)) (Goals : Result Goal GoalFault → Type 0) (fault : BookFault)
-    (releases : List Release) → releases ≡ records.releases.items → ¬ AreSound releases
-    → ((name : List ℕ) × (fault ≡ faults.Differs name)) ⊎ (fault ≡ faults.Memory) → IsCause records dep Goals fault
-unsound_cause records dep Goals fault releases r bad (inl (name, is)) =
-    subst (IsCause records dep Goals) (sym is) (subst (λ (x : List Release). ¬ AreSound x) r bad)
-unsound_cause records dep Goals fault releases r bad (inr is) = subst (IsCause records dep Goals) (sym is) tt
+    (records : Records) (Named : Type 0) (dep : Option (List ℕ)) (Goals : Result Goal GoalFault → Type 0)
+    (fault : BookFault) (releases : List Release) → lock_holder records dep ≡ None
+    → releases ≡ records.releases.items → ¬ AreSound releases
+    → (fault ≡ unsound releases) ⊎ (fault ≡ faults.Memory) → IsCause records Named dep Goals fault
+unsound_cause records Named dep Goals fault releases free r bad (inl told) =
+    subst (IsCause records Named dep Goals) (sym told)
+    (last_named records Named dep Goals (slice_get releases (length releases - 1)) free
+    (subst (λ (x : List Release). ¬ AreSound x) r bad) (ap unsound (sym r)))
+unsound_cause records Named dep Goals fault releases free r bad (inr is) =
+    subst (IsCause records Named dep Goals) (sym is) tt

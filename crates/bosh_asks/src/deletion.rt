@@ -39,7 +39,8 @@ fn check(alloc: Global, records: &Records, dep: &Name) -> Result<(), BookFault>
     ensures free { OnOk result (lock_holder records.now (Some dep.now) ≡ None) }
     ensures named { OnOk result (is_recorded records.now dep.now ≡ true) }
     ensures err { IfErr result (RefusesDeletion dep.now) }
-    ensures cause { IfErr result (IsCause records.now (Some dep.now) (Is (nothing dep.now))) }
+    ensures cause { IfErr result (IsCause records.now (is_recorded records.now dep.now ≡ true) (Some dep.now)
+        (Is (nothing dep.now))) }
 {
     match records.deployment(dep) {
         Some(_) => check_free(records.tasks(), Some(dep)),
@@ -53,7 +54,9 @@ fn leaving(alloc: Global, records: &Records, goal: &Goal) -> Result<Seq<Inst>, B
     ensures over { IfOk result (λ obsolete. obsolete ≡ obsolete_of goal.now records.now.instances.by_inst.entries) }
     ensures ok { IfOk result (AreObsolete goal.now) }
     ensures err { IfErr result (RefusesDeletion goal.now.dep) }
-    ensures cause { IfErr result (IsCause records.now (Some goal.now.dep) (Is goal.now)) }
+    ensures cause { is_recorded records.now goal.now.dep ≡ true → lock_holder records.now (Some goal.now.dep) ≡ None
+        → IfErr result (IsCause records.now (is_recorded records.now goal.now.dep ≡ true) (Some goal.now.dep)
+        (Is goal.now)) }
 {
     check_consumers(alloc, records.deployments(), goal)?;
     Ok(obsolete_of(alloc, records.instances(), goal)?)
@@ -66,7 +69,8 @@ pub(crate) fn deletion_plan(alloc: Global, records: &Records, dep: &Name) -> Res
     ensures over { IfOk result (DeletesOver records.now dep.now) }
     ensures ok { IfOk result (Deletes dep.now) }
     ensures err { IfErr result (RefusesDeletion dep.now) }
-    ensures cause { IfErr result (IsCause records.now (Some dep.now) (Is (nothing dep.now))) }
+    ensures cause { IfErr result (IsCause records.now (is_recorded records.now dep.now ≡ true) (Some dep.now)
+        (Is (nothing dep.now))) }
 {
     check(alloc, records, dep)?;
     let goal = nothing(alloc, dep.copy(alloc)?);

@@ -9,7 +9,8 @@ ghost use Rattle.bosh_asks.specs.Opened.{Deploys};
 ghost use Rattle.bosh_asks.specs.Over.{DeploysOver, GivesOver, Is};
 ghost use Rattle.bosh_asks.specs.Recorded.{first_consumer};
 ghost use Rattle.bosh_asks.specs.Refused.{RefusesDeploy, RefusesGoal};
-ghost use Rattle.bosh_asks.specs.declared.fault.BookFault.TheVariants.{Differs, Memory};
+ghost use Rattle.bosh_asks.specs.Faults.{unsound};
+ghost use Rattle.bosh_asks.specs.declared.fault.BookFault.TheVariants.{Memory};
 
 use crate::changed::changed_of;
 use crate::config::recorded_config;
@@ -47,7 +48,9 @@ fn wanted_from(
         → IfOk result (λ it. GivesOver records.now deploy.now (Ok it)) }
     ensures cause { releases.now ≡ records.now.releases.items
         → option_copied config.entry ≡ recorded_config records.now.config
-        → IfErr result (IsCause records.now (Some deploy.now.manifest.name) (GivesOver records.now deploy.now)) }
+        → lock_holder records.now (Some deploy.now.manifest.name) ≡ None
+        → IfErr result (IsCause records.now (Unit {0}) (Some deploy.now.manifest.name)
+        (GivesOver records.now deploy.now)) }
 {
     let view = view(records, &deploy.manifest.contents().name)?;
     let goal = goal(
@@ -74,7 +77,9 @@ fn wanted_of(
     ensures over { releases.now ≡ records.now.releases.items
         → IfOk result (λ it. GivesOver records.now deploy.now (Ok it)) }
     ensures cause { releases.now ≡ records.now.releases.items
-        → IfErr result (IsCause records.now (Some deploy.now.manifest.name) (GivesOver records.now deploy.now)) }
+        → lock_holder records.now (Some deploy.now.manifest.name) ≡ None
+        → IfErr result (IsCause records.now (Unit {0}) (Some deploy.now.manifest.name)
+        (GivesOver records.now deploy.now)) }
 {
     let config = recorded_config(alloc, records.config())?;
     let goal = wanted_from(alloc, records, deploy, releases, config.as_ref());
@@ -82,7 +87,7 @@ fn wanted_of(
 }
 
 fn unsound(alloc: Global, releases: &[Release]) -> BookFault
-    ensures { ((name : List ℕ) × (result ≡ Differs name)) ⊎ (result ≡ Memory) }
+    ensures { (result ≡ unsound releases.now) ⊎ (result ≡ Memory) }
 {
     match releases.last() {
         Some(release) => differs(alloc, &release.name, release.version.as_slice()),
@@ -95,8 +100,9 @@ fn wanted(alloc: Global, records: &Records, deploy: &Deploy) -> Result<Goal, Boo
     ensures over { IfOk result (λ it. GivesOver records.now deploy.now (Ok it)) }
     ensures ok { IfOk result (λ it. Gives deploy.now (Ok it)) }
     ensures err { IfErr result (RefusesDeploy deploy.now) }
-    ensures cause { IfErr result
-        (IsCause records.now (Some deploy.now.manifest.name) (GivesOver records.now deploy.now)) }
+    ensures cause { lock_holder records.now (Some deploy.now.manifest.name) ≡ None
+        → IfErr result (IsCause records.now (Unit {0}) (Some deploy.now.manifest.name)
+        (GivesOver records.now deploy.now)) }
 {
     let releases = records.releases();
     if !are_sound(alloc, releases)? {
@@ -110,7 +116,8 @@ fn check(alloc: Global, records: &Records, goal: &Goal) -> Result<(), BookFault>
     ensures kept { OnOk result (first_consumer goal.now records.now.deployments.places.entries ≡ None) }
     ensures room { OnOk result (lacks_room records.now goal.now.dep ≡ false) }
     ensures err { IfErr result (RefusesGoal goal.now) }
-    ensures cause { IfErr result (IsCause records.now (Some goal.now.dep) (Is goal.now)) }
+    ensures cause { lock_holder records.now (Some goal.now.dep) ≡ None
+        → IfErr result (IsCause records.now (Unit {0}) (Some goal.now.dep) (Is goal.now)) }
 {
     check_consumers(alloc, records.deployments(), goal)?;
     check_limit(records, &goal.dep)
@@ -124,7 +131,7 @@ fn checked_goal(alloc: Global, records: &Records, deploy: &Deploy) -> Result<Goa
     ensures ok { IfOk result (λ it. Gives deploy.now (Ok it)) }
     ensures err { IfErr result (RefusesDeploy deploy.now) }
     ensures cause { IfErr result
-        (IsCause records.now (Some deploy.now.manifest.name) (GivesOver records.now deploy.now)) }
+        (IsCause records.now (Unit {0}) (Some deploy.now.manifest.name) (GivesOver records.now deploy.now)) }
 {
     check_free(records.tasks(), Some(&deploy.manifest.contents().name))?;
     let goal = wanted(alloc, records, deploy)?;
@@ -161,7 +168,7 @@ pub(crate) fn deploy_plan(
     ensures ok { IfOk result (Deploys deploy.now) }
     ensures err { IfErr result (RefusesDeploy deploy.now) }
     ensures cause { IfErr result
-        (IsCause records.now (Some deploy.now.manifest.name) (GivesOver records.now deploy.now)) }
+        (IsCause records.now (Unit {0}) (Some deploy.now.manifest.name) (GivesOver records.now deploy.now)) }
 {
     let goal = checked_goal(alloc, records, deploy)?;
     let instances = instances_of(alloc, records, &goal, deploy.fix);

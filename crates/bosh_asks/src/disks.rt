@@ -17,7 +17,7 @@ use std::collections::btree_map::Iter;
 fn check_orphaned(records: &Records, disk: u64) -> Result<(), BookFault>
     ensures named { OnOk result (is_orphaned records.now disk ≡ true) }
     ensures err { IfErr result (RefusesDisk disk) }
-    ensures cause { IfErr result (IsCause records.now None HasNone) }
+    ensures cause { IfErr result (IsCause records.now (is_orphaned records.now disk ≡ true) None HasNone) }
 {
     if records.orphan(disk).is_some() {
         return Ok(());
@@ -42,7 +42,7 @@ pub(crate) fn disk_plan(alloc: Global, records: &Records, disk: u64) -> Result<P
     ensures named { OnOk result (is_orphaned records.now disk ≡ true) }
     ensures ok { IfOk result (λ plan. plan ≡ disks_alone (disk ∷ [])) }
     ensures err { IfErr result (RefusesDisk disk) }
-    ensures cause { IfErr result (IsCause records.now None HasNone) }
+    ensures cause { IfErr result (IsCause records.now (is_orphaned records.now disk ≡ true) None HasNone) }
 {
     check_orphaned(records, disk)?;
     check_free(records.tasks(), None)?;
@@ -67,7 +67,7 @@ pub(crate) fn clean_up_plan(alloc: Global, records: &Records) -> Result<Plan, Bo
     ensures over { IfOk result (CleansUpOver records.now) }
     ensures ok { IfOk result CleansUp }
     ensures err { IfErr result RefusesCleanUp }
-    ensures cause { IfErr result (IsCause records.now None HasNone) }
+    ensures cause { IfErr result (IsCause records.now (Unit {0}) None HasNone) }
 {
     check_free(records.tasks(), None)?;
     Ok(disks_alone(alloc, loose(alloc, records.orphans())?))

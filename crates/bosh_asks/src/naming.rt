@@ -71,7 +71,9 @@ fn goal_anew(
         → IfOk result (λ it. RenewsOver records.now inst.now change (Ok it)) }
     ensures cause { goal_of records.now inst.now.dep ≡ Some goal.now
         → option_copied config.entry ≡ recorded_config records.now.config
-        → IfErr result (IsCause records.now (Some inst.now.dep) (RenewsOver records.now inst.now change)) }
+        → is_wanted records.now inst.now ≡ true → lock_holder records.now (Some inst.now.dep) ≡ None
+        → IfErr result (IsCause records.now (is_wanted records.now inst.now ≡ true) (Some inst.now.dep)
+        (RenewsOver records.now inst.now change)) }
 {
     let view = view(records, &inst.dep)?;
     let goal = anew(alloc, inst, change, config, &view, goal);
@@ -92,7 +94,9 @@ fn renewed(
     ensures over { goal_of records.now inst.now.dep ≡ Some goal.now
         → IfOk result (λ it. RenewsOver records.now inst.now change (Ok it)) }
     ensures cause { goal_of records.now inst.now.dep ≡ Some goal.now
-        → IfErr result (IsCause records.now (Some inst.now.dep) (RenewsOver records.now inst.now change)) }
+        → is_wanted records.now inst.now ≡ true → lock_holder records.now (Some inst.now.dep) ≡ None
+        → IfErr result (IsCause records.now (is_wanted records.now inst.now ≡ true) (Some inst.now.dep)
+        (RenewsOver records.now inst.now change)) }
 {
     let config = recorded_config(alloc, records.config())?;
     let goal = goal_anew(alloc, records, inst, change, config.as_ref(), goal);
@@ -112,7 +116,8 @@ fn changed_goal(
     ensures over { IfOk result (λ it. RenewsOver records.now inst.now change (Ok it)) }
     ensures ok { IfOk result (λ it. Renews inst.now change (Ok it)) }
     ensures err { IfErr result (RefusesChange inst.now change) }
-    ensures cause { IfErr result (IsCause records.now (Some inst.now.dep) (RenewsOver records.now inst.now change)) }
+    ensures cause { IfErr result (IsCause records.now (is_wanted records.now inst.now ≡ true) (Some inst.now.dep)
+        (RenewsOver records.now inst.now change)) }
 {
     let Some(goal) = records.goal_of(&inst.dep) else {
         return Err(no_deployment(alloc, &inst.dep));
@@ -136,7 +141,8 @@ pub(crate) fn named_plan(
     ensures over { IfOk result (AltersOver records.now inst.now change) }
     ensures ok { IfOk result (Alters inst.now change) }
     ensures err { IfErr result (RefusesChange inst.now change) }
-    ensures cause { IfErr result (IsCause records.now (Some inst.now.dep) (RenewsOver records.now inst.now change)) }
+    ensures cause { IfErr result (IsCause records.now (is_wanted records.now inst.now ≡ true) (Some inst.now.dep)
+        (RenewsOver records.now inst.now change)) }
 {
     let changed = only(alloc, inst)?;
     let goal = changed_goal(alloc, records, inst, change);

@@ -75,7 +75,8 @@ pub fn opening(alloc: Global, records: &Records, ask: &Ask) -> Result<TaskOpen, 
     ensures free { OnOk result (lock_holder records.now (dep_of ask.now) ≡ None) }
     ensures named { OnOk result (IsNamed records.now ask.now) }
     ensures over { IfOk result (λ it. DoesOver records.now ask.now (plan_of it)) }
-    ensures cause { IfErr result (IsCause records.now (dep_of ask.now) (GoalOver records.now ask.now)) }
+    ensures cause { IfErr result (IsCause records.now (IsNamed records.now ask.now) (dep_of ask.now)
+        (GoalOver records.now ask.now)) }
     ensures ok { IfOk result (Opens ask.now) }
     ensures err { IfErr result (MayRefuse ask.now) }
 {

@@ -34,7 +34,8 @@ pub(crate) fn planned(alloc: Global, records: &Records, ask: &Ask) -> Result<Pla
     ensures over { IfOk result (DoesOver records.now ask.now) }
     ensures ok { IfOk result (Does ask.now) }
     ensures err { IfErr result (MayRefuse ask.now) }
-    ensures cause { IfErr result (IsCause records.now (dep_of ask.now) (GoalOver records.now ask.now)) }
+    ensures cause { IfErr result (IsCause records.now (IsNamed records.now ask.now) (dep_of ask.now)
+        (GoalOver records.now ask.now)) }
 {
     match ask {
         Ask::Deploy(it) => deploy_plan(alloc, records, it),

@@ -1,16 +1,18 @@
 -- How faults of a store are told over several calls.
 use Rattle.std.proofs.Common.{arith, ◌≡◌, ◌∙◌, ℕ, Bool, false, true, Result, Ok, Err, List, refl}
-use Rattle.std.proofs.Common.{inl, inr}
+use Rattle.std.proofs.Common.{inl, inr, subst, sym}
 use Rattle.std.specs.Prelude.{◌||◌, not, IfErr}
 use Rattle.bosh_asks.specs.declared.fault.BookFault.{BookFault}
 use Rattle.bosh_asks.specs.declared.fault.BookFault.TheVariants as book
 use Rattle.bosh_asks.specs.Asked.{dep_of}
 use Rattle.bosh_asks.specs.Cause.{IsCause}
-use Rattle.bosh_asks.specs.Over.{GoalOver}
+use Rattle.bosh_asks.specs.Over.{GoalOver, IsNamed}
 use Rattle.bosh_asks.specs.Refused.{MayRefuse}
 use Rattle.bosh_asks.specs.declared.ask.Ask.{Ask}
 use Rattle.bosh_asks.specs.declared.ask.Ask.TheVariants as asks
-use Rattle.bosh_book.specs.Running.{is_running, is_stopped}
+use Rattle.bosh_book.specs.Opens.{IsOpeningOf}
+use Rattle.bosh_book.specs.Running.{is_full, is_running, is_stopped}
+use Rattle.bosh_base.specs.declared.entry.TaskOpen.{TaskOpen}
 use Rattle.bosh_book.specs.declared.book.Book.{Book}
 use Rattle.bosh_book.specs.Faults.{FailsAs, IsClaimFault, IsDiffering, IsNoteFault, IsOpenFault, IsQuiet, IsTurnFault, IsUploadFault}
 use Rattle.bosh_journal.specs.JournalView.{JournalView}
@@ -61,7 +63,8 @@ fails_quietly T faults book.Memory journal quiet = refl
 
 -- what is asked is never refused because the book is stopped, or full, or its store failed
 pub refuses_open : {K : Type 0} (was : Book K) (ask : Ask) (fault : BookFault) → MayRefuse ask fault →
-    IsCause was.records (dep_of ask) (GoalOver was.records ask) fault → IsOpenFault was ask fault
+    IsCause was.records (IsNamed was.records ask) (dep_of ask) (GoalOver was.records ask) fault →
+    IsOpenFault was ask fault
 refuses_open was (asks.Deploy it) book.Stopped refuses cause = absurd refuses
 refuses_open was (asks.Recreate inst) book.Stopped refuses cause = absurd refuses
 refuses_open was (asks.Start inst) book.Stopped refuses cause = absurd refuses
@@ -97,6 +100,13 @@ refuses_open was ask (book.Goal fault) refuses cause = (refuses, cause)
 refuses_open was ask book.Limit refuses cause = (refuses, cause)
 refuses_open was ask (book.Consumed by) refuses cause = (refuses, cause)
 refuses_open was ask book.Memory refuses cause = (refuses, cause)
+
+-- a task that would open is refused where there is no room for it
+pub opens_full : {K : Type 0} (was : Book K) (ask : Ask) (opening : TaskOpen) (fault : BookFault) →
+    is_stopped was ≡ false → IsOpeningOf was.records ask opening → (fault ≡ book.Full) × (is_full was ≡ true) →
+    IsOpenFault was ask fault
+opens_full was ask opening fault runs is full =
+    subst (IsOpenFault was ask) (sym full.0) (runs, full.1, (opening, is))
 
 -- .. which never says that the store failed
 pub refuses_quietly : (ask : Ask) (fault : BookFault) → MayRefuse ask fault → IsQuiet fault

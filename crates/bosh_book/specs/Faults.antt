@@ -3,7 +3,7 @@ use Rattle.std.specs.Prelude.{◌≡◌, ℕ, List, is_some, true, false, Result
 use Rattle.bosh_asks.specs.Asked.{dep_of}
 use Rattle.bosh_asks.specs.Cause.{IsCause}
 use Rattle.bosh_asks.specs.Goals.{config_in}
-use Rattle.bosh_asks.specs.Over.{GoalOver}
+use Rattle.bosh_asks.specs.Over.{GoalOver, IsNamed}
 use Rattle.bosh_asks.specs.Refused.{MayRefuse}
 use Rattle.bosh_asks.specs.declared.ask.Ask.{Ask}
 use Rattle.bosh_asks.specs.declared.fault.BookFault.{BookFault}
@@ -12,9 +12,11 @@ use Rattle.bosh_base.specs.Answer.{is_kind}
 use Rattle.bosh_base.specs.Call.{method_of}
 use Rattle.bosh_base.specs.declared.answer.Answer.{Answer}
 use Rattle.bosh_base.specs.declared.entry.Entry.{Entry}
+use Rattle.bosh_base.specs.declared.entry.TaskOpen.{TaskOpen}
 use Rattle.bosh_book.specs.Current.{IsCurrent}
 use Rattle.bosh_book.specs.Ends.{IsAtWork}
 use Rattle.bosh_book.specs.Folds.{IsDamaged, IsStop}
+use Rattle.bosh_book.specs.Opens.{IsOpeningOf}
 use Rattle.bosh_book.specs.Running.{is_full, is_stopped}
 use Rattle.bosh_book.specs.declared.book.Book.{Book}
 use Rattle.bosh_book.specs.declared.granted.Granted.{Granted}
@@ -109,9 +111,13 @@ IsConfigFault was file (book.Goal fault) =
     (is_stopped was ≡ false) × (fault ≡ goal.NoConfig) × (is_some (config_in file) ≡ false)
 IsConfigFault was file fault = IsCallFault was fault
 
--- a task opens unless what is asked is refused, for a cause in the records, or there is no room for it
+-- a task opens unless what is asked is refused, for the first cause in the records, or there is no room for the task
+-- that would open
 abbrev pub IsOpenFault : {K : Type 0} → Book K → Ask → BookFault → Type 0
 IsOpenFault was ask book.Stopped = is_stopped was ≡ true
-IsOpenFault was ask book.Full = (is_stopped was ≡ false) × (is_full was ≡ true)
+IsOpenFault was ask book.Full =
+    (is_stopped was ≡ false) × (is_full was ≡ true) × ((opening : TaskOpen) × IsOpeningOf was.records ask opening)
 IsOpenFault was ask book.StoreFault = is_stopped was ≡ false
-IsOpenFault was ask fault = MayRefuse ask fault × IsCause was.records (dep_of ask) (GoalOver was.records ask) fault
+IsOpenFault was ask fault =
+    MayRefuse ask fault
+    × IsCause was.records (IsNamed was.records ask) (dep_of ask) (GoalOver was.records ask) fault

@@ -37,7 +37,7 @@ impl<K: Keeper> Book<K> {
         self.open(opening)
     }
 
-    #[tactic(auto, using(crate::proofs::FaultLemmas::refuses_open, crate::proofs::FaultLemmas::refuses_quietly))]
+    #[tactic(auto, using(crate::proofs::FaultLemmas::opens_full, crate::proofs::FaultLemmas::refuses_open, crate::proofs::FaultLemmas::refuses_quietly))]
     fn opened(&self, ask: &Ask) -> Result<TaskOpen, BookFault>
         ensures opens { IfOk result (IsOpeningOf self.now.records ask.now) }
         ensures quiet { IfErr result IsQuiet }

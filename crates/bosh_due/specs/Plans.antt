@@ -8,7 +8,7 @@ use Rattle.std.specs.Option.{option_eq}
 use Rattle.std.specs.Str.{bytes_eq}
 use Rattle.bosh_answers.specs.Step.{◌>>=◌}
 use Rattle.bosh_asks.specs.Changed.{is_in}
-use Rattle.bosh_asks.specs.Faults.{answered, name_and_version, of_goal}
+use Rattle.bosh_asks.specs.Faults.{answered, of_goal, unsound}
 use Rattle.bosh_asks.specs.Goals.{AreSound, nothing, recorded_config}
 use Rattle.bosh_asks.specs.Recorded.{first_consumer, is_full}
 use Rattle.bosh_asks.specs.declared.ask.Deploy.{Deploy}
@@ -18,7 +18,6 @@ use Rattle.bosh_base.specs.Cloud.{numbers_to}
 use Rattle.bosh_base.specs.declared.goal.Goal.{Goal}
 use Rattle.bosh_base.specs.declared.inst.Inst.{Inst}
 use Rattle.bosh_base.specs.declared.link.Joint.{Joint}
-use Rattle.bosh_base.specs.declared.release.Release.{Release}
 use Rattle.bosh_base.specs.declared.snapshot.DepRow.{DepRow}
 use Rattle.bosh_goal.specs.Anew.{anew}
 use Rattle.bosh_goal.specs.Goal.{IsGoal}
@@ -121,12 +120,6 @@ clean_up_plan k = do
   Ok None
 
 -- ---- deploys
-
--- the releases that are recorded are no good: the last one is named
-abbrev pub unsound : List Release → BookFault
-unsound [] = book.Memory
-unsound (r ∷ []) = book.Differs (name_and_version r.name r.version)
-unsound (r ∷ rs) = unsound rs
 
 -- the goal of the manifest over what is recorded, or why there is none
 pub record AnswersGoal (k : Known) (it : Deploy) (answer : Result Goal GoalFault) : Type 0 where

@@ -49,4 +49,8 @@ pub returns-clause-cause : goal.returns-clause-cause
 returns-clause-cause c =
     failed_over c.args.records.now c.args.deploy.now c.in_ok-goal.goal c.check-checked.result c.passed.result
     c.in_ok-goal.ensures.over (given_dep c.args.deploy.now c.in_ok-goal.goal c.in_ok-goal.ensures.ok)
+    (subst (λ (entries : List (ℕ × Option TaskRow)). holder (Some c.args.deploy.now.manifest.name) entries ≡ None)
+    c.tasks.ensures.rest
+    (subst (λ (it : Contents). holder (Some it.name) c.tasks.result ≡ None) c.contents.ensures.contents
+    c.in_ok-check_free.ensures.free))
     c.check-checked.ensures.cause c.passed.ensures.err
