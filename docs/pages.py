@@ -1,5 +1,6 @@
 #!/usr/bin/env python3
-"""Writes what pages have by script: causes and cures in docs/PROFILE.md, the man page docs/boshd.1, docs/BELIEVED.md.
+"""Writes what pages have by script: causes and cures in docs/PROFILE.md, the man page docs/boshd.1, docs/BELIEVED.md, and
+the lines of definitions in docs/HEADLINE.md.
 
 The causes and cures are those that bin/bosh tells, the man page is made of docs/PROFILE.md, and docs/BELIEVED.md lists
 the definitions that statements stand on. With --write the pages are written; docs/check.py says where they are
@@ -11,9 +12,10 @@ import sys
 
 from tree import TOP, files_of, lines_of, text_of
 
-PROFILE, MANUAL, BELIEVED = "docs/PROFILE.md", "docs/boshd.1", "docs/BELIEVED.md"
+PROFILE, MANUAL, BELIEVED, HEADLINE = "docs/PROFILE.md", "docs/boshd.1", "docs/BELIEVED.md", "docs/HEADLINE.md"
 USED = re.compile(r"use Rattle\.(\w+)\.specs\.([\w.]+?)(?:\.\{|$| as )")
 CURES = "## Causes and cures"
+PLACED = re.compile(r"`(\w+)` \(`(crates/[\w/]+\.\w+)`, line \d+\)")
 
 
 def causes():
@@ -164,13 +166,26 @@ def believed():
     return "\n".join(lines) + "\n"
 
 
+def placed(match):
+    """A name with the file that defines it, and the line there."""
+    name, path = match.groups()
+    begins = re.compile(rf"(?:pub |abbrev |record |data |enum |struct |fn )+{name}\b")
+    line = next((number for number, line in enumerate(lines_of(path), 1) if begins.match(line)), 0)
+    return f"`{name}` (`{path}`, line {line})"
+
+
+def headline():
+    """The page on the headline, with the lines of its definitions as they are."""
+    return PLACED.sub(placed, text_of(HEADLINE))
+
+
 def pages():
     """Each page that is written here, as it is to be."""
-    return {PROFILE: profile(), MANUAL: manual(), BELIEVED: believed()}
+    return {PROFILE: profile(), MANUAL: manual(), BELIEVED: believed(), HEADLINE: headline()}
 
 
 if __name__ == "__main__" and sys.argv[1:] == ["--write"]:
-    for page in (PROFILE, MANUAL, BELIEVED):
+    for page in (PROFILE, MANUAL, BELIEVED, HEADLINE):
         made = pages()[page]
         with open(os.path.join(TOP, page), "w", encoding="utf-8") as file:
             file.write(made)

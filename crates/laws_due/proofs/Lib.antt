@@ -1,6 +1,9 @@
+pub mod CountLemmas
 pub mod JobLemmas
 pub mod ListLemmas
+pub mod OpenedLemmas
 pub mod OutcomeLemmas
 pub mod RefusedLemmas
+pub mod RoomLemmas
 pub mod StemcellLemmas
 pub mod UploadLemmas

@@ -1,2 +1,5 @@
 pub mod Answered
+pub mod Asked
+pub mod Counted
+pub mod Opened
 pub mod Replies

@@ -127,7 +127,7 @@ module _ (one_more : OneMoreStands) {K L : Type 0} {k : keeper.Ghosts K} {l : ke
                 (Err why) now.book
                 → MayPend outside (stopped (fold later m (map moves.Note has.notes.noted))) now.book.journal.is_broken
                 now.book.journal.pending
-            by book.StoreFault is (e, permitted, there) =
+            by book.StoreFault is (e, permitted, there, own) =
                 pending_stopped outside (fold later m (map moves.Note has.notes.noted)) e now.book.journal.is_broken
                 now.book.journal.pending permitted
                 (room_for (fold later m (map moves.Note has.notes.noted)) e

@@ -1,6 +1,7 @@
 pub mod CallLemmas
 pub mod ChainLemmas
 pub mod ChoiceLemmas
+pub mod ChosenLemmas
 pub mod ClaimLemmas
 pub mod ClaimStoppedLemmas
 pub mod CountLemmas

@@ -1,6 +1,7 @@
 -- Each entry that a claim notes, turn by turn, may be noted, and what is recorded stands after it.
 use Rattle.std.proofs.Common.{◌≡◌, ◌∙◌, ◌<◌, ℕ, zero, suc, Bool, true, false, not, List, [], ◌∷◌, ◌++◌, Option, Some, None, ap, append-nil, append_assoc, refl, subst, sym, inl, inr}
 use Rattle.std.specs.Prelude.{◌&&◌, eqb, fold, is_some, map, nat_le, nat_lt, Result, Ok, Err}
+use Rattle.std.specs.List.{AllByRecursion}
 use Rattle.std.proofs.lemmas.Bool.{and_parts, eqb-true, leb-true, ltb-true}
 use Rattle.bosh_asks.specs.declared.fault.BookFault.{BookFault}
 use Rattle.bosh_asks.specs.declared.fault.BookFault.TheVariants.{Full, Memory, StoreFault}
@@ -41,9 +42,12 @@ use Rattle.laws_facts.specs.Owners.{works}
 use Rattle.laws_held.proofs.HeldLemmas.{run_holds}
 use Rattle.laws_held.specs.Whole.{Whole}
 use Rattle.laws_runs.proofs.ClaimLemmas.{claims_are_lawful}
+use Rattle.laws_sites.proofs.ChosenLemmas.{IsChosenFor, choice_for}
 use Rattle.laws_sites.proofs.MomentLemmas.{MayBeNext, later_on, run_on}
 use Rattle.laws_sites.proofs.NoteLemmas.{OneMoreStands, all_stand}
+use Rattle.laws_sites.specs.Tasks.{IsWorkOf}
 use Rattle.laws_stands.specs.Agrees.{Agrees, claimed_of}
+use Rattle.laws_stands.specs.Stands.{IsWork}
 use Rattle.laws_stands.specs.Told.{Told, telling}
 use Rattle.laws_stands_fits.proofs.EntriesLemmas.{whole_with_room}
 use Rattle.laws_stands_fits.specs.Whole.{StandsWhole}
@@ -107,6 +111,7 @@ module _ (one_more : OneMoreStands) {K : Type 0} (bodies : K → Option (List (L
   -- what is noted from there may be noted, and what is recorded stands for it
   pub record HasNoted (m : Moment) (told : Told) (was now : Book K) : Type 0 where
     pub noted : List Entry
+    pub of_task : AllByRecursion (IsWorkOf task) noted
     pub entries : now.journal.entries ≡ was.journal.entries ++ noted
     pub may : IsRunFrom outside m (map moves.Note noted)
     pub whole : StandsWhole (fold telling told noted) now.records
@@ -116,7 +121,7 @@ module _ (one_more : OneMoreStands) {K : Type 0} (bodies : K → Option (List (L
   abbrev pub Pends : Moment → List Entry → Result Claim BookFault → Book K → Type 0
   Pends m noted (Err StoreFault) now =
       (e : Entry) × MayBeNext outside (fold later m (map moves.Note noted)) e
-      × (now.journal.pending ≡ Some (added e))
+      × (now.journal.pending ≡ Some (added e)) × IsWorkOf task e
   Pends m noted result now = Unit {0}
 
   -- what a claim notes may be noted, and what it was to note next
@@ -147,6 +152,7 @@ module _ (one_more : OneMoreStands) {K : Type 0} (bodies : K → Option (List (L
   none_noted : (m : Moment) (told : Told) (was now : Book K) → IsAt m told was → now ≡ was → HasNoted m told was now
   none_noted m told was now at same = record {
     noted = [];
+    of_task = tt;
     entries = (λ i. (same i).journal.entries) ∙ sym (append-nil was.journal.entries);
     may = tt;
     whole = subst (λ (b : Book K). StandsWhole told b.records) (sym same) at.whole;
@@ -155,18 +161,19 @@ module _ (one_more : OneMoreStands) {K : Type 0} (bodies : K → Option (List (L
 
   -- an entry is noted, and that is all
   one_noted : (m : Moment) (told : Told) (was now : Book K) (e : Entry) → IsAt m told was → MayBeNext outside m e
-      → Adds bodies faults was (e ∷ []) now → HasNoted m told was now
-  one_noted m told was now e at may adds =
+      → IsWorkOf task e → Adds bodies faults was (e ∷ []) now → HasNoted m told was now
+  one_noted m told was now e at may own adds =
       let both : StandsWhole (telling told e) now.records × Agrees (noting m e) (telling told e) =
       all_stand one_more outside m told was.records now.records (e ∷ []) (holds_at m told was at) at.whole at.agrees
       (may.0, tt, may.1) (at.numbers, tt) adds.learns in
-      record { noted = e ∷ []; entries = adds.entries; may = (may.0, tt, may.1); whole = both.0; agrees = both.1 }
+      record { noted = e ∷ []; of_task = (own, tt); entries = adds.entries; may = (may.0, tt, may.1); whole = both.0; agrees = both.1 }
 
   -- .. or more is noted after it
-  more_noted : (m : Moment) (told : Told) (was mid now : Book K) (e : Entry) → MayBeNext outside m e
+  more_noted : (m : Moment) (told : Told) (was mid now : Book K) (e : Entry) → MayBeNext outside m e → IsWorkOf task e
       → Adds bodies faults was (e ∷ []) mid → HasNoted (noting m e) (telling told e) mid now → HasNoted m told was now
-  more_noted m told was mid now e may adds more = record {
+  more_noted m told was mid now e may own adds more = record {
     noted = e ∷ more.noted;
+    of_task = (own, more.of_task);
     entries = more.entries ∙ ap (λ es. es ++ more.noted) adds.entries
         ∙ append_assoc was.journal.entries (e ∷ []) more.noted;
     may = (may.0, more.may, may.1);
@@ -180,11 +187,11 @@ module _ (one_more : OneMoreStands) {K : Type 0} (bodies : K → Option (List (L
   pends_on m e noted result now pends = tt
 
   more_turned : (m : Moment) (told : Told) (was mid : Book K) (result : Result Claim BookFault) (now : Book K) (e : Entry)
-      → MayBeNext outside m e → Adds bodies faults was (e ∷ []) mid
+      → MayBeNext outside m e → IsWorkOf task e → Adds bodies faults was (e ∷ []) mid
       → HasTurned (noting m e) (telling told e) mid result now → HasTurned m told was result now
   unfolding more_noted
-  more_turned m told was mid result now e may adds more = record {
-    notes = more_noted m told was mid now e may adds more.notes;
+  more_turned m told was mid result now e may own adds more = record {
+    notes = more_noted m told was mid now e may own adds more.notes;
     pends = pends_on m e more.notes.noted result now more.pends;
   }
 
@@ -233,6 +240,12 @@ module _ (one_more : OneMoreStands) {K : Type 0} (bodies : K → Option (List (L
     chosen : (choice : Choice) → choice_of was.records task worker ≡ choice → IsLawful outside m task (claimed_of choice)
     chosen choice is = subst (λ (it : Choice). IsLawful outside m task (claimed_of it)) is (lawful m told was at)
 
+    -- what is chosen is work of the task
+    own : (e : Entry) → choice_of was.records task worker ≡ choices.Noted e → IsWorkOf task e
+    own e is = subst (IsChosenFor task) is (choice_for was.records task worker (λ work there.
+        let of : IsWork told task (Some work) = subst (IsWork told task) there (at.whole.stands.works task) in
+        of.2.1.task_is))
+
     -- a turn that gives an answer notes the beginning of a call, or nothing
     answers : (claim : Claim) (choice : Choice) → choice_of was.records task worker ≡ choice
         → claims.Follows bodies faults choice was (Ok (Some claim)) mid → HasNoted m told was mid
@@ -245,7 +258,8 @@ module _ (one_more : OneMoreStands) {K : Type 0} (bodies : K → Option (List (L
         by None begins = none_noted m told was mid at begins.1
         by (Some dep) (inl lacks) = absurd (no_turn (Some claim) Memory lacks.0)
         by (Some dep) (inr (value, whole, adds)) =
-            one_noted m told was mid (entries.Begin b) at (chosen (choices.Noted (entries.Begin b)) is, tt) adds
+            one_noted m told was mid (entries.Begin b) at (chosen (choices.Noted (entries.Begin b)) is, tt)
+            (own (entries.Begin b) is) adds
     answers claim (choices.Noted (entries.UpdBegin u)) is follows = absurd (no_claim claim follows.0)
     answers claim (choices.Noted (entries.UpdDone u)) is follows = absurd (no_claim claim follows.0)
     answers claim (choices.Noted (entries.Gone u)) is follows = absurd (no_claim claim follows.0)
@@ -254,7 +268,7 @@ module _ (one_more : OneMoreStands) {K : Type 0} (bodies : K → Option (List (L
     -- one that gives none notes an update
     goes_on : {R : Type 0} (choice : Choice) → choice_of was.records task worker ≡ choice
         → claims.Follows bodies faults choice was (Ok None) mid
-        → ((e : Entry) → IsUpdate e → MayBeNext outside m e → Adds bodies faults was (e ∷ []) mid → R) → R
+        → ((e : Entry) → IsUpdate e → MayBeNext outside m e → IsWorkOf task e → Adds bodies faults was (e ∷ []) mid → R) → R
     goes_on choices.Waits is follows more = absurd (no_end Wait follows.0)
     goes_on choices.Over is follows more = absurd (no_end Over follows.0)
     goes_on {R} (choices.Noted (entries.Begin b)) is follows more = by (dep_of was.records b.owner) follows
@@ -264,21 +278,22 @@ module _ (one_more : OneMoreStands) {K : Type 0} (bodies : K → Option (List (L
         by (Some dep) (inl lacks) = absurd (no_turn None Memory lacks.0)
         by (Some dep) (inr (value, whole, adds)) = absurd (let no = value in cc)
     goes_on (choices.Noted (entries.UpdBegin u)) is follows more =
-        more (entries.UpdBegin u) tt (chosen (choices.Noted (entries.UpdBegin u)) is, tt) follows.2
+        more (entries.UpdBegin u) tt (chosen (choices.Noted (entries.UpdBegin u)) is, tt) (own (entries.UpdBegin u) is) follows.2
     goes_on (choices.Noted (entries.UpdDone u)) is follows more =
-        more (entries.UpdDone u) tt (chosen (choices.Noted (entries.UpdDone u)) is, tt) follows.2
+        more (entries.UpdDone u) tt (chosen (choices.Noted (entries.UpdDone u)) is, tt) (own (entries.UpdDone u) is) follows.2
     goes_on (choices.Noted (entries.Gone u)) is follows more =
-        more (entries.Gone u) tt (chosen (choices.Noted (entries.Gone u)) is, tt) follows.2
+        more (entries.Gone u) tt (chosen (choices.Noted (entries.Gone u)) is, tt) (own (entries.Gone u) is) follows.2
     goes_on (choices.Noted e) is follows more = absurd (no_end Wait follows.0)
 
     -- .. and one that is refused nothing: the entry may be pending
-    left_behind : (e : Entry) (fault : BookFault) → MayBeNext outside m e → Adds bodies faults was [] mid
+    left_behind : (e : Entry) (fault : BookFault) → MayBeNext outside m e → IsWorkOf task e → Adds bodies faults was [] mid
         → LeavesPending {T = Option Claim} (Err fault) e mid.journal → HasTurned m told was (Err fault) mid
-    left_behind e fault may adds leaves = record { notes = left; pends = by fault leaves }
+    left_behind e fault may is_own adds leaves = record { notes = left; pends = by fault leaves }
       where
         left : HasNoted m told was mid
         left = record {
           noted = [];
+          of_task = tt;
           entries = adds.entries;
           may = tt;
           whole = whole_with_room told was.records mid.records adds.learns at.whole;
@@ -287,7 +302,7 @@ module _ (one_more : OneMoreStands) {K : Type 0} (bodies : K → Option (List (L
 
         by : (fault : BookFault) → LeavesPending {T = Option Claim} (Err fault) e mid.journal
             → Pends m [] (Err fault) mid
-        by StoreFault leaves = (e, may, leaves)
+        by StoreFault leaves = (e, may, leaves, is_own)
         by fault leaves = tt
 
     lacked : (fault : BookFault) → ◌≡◌ {A = Result (Option Claim) BookFault} (Err fault) (Err Memory) → mid ≡ was
@@ -315,13 +330,17 @@ module _ (one_more : OneMoreStands) {K : Type 0} (bodies : K → Option (List (L
         by None begins = absurd (no_refusal fault (Some Wait) begins.0)
         by (Some dep) (inl lacks) = lacked fault lacks.0 lacks.1
         by (Some dep) (inr (note, fails, adds, leaves)) =
-            left_behind (entries.Begin b) fault (chosen (choices.Noted (entries.Begin b)) is, tt) adds leaves
+            left_behind (entries.Begin b) fault (chosen (choices.Noted (entries.Begin b)) is, tt) (own (entries.Begin b) is) adds
+            leaves
     refused fault (choices.Noted (entries.UpdBegin u)) is (note, fails, adds, leaves) =
-        left_behind (entries.UpdBegin u) fault (chosen (choices.Noted (entries.UpdBegin u)) is, tt) adds leaves
+        left_behind (entries.UpdBegin u) fault (chosen (choices.Noted (entries.UpdBegin u)) is, tt) (own (entries.UpdBegin u) is) adds
+        leaves
     refused fault (choices.Noted (entries.UpdDone u)) is (note, fails, adds, leaves) =
-        left_behind (entries.UpdDone u) fault (chosen (choices.Noted (entries.UpdDone u)) is, tt) adds leaves
+        left_behind (entries.UpdDone u) fault (chosen (choices.Noted (entries.UpdDone u)) is, tt) (own (entries.UpdDone u) is) adds
+        leaves
     refused fault (choices.Noted (entries.Gone u)) is (note, fails, adds, leaves) =
-        left_behind (entries.Gone u) fault (chosen (choices.Noted (entries.Gone u)) is, tt) adds leaves
+        left_behind (entries.Gone u) fault (chosen (choices.Noted (entries.Gone u)) is, tt) (own (entries.Gone u) is) adds
+        leaves
     refused fault (choices.Noted e) is follows = absurd (no_refusal fault (Some Wait) follows.0)
 
     turn_refused : (fault : BookFault) → claims.Turn bodies faults task worker was (Err fault) mid
@@ -351,7 +370,7 @@ module _ (one_more : OneMoreStands) {K : Type 0} (bodies : K → Option (List (L
       by (Ok None) (inl lacks) rest others = absurd (no_turn None Memory lacks.0)
       by (Ok None) (inr follows) rest others =
           goes_on m told was mid at (choice_of was.records task worker) refl follows
-          (λ e update may adds. more_turned m told was mid result now e may adds
+          (λ e update may own adds. more_turned m told was mid result now e may own adds
           (others (noting m e) (telling told e)
           (at_next m told was mid e at may adds (works_after m e task update at.working) (calls_after m e update)) rest))
 
@@ -363,6 +382,7 @@ module _ (one_more : OneMoreStands) {K : Type 0} (bodies : K → Option (List (L
     stays_idle : (now : Book K) → now ≡ was → HasNoted m told was now
     stays_idle now same = record {
       noted = [];
+      of_task = tt;
       entries = (λ i. (same i).journal.entries) ∙ sym (append-nil was.journal.entries);
       may = tt;
       whole = subst (λ (b : Book K). StandsWhole told b.records) (sym same) whole;
