@@ -19,7 +19,7 @@ use bosh_world::{HeldCall, Site, SiteFault};
 
 /// Goes on with what a worker has at hand, and tells what it has at hand then: with nothing at hand it looks for work of the
 /// tasks, in their order. Where a call is refused, it stays at hand.
-pub fn take_turn<K: Keeper, L: Keeper>(
+pub(crate) fn take_turn<K: Keeper, L: Keeper>(
     site: &mut Site<K, L>,
     place: Place,
     tasks: &[u64],
