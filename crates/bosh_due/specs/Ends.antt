@@ -13,6 +13,7 @@ use Rattle.bosh_due.specs.Before.{Before, left_under_way, with_moves}
 use Rattle.bosh_due.specs.Outcomes.{MakesMove, OpensAndRuns, Outcome, has_ended, is_clouds_halt, is_directors_halt}
 use Rattle.bosh_due.specs.Outcomes.Outcome.{Answers, Changes, Notes, Opens, Refuses, Restarts}
 use Rattle.bosh_due.specs.Restarting.{MayStartAt, StartsAt, after_halt, start_under_way}
+use Rattle.bosh_due.specs.Room.{goes_by_room, with_move}
 use Rattle.bosh_due.specs.UnderWay.{UnderWay}
 use Rattle.bosh_due.specs.UnderWay.UnderWay.{altering, idle, appending, working}
 use Rattle.bosh_due.specs.Work.{is_work_move}
@@ -48,7 +49,7 @@ EndsIn (Refuses why) b more reply = (more ≡ []) × (option_map Refused why ≡
 EndsIn (Answers answer) b more reply = (more ≡ []) × (reply ≡ answer)
 EndsIn (Notes entry good) b more reply = MakesMove is_directors_halt (moves.Note entry) good more reply
 EndsIn (Changes move entry good) b more reply = MakesMove is_clouds_halt move good more reply
-EndsIn (Opens opening) b more reply = OpensAndRuns opening (after_command (Opens opening) b more) more reply
+EndsIn (Opens opening) b more reply = OpensAndRuns b opening (after_command (Opens opening) b more) more reply
 EndsIn Restarts b more reply = StartsAt b (after_halt b.moment.halted more) reply
 
 -- .. with what is under way then
@@ -65,23 +66,24 @@ MakesAtMost halts move [] = Unit {0}
 MakesAtMost halts move (moves.Halt cause ∷ []) = halts cause ≡ true
 MakesAtMost halts move more = more ≡ move ∷ []
 
--- the task that was to open has opened, and its work alone was done since
-pub record MayRunTask (due opened : TaskOpen) (run : List Move) (now : Before) : Type 0 where
+-- the task that was to open has opened, and its work alone was done since, where there was room for it
+pub record MayRunTask (b : Before) (due opened : TaskOpen) (run : List Move) (now : Before) : Type 0 where
   pub is_due : opened ≡ due
   pub is_its_work : list_all (is_work_move (due.task ∷ [])) run ≡ true
+  pub by_room : goes_by_room (with_move b (moves.Note (entries.TaskOpen opened))) run ≡ true
   -- no halt comes after its end
   pub ends_last : (now.moment.halted && has_ended now due.task) ≡ false
 
 -- the first move opens the task
-abbrev pub MayRunFrom : TaskOpen → Before → Move → List Move → Type 0
-MayRunFrom due now (moves.Note (entries.TaskOpen opened)) run = MayRunTask due opened run now
-MayRunFrom due now move run = ⊥
+abbrev pub MayRunFrom : Before → TaskOpen → Before → Move → List Move → Type 0
+MayRunFrom b due now (moves.Note (entries.TaskOpen opened)) run = MayRunTask b due opened run now
+MayRunFrom b due now move run = ⊥
 
 -- the task opens, and its work alone is done, up to what is known and done now
-abbrev pub MayOpenAndRun : TaskOpen → Before → List Move → Type 0
-MayOpenAndRun due now [] = Unit {0}
-MayOpenAndRun due now (moves.Halt cause ∷ []) = is_directors_halt cause ≡ true
-MayOpenAndRun due now (move ∷ run) = MayRunFrom due now move run
+abbrev pub MayOpenAndRun : Before → TaskOpen → Before → List Move → Type 0
+MayOpenAndRun b due now [] = Unit {0}
+MayOpenAndRun b due now (moves.Halt cause ∷ []) = is_directors_halt cause ≡ true
+MayOpenAndRun b due now (move ∷ run) = MayRunFrom b due now move run
 
 -- nothing is done, or a restart is begun
 abbrev pub MayRestart : Before → List Move → Type 0
@@ -94,7 +96,7 @@ MayMake (Refuses why) b more = more ≡ []
 MayMake (Answers answer) b more = more ≡ []
 MayMake (Notes entry good) b more = MakesAtMost is_directors_halt (moves.Note entry) more
 MayMake (Changes move entry good) b more = MakesAtMost is_clouds_halt move more
-MayMake (Opens opening) b more = MayOpenAndRun opening (after_command (Opens opening) b more) more
+MayMake (Opens opening) b more = MayOpenAndRun b opening (after_command (Opens opening) b more) more
 MayMake Restarts b more = MayRestart b more
 
 -- .. with what is under way then

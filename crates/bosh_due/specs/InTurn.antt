@@ -6,18 +6,21 @@ use Rattle.bosh_answers.specs.declared.files.KeptFile.{KeptFile}
 use Rattle.bosh_base.specs.declared.moves.Move.{Move}
 use Rattle.bosh_base.specs.declared.moves.Move.TheVariants as moves
 use Rattle.bosh_due.specs.Before.{before_of}
-use Rattle.bosh_due.specs.Causes.{HasCauses, StoreFailures, Waits, with_line, without_last_stop}
+use Rattle.bosh_due.specs.Causes.{HasCauses, StoreFailures, without_last_stop}
 use Rattle.bosh_due.specs.Files.{FilesRead, Shelved}
 use Rattle.bosh_due.specs.HaltedBy.HaltedBy.{no_line}
 use Rattle.bosh_due.specs.Restarting.{interruptions}
-use Rattle.bosh_due.specs.Turns.{MakesTurn, MakesTurnUpTo, TurnRead, kept_after}
+use Rattle.bosh_due.specs.Turns.{IsCutBy, MakesTurn, TurnRead, kept_after}
 use Rattle.bosh_due.specs.UnderWay.{UnderWay}
 use Rattle.bosh_due.specs.UnderWay.UnderWay.{idle}
+use Rattle.bosh_due.specs.Waiting.{Waits, with_line}
 use Rattle.bosh_history.specs.Learn.{known_of}
 use Rattle.bosh_history.specs.Moments.{Opening}
 use Rattle.bosh_input.specs.Ended.{bounded_request}
 use Rattle.bosh_input.specs.declared.request.Request.{Request}
 use Rattle.bosh_ports.specs.Faults.{count_with}
+use Rattle.bosh_transcript.specs.declared.status.Status.{Status}
+use Rattle.bosh_transcript.specs.declared.status.Status.TheVariants as statuses
 
 -- what a turn read, the files that it found, how often the stores failed in it, and its moves
 pub record TurnMade : Type 0 where
@@ -78,23 +81,33 @@ pub record MakesNextTurn
     pub others : Rest (session_after was turn left waits)
 
 -- .. or an event cuts it off
-pub record MakesLastTurn (o : Opening) (shelf : Option Shelved) (was : SessionSoFar) (turn : TurnMade) : Type 0 where
+pub record MakesLastTurn
+    (status : Status) (o : Opening) (shelf : Option Shelved) (was : SessionSoFar) (turn : TurnMade) : Type 0 where
   pub left : UnderWay
   pub waits : Waits
   pub goes_on : GoesOnFrom shelf was turn
-  pub makes_up_to : MakesTurnUpTo (before_of o was.said was.under_way) turn.files turn.read turn.segment left
+  pub cut_by : IsCutBy status (before_of o was.said was.under_way) turn.files turn.read turn.segment left
   pub causes : IsCaused o was turn (without_last_stop turn.segment) waits
 
--- .. or none is cut off
-abbrev pub MakesLast : Opening → Option Shelved → SessionSoFar → Option TurnMade → Type 0
-MakesLast o shelf was None = Unit {0}
-MakesLast o shelf was (Some turn) = MakesLastTurn o shelf was turn
+-- .. or none is cut off: the input ended; or an event came as the next command was read, of an input that was not seen to
+-- end. The output fails in a turn alone.
+abbrev pub EndsBetween : Status → SessionSoFar → Type 0
+EndsBetween statuses.Good was = Unit {0}
+EndsBetween statuses.Failed was = Unit {0}
+EndsBetween statuses.Source was = was.has_ended ≡ false
+EndsBetween statuses.Limit was = was.has_ended ≡ false
+EndsBetween statuses.Memory was = was.has_ended ≡ false
+EndsBetween status was = ⊥
+
+abbrev pub MakesLast : Status → Opening → Option Shelved → SessionSoFar → Option TurnMade → Type 0
+MakesLast status o shelf was None = EndsBetween status was
+MakesLast status o shelf was (Some turn) = MakesLastTurn status o shelf was turn
 
 -- one after the other
-abbrev pub MakesTurns : Opening → Option Shelved → SessionSoFar → List TurnMade → Option TurnMade → Type 0
-MakesTurns o shelf was [] cut = MakesLast o shelf was cut
-MakesTurns o shelf was (turn ∷ turns) cut =
-    MakesNextTurn (λ next. MakesTurns o shelf next turns cut) o shelf was turn
+abbrev pub MakesTurns : Status → Opening → Option Shelved → SessionSoFar → List TurnMade → Option TurnMade → Type 0
+MakesTurns status o shelf was [] cut = MakesLast status o shelf was cut
+MakesTurns status o shelf was (turn ∷ turns) cut =
+    MakesNextTurn (λ next. MakesTurns status o shelf next turns cut) o shelf was turn
 
 -- ---- a session
 
@@ -110,7 +123,7 @@ at_first o = record {
   kept = [];
   commands = 0;
   has_ended = false;
-  waits = record { lines = []; has_lost_count = false; halted_by = no_line };
+  waits = record { lines = []; halted_by = no_line };
 }
 
 -- the commands that a turn read
@@ -137,12 +150,13 @@ pub record FailAsCounted (before after : Counts) (turns : List TurnMade) : Type 
 
 -- The moves of a session from an opening pair on: those of its load, of its turns, and of one that was cut off, or none.
 -- The turns read these commands, which are those of its input, in order; a block of too many bytes makes a line no command.
--- The counts are those after the load and after the session.
+-- The counts are those after the load and after the session. The status is that with which it ends; which of the two a
+-- session has that ended as its input did is told by its replies alone.
 pub record MakesSession
-    (o : Opening) (requests : List Request) (moves : List Move) (shelf : Option Shelved) (before after : Counts)
+    (status : Status) (o : Opening) (requests : List Request) (moves : List Move) (shelf : Option Shelved) (before after : Counts)
     (turns : List TurnMade) (cut : Option TurnMade) : Type 0
   where
     pub read : map bounded_request requests ≡ flat_map requests_in (with_last turns cut)
     pub are : moves ≡ loaded_moves o ++ flat_map (λ turn. turn.segment) (with_last turns cut)
-    pub makes : MakesTurns o shelf (at_first o) turns cut
+    pub makes : MakesTurns status o shelf (at_first o) turns cut
     pub failed : FailAsCounted before after (with_last turns cut)

@@ -13,9 +13,12 @@ pub mod Openings
 pub mod Outcomes
 pub mod Plans
 pub mod Restarting
+pub mod Room
 pub mod Serving
+pub mod Taken
 pub mod Together
 pub mod Turns
 pub mod UnderWay
 pub mod Uploads
+pub mod Waiting
 pub mod Work

@@ -16,6 +16,7 @@ use Rattle.bosh_base.specs.declared.reply.Reply.{Reply}
 use Rattle.bosh_base.specs.declared.reply.Reply.TheVariants.{Refused}
 use Rattle.bosh_base.specs.declared.task.TaskEnd.{TaskEnd}
 use Rattle.bosh_due.specs.Before.{Before, is_out_of_room}
+use Rattle.bosh_due.specs.Room.{goes_by_room, with_move}
 use Rattle.bosh_due.specs.Work.{is_work_move}
 use Rattle.bosh_history.specs.Held.{is_open}
 use Rattle.bosh_history.specs.Steps.{has_no_call}
@@ -87,22 +88,23 @@ may_be_left now task =
 abbrev pub has_ended : Before → ℕ → Bool
 has_ended now task = is_some (now.moment.known.task task).end
 
--- the task that was to open has opened, and its work alone was done since; its end is told
-pub record RunsTask (due opened : TaskOpen) (run : List Move) (now : Before) (reply : Reply) : Type 0 where
+-- the task that was to open has opened, and its work alone was done since, where there was room for it; its end is told
+pub record RunsTask (b : Before) (due opened : TaskOpen) (run : List Move) (now : Before) (reply : Reply) : Type 0 where
   pub is_due : opened ≡ due
   pub is_its_work : list_all (is_work_move (due.task ∷ [])) run ≡ true
+  pub by_room : goes_by_room (with_move b (moves.Note (entries.TaskOpen opened))) run ≡ true
   pub may_end : may_be_left now due.task ≡ true
   -- no halt comes after its end
   pub ends_last : (now.moment.halted && has_ended now due.task) ≡ false
   pub told : reply ≡ end_reply now due.task
 
 -- the first move opens it
-abbrev pub RunsTaskFrom : TaskOpen → Before → Move → List Move → Reply → Type 0
-RunsTaskFrom due now (moves.Note (entries.TaskOpen opened)) run reply = RunsTask due opened run now reply
-RunsTaskFrom due now move run reply = ⊥
+abbrev pub RunsTaskFrom : Before → TaskOpen → Before → Move → List Move → Reply → Type 0
+RunsTaskFrom b due now (moves.Note (entries.TaskOpen opened)) run reply = RunsTask b due opened run now reply
+RunsTaskFrom b due now move run reply = ⊥
 
 -- .. or the store failed as it was to open
-abbrev pub OpensAndRuns : TaskOpen → Before → List Move → Reply → Type 0
-OpensAndRuns due now [] reply = ⊥
-OpensAndRuns due now (moves.Halt cause ∷ []) reply = (is_directors_halt cause ≡ true) × (reply ≡ told_halt cause)
-OpensAndRuns due now (move ∷ run) reply = RunsTaskFrom due now move run reply
+abbrev pub OpensAndRuns : Before → TaskOpen → Before → List Move → Reply → Type 0
+OpensAndRuns b due now [] reply = ⊥
+OpensAndRuns b due now (moves.Halt cause ∷ []) reply = (is_directors_halt cause ≡ true) × (reply ≡ told_halt cause)
+OpensAndRuns b due now (move ∷ run) reply = RunsTaskFrom b due now move run reply

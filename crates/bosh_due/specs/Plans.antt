@@ -1,7 +1,7 @@
 -- The goal that a task is to open with, over what is known, or the first cause for which it does not open (this
 -- project's profile). The refusals come in this order: what is named is not there; an open task has its lock; there is
 -- no goal; a link would be withdrawn that others use; there would be too many deployments.
-use Rattle.std.specs.Prelude.{◌≡◌, ◌==◌, ◌&&◌, ℕ, Bool, true, false, eqb, List, [], ◌∷◌, find, is_none, map, Option, Some, None, Result, Ok, Err}
+use Rattle.std.specs.Prelude.{◌≡◌, ◌==◌, ◌&&◌, ℕ, Bool, true, false, eqb, List, find, is_none, map, Option, Some, None, Result, Ok, Err}
 use Rattle.std.specs.Prelude.{if◌then◌else◌}
 use Rattle.std.specs.List.{list_any}
 use Rattle.std.specs.Option.{option_eq}

@@ -16,6 +16,7 @@ use Rattle.bosh_due.specs.Files.{FilesRead}
 use Rattle.bosh_due.specs.Generating.{said_reply}
 use Rattle.bosh_due.specs.InTurn.{loaded_moves}
 use Rattle.bosh_due.specs.Outcomes.{Outcome, end_reply, may_be_left}
+use Rattle.bosh_due.specs.Room.{goes_by_room}
 use Rattle.bosh_due.specs.Together.{Came, ComesAt, OpensAtMost, OpensOrTells, halts_in_work, is_run, run_leaves}
 use Rattle.bosh_due.specs.Turns.{kept_after}
 use Rattle.bosh_due.specs.UnderWay.{UnderWay}
@@ -111,6 +112,7 @@ pub record CarriesTasksOut {T F : Type 0} (MayFind MayFindNow : UnderWay → Typ
   pub run : List Move
   pub comes : now ≡ was ++ run
   pub work : is_run (before_of o was under).moment.halted tasks run ≡ true
+  pub by_room : IsReady MayFind o was under → goes_by_room (before_of o was under) run ≡ true
   pub leaves : left ≡ run_leaves (before_of o was under) tasks run
   pub may_end :
       IsReady MayFind o was under → OnOk result (list_all (may_be_left (before_of o now left)) tasks ≡ true)

@@ -20,6 +20,7 @@ use Rattle.bosh_due.specs.Generating.{said_reply}
 use Rattle.bosh_due.specs.Openings.{DeploysFile}
 use Rattle.bosh_due.specs.Outcomes.{Outcome, end_reply, has_ended, is_directors_halt, may_be_left}
 use Rattle.bosh_due.specs.Outcomes.Outcome.{Opens, Refuses}
+use Rattle.bosh_due.specs.Room.{goes_by_room}
 use Rattle.bosh_due.specs.UnderWay.{UnderWay}
 use Rattle.bosh_due.specs.UnderWay.UnderWay.{working}
 use Rattle.bosh_due.specs.Work.{is_work_move}
@@ -184,6 +185,7 @@ pub record IsTogether
     pub run : List Move
     pub opens : OpensEach files b others openings running opened_under_way
     pub is_its_run : is_run (with_moves b openings opened_under_way).moment.halted (tasks_of running) run ≡ true
+    pub by_room : goes_by_room (with_moves b openings opened_under_way) run ≡ true
     pub leaves : now ≡ run_leaves (with_moves b openings opened_under_way) (tasks_of running) run
     pub may_end : list_all (may_be_left (with_moves b (openings ++ run) now)) (tasks_of running) ≡ true
     pub ends_last : halts_in_work (with_moves b (openings ++ run) now) (tasks_of running) run ≡ true
@@ -244,6 +246,7 @@ pub record IsCutRun
     pub ends_left : List Move
     pub opens : OpensEach files b others openings running opened_under_way
     pub is_its_run : is_run (with_moves b openings opened_under_way).moment.halted (tasks_of running) run ≡ true
+    pub by_room : goes_by_room (with_moves b openings opened_under_way) run ≡ true
     pub leaves : now ≡ run_leaves (with_moves b openings opened_under_way) (tasks_of running) run
     pub may_end :
         (ends_told ≡ []) ⊎ (list_all (may_be_left (with_moves b (openings ++ run) now)) (tasks_of running) ≡ true)

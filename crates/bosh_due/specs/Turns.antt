@@ -1,7 +1,8 @@
 -- The moves of one turn of a session, with its replies, and what it leaves under way (this project's profile).
-use Rattle.std.specs.Prelude.{◌≡◌, ◌≤◌, ℕ, ◌+◌, Bool, false, List, [], ◌∷◌, ◌++◌, length, nat_lt, Result, Ok, Err}
+use Rattle.std.specs.Prelude.{◌≡◌, ◌≤◌, ℕ, ◌+◌, Bool, false, true, List, [], ◌∷◌, ◌++◌, length, nat_lt, Result, Ok, Err}
 use Rattle.bosh_answers.specs.declared.files.KeptFile.{KeptFile}
 use Rattle.bosh_base.specs.declared.moves.Move.{Move}
+use Rattle.bosh_base.specs.declared.moves.Move.TheVariants as moves
 use Rattle.bosh_base.specs.declared.reply.Reply.{Reply}
 use Rattle.bosh_base.specs.declared.reply.Reply.TheVariants as replies
 use Rattle.bosh_due.specs.Before.{Before}
@@ -14,6 +15,8 @@ use Rattle.bosh_input.specs.declared.request.Request.{Request}
 use Rattle.bosh_line_words.specs.declared.fault.LineFault.{LineFault}
 use Rattle.bosh_lines.specs.declared.command.Command.{Command}
 use Rattle.bosh_lines.specs.declared.command.Command.TheVariants as commands
+use Rattle.bosh_transcript.specs.declared.status.Status.{Status}
+use Rattle.bosh_transcript.specs.declared.status.Status.TheVariants as statuses
 
 -- ---- what a turn reads
 
@@ -93,6 +96,14 @@ abbrev pub MakesUpTo : Before → FilesRead → ℕ → Result Command LineFault
 MakesUpTo b files number (Ok command) segment now = MakesUpToBy b files number command segment now
 MakesUpTo b files number (Err fault) segment now = MakesAt b files (Err fault) segment now
 
+-- A line is still reading the commands that it takes along: it has printed nothing, and done nothing.
+pub record IsCutReading (b : Before) (count : ℕ) (read : TurnRead) (segment : List Move) (now : UnderWay) : Type 0 where
+  pub asked : read.first.request.asked ≡ Ok (commands.Together count)
+  pub takes : TakesSome count read
+  pub goes_on : read.is_end ≡ false
+  pub is : segment ≡ said_reply read.first.number replies.Nothing ∷ []
+  pub stays : now ≡ b.under_way
+
 -- A turn that an event cut off: it has all its moves and replies; or its command has no reply, or not all of its
 -- replies; or it was still reading those that it takes along; or one of these has no reply.
 pub data MakesTurnUpTo
@@ -102,16 +113,47 @@ pub data MakesTurnUpTo
     untold :
         TakesNone read → MakesUpTo b files read.first.number read.first.request.asked segment now →
         MakesTurnUpTo b files read segment now
-    in_reading :
-        (count : ℕ) → read.first.request.asked ≡ Ok (commands.Together count) → TakesSome count read → read.is_end ≡ false →
-        segment ≡ said_reply read.first.number replies.Nothing ∷ [] → now ≡ b.under_way →
-        MakesTurnUpTo b files read segment now
+    in_reading : (count : ℕ) → IsCutReading b count read segment now → MakesTurnUpTo b files read segment now
     in_openings :
         (count : ℕ) → read.first.request.asked ≡ Ok (commands.Together count) → TakesAll count read →
         IsCutOpening b files read.first.number read.others segment now → MakesTurnUpTo b files read segment now
     in_run :
         (count : ℕ) → read.first.request.asked ≡ Ok (commands.Together count) → TakesAll count read →
         IsCutRun b files read.first.number read.others segment now → MakesTurnUpTo b files read segment now
+
+-- ---- by the event
+
+-- the last of these moves is a reply
+abbrev pub ends_with_reply : List Move → Bool
+ends_with_reply [] = false
+ends_with_reply (moves.Said said ∷ []) = true
+ends_with_reply (move ∷ more) = ends_with_reply more
+
+-- a line is told that it takes others along before it reads them
+abbrev pub has_read_none : List Move → List Numbered → Bool
+has_read_none (move ∷ []) (it ∷ others) = false
+has_read_none segment others = true
+
+-- the output failed as the last reply was written
+pub record IsCutWriting (b : Before) (files : FilesRead) (read : TurnRead) (segment : List Move) (now : UnderWay) : Type 0
+  where
+    pub makes : MakesTurnUpTo b files read segment now
+    pub told_last : ends_with_reply segment ≡ true
+    pub read_none : has_read_none segment read.others ≡ true
+
+-- the input failed, or had more than a session takes, before there were as many others as the line says
+pub record IsCutByInput (b : Before) (read : TurnRead) (segment : List Move) (now : UnderWay) : Type 0 where
+  pub count : ℕ
+  pub reading : IsCutReading b count read segment now
+  pub too_few : nat_lt (length read.others) count ≡ true
+
+-- A status of an event may cut a turn off. A session that ended as its input did, or did not begin, has no such turn.
+abbrev pub IsCutBy : Status → Before → FilesRead → TurnRead → List Move → UnderWay → Type 0
+IsCutBy statuses.Memory b files read segment now = MakesTurnUpTo b files read segment now
+IsCutBy statuses.Sink b files read segment now = IsCutWriting b files read segment now
+IsCutBy statuses.Source b files read segment now = IsCutByInput b read segment now
+IsCutBy statuses.Limit b files read segment now = IsCutByInput b read segment now
+IsCutBy status b files read segment now = ⊥
 
 -- ---- the files that are kept
 

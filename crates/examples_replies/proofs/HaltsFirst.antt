@@ -25,6 +25,6 @@ halts_first Rest others = record {
       due = record { ends = (refl, refl); is_left = refl };
     },
   );
-  causes = record { unread = tt; caused = inl (omega arith, refl) };
+  causes = record { unread = tt; caused = inl (omega arith, refl, refl) };
   others = others;
 }

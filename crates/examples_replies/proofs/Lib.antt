@@ -4,6 +4,7 @@ pub mod Behind
 pub mod CutBehind
 pub mod Folders
 pub mod HaltsFirst
+pub mod InCalls
 pub mod Later
 pub mod Lines
 pub mod Made

@@ -2,7 +2,8 @@
 use Rattle.std.proofs.Common.{◌≡◌, ◌⊎◌, [], ◌∷◌, ◌++◌, List, arith, inl, inr, subst}
 use Rattle.std.specs.List.{list_any}
 use Rattle.std.specs.Prelude.{Bool, false, true}
-use Rattle.bosh_due.specs.Causes.{IsAskedBy, WaitingLine}
+use Rattle.bosh_due.specs.Causes.{IsAskedBy}
+use Rattle.bosh_due.specs.Waiting.{WaitingLine}
 use Rattle.bosh_lines.specs.declared.command.Command.{Command}
 
 no_line : (before : List WaitingLine) (line : WaitingLine) (behind : List WaitingLine) → [] ≡ before ++ line ∷ behind → ⊥

@@ -23,17 +23,21 @@ at_most halts move good (it ∷ more) reply made = made.0
 
 -- ---- a task
 
-runs_from : (due : TaskOpen) (now : Before) (move : Move) (run : List Move) (reply : Reply) →
-    RunsTaskFrom due now move run reply → MayRunFrom due now move run
-runs_from due now (moves.Note (entries.TaskOpen opened)) run reply runs =
-    record { is_due = runs.is_due; is_its_work = runs.is_its_work; ends_last = runs.ends_last }
-runs_from due now move run reply runs = runs
+runs_from : (b : Before) (due : TaskOpen) (now : Before) (move : Move) (run : List Move) (reply : Reply) →
+    RunsTaskFrom b due now move run reply → MayRunFrom b due now move run
+runs_from b due now (moves.Note (entries.TaskOpen opened)) run reply runs = record {
+  is_due = runs.is_due;
+  is_its_work = runs.is_its_work;
+  by_room = runs.by_room;
+  ends_last = runs.ends_last;
+}
+runs_from b due now move run reply runs = runs
 
-opens : (due : TaskOpen) (now : Before) (more : List Move) (reply : Reply) →
-    OpensAndRuns due now more reply → MayOpenAndRun due now more
-opens due now [] reply opened = tt
-opens due now (moves.Halt cause ∷ []) reply opened = opened.0
-opens due now (move ∷ run) reply opened = runs_from due now move run reply opened
+opens : (b : Before) (due : TaskOpen) (now : Before) (more : List Move) (reply : Reply) →
+    OpensAndRuns b due now more reply → MayOpenAndRun b due now more
+opens b due now [] reply opened = tt
+opens b due now (moves.Halt cause ∷ []) reply opened = opened.0
+opens b due now (move ∷ run) reply opened = runs_from b due now move run reply opened
 
 -- ---- a restart
 
@@ -63,5 +67,5 @@ may_be_made (Refuses why) b more reply due = due.0
 may_be_made (Answers answer) b more reply due = due.0
 may_be_made (Notes entry good) b more reply due = at_most _ _ good more reply due
 may_be_made (Changes move entry good) b more reply due = at_most _ _ good more reply due
-may_be_made (Opens opening) b more reply due = opens opening _ more reply due
+may_be_made (Opens opening) b more reply due = opens b opening _ more reply due
 may_be_made Restarts b more reply due = restarts b more reply due

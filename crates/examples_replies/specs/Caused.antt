@@ -1,15 +1,15 @@
 -- Lines that wait to let appends and calls fail or to stop the director, and moves that they are the cause of.
-use Rattle.std.specs.Prelude.{ℕ, Bool, false, true, List, [], ◌∷◌, Option, None, Some}
+use Rattle.std.specs.Prelude.{ℕ, Bool, false, List, [], ◌∷◌, Option, None, Some}
 use Rattle.bosh_base.specs.declared.answer.Answer.{Answer}
 use Rattle.bosh_base.specs.declared.method.Method.{Method}
-use Rattle.bosh_base.specs.declared.method.Method.TheVariants.{Start}
 use Rattle.bosh_base.specs.declared.moves.Cause.{Cause}
 use Rattle.bosh_base.specs.declared.moves.Move.{Move}
 use Rattle.bosh_base.specs.declared.moves.Move.TheVariants.{Halt}
-use Rattle.bosh_due.specs.Causes.{HaveCauses, StoreFailures, WaitingLine, Waits}
+use Rattle.bosh_due.specs.Causes.{HaveCauses, StoreFailures}
 use Rattle.bosh_due.specs.HaltedBy.{HaltedBy}
 use Rattle.bosh_due.specs.HaltedBy.HaltedBy.{in_append, in_call, no_line}
 use Rattle.bosh_due.specs.InTurn.{MakesSession, TurnMade}
+use Rattle.bosh_due.specs.Waiting.{WaitingLine, Waits}
 use Rattle.bosh_fates.specs.declared.fate.Fate.TheVariants.{Lose}
 use Rattle.bosh_history.specs.Moments.{nothing}
 use Rattle.bosh_lines.specs.declared.command.Command.{Command}
@@ -18,6 +18,8 @@ use Rattle.bosh_lines.specs.declared.command.StopCall.{StopCall}
 use Rattle.bosh_lines.specs.declared.word.Others.TheVariants.{Undone}
 use Rattle.bosh_lines.specs.declared.word.When.{When}
 use Rattle.bosh_lines.specs.declared.word.When.TheVariants.{Before}
+use Rattle.bosh_transcript.specs.declared.status.Status.{Status}
+use Rattle.bosh_transcript.specs.declared.status.Status.TheVariants.{Memory}
 use Rattle.examples_histories.specs.Failed.{failed}
 use Rattle.examples_histories.specs.Scenes.{Builder, did, prepared}
 use Rattle.examples_replies.specs.AtOnce.{asks}
@@ -29,25 +31,21 @@ use Rattle.examples_replies.specs.Scenes.{at, no_files}
 
 -- none does, and this halted the director
 abbrev pub none_wait_after : HaltedBy → Waits
-none_wait_after by = record { lines = []; has_lost_count = false; halted_by = by }
+none_wait_after by = record { lines = []; halted_by = by }
 
 abbrev pub none_wait : Waits
 none_wait = none_wait_after no_line
 
--- .. in a call, or on the cloud's store
-abbrev pub none_wait_behind : HaltedBy → Waits
-none_wait_behind by = record { lines = []; has_lost_count = true; halted_by = by }
-
 abbrev pub waiting : Command → ℕ → WaitingLine
 waiting command left = record { command = command; left = left }
 
--- these do, and the director has halted in a call, or has not
-abbrev pub all_wait : Bool → List WaitingLine → Waits
-all_wait has_lost_count lines = record { lines = lines; has_lost_count = has_lost_count; halted_by = no_line }
+-- these do
+abbrev pub all_wait : List WaitingLine → Waits
+all_wait lines = record { lines = lines; halted_by = no_line }
 
 -- one line does, for an append or a call that is so many from now
 abbrev pub one_waits : Command → ℕ → Waits
-one_waits command left = all_wait false (waiting command left ∷ [])
+one_waits command left = all_wait (waiting command left ∷ [])
 
 -- the first append is to fail
 abbrev pub fail_append : Command
@@ -75,7 +73,7 @@ stop_call method calls = commands.StopCall (stop_in Before method calls)
 
 -- an append is to fail, and the director is to stop at the same
 abbrev pub both_at_once : Waits
-both_at_once = all_wait false (waiting fail_append 1 ∷ waiting (stop_append 1) 1 ∷ [])
+both_at_once = all_wait (waiting fail_append 1 ∷ waiting (stop_append 1) 1 ∷ [])
 
 -- ---- moves
 
@@ -87,8 +85,11 @@ AreCausedBy stores was more now = HaveCauses stores prepared was more now
 abbrev pub AreCaused : Waits → List Move → Waits → Type 0
 AreCaused was more now = AreCausedBy none_failed was more now
 
+abbrev pub AreUncausedBy : StoreFailures → Waits → List Move → Type 0
+AreUncausedBy stores was more = (now : Waits) → AreCausedBy stores was more now → ⊥
+
 abbrev pub AreUncaused : Waits → List Move → Type 0
-AreUncaused was more = (now : Waits) → AreCaused was more now → ⊥
+AreUncaused was more = AreUncausedBy none_failed was more
 
 -- so is a move behind so many of a history in which a machine is started for the second time by the call 6, which fails
 abbrev pub IsCausedAfter : ℕ → Waits → Move → Waits → Type 0
@@ -114,12 +115,12 @@ MayFindAfter is_there found = AreCaused (none_wait_after (in_append is_there)) (
 abbrev pub NeverFindsAfter : Option Bool → Move → Type 0
 NeverFindsAfter is_there found = AreUncaused (none_wait_after (in_append is_there)) (found ∷ [])
 
--- .. and so a line in the call 6
-abbrev pub MayFindIn : When → Move → Type 0
-MayFindIn when found = IsCausedAfter 21 (none_wait_behind (in_call (stop_in when Start 1))) found (none_wait_behind no_line)
+-- .. and so a call, where these had their effects, and it is not known of one more
+abbrev pub MayFindIn : List ℕ → Option ℕ → Move → Type 0
+MayFindIn took last found = AreCaused (none_wait_after (in_call took last)) (found ∷ []) none_wait
 
-abbrev pub NeverFindsIn : When → Move → Type 0
-NeverFindsIn when found = IsUncausedAfter 21 (none_wait_behind (in_call (stop_in when Start 1))) found
+abbrev pub NeverFindsIn : List ℕ → Option ℕ → Move → Type 0
+NeverFindsIn took last found = AreUncaused (none_wait_after (in_call took last)) (found ∷ [])
 
 -- ---- a session that is cut off
 
@@ -132,8 +133,11 @@ cut_by cause = record {
   segment = clean_up_opened ∷ Halt cause ∷ [];
 }
 
--- though no store failed and no line asked for it
-abbrev pub IsCutOffBy : Cause → Type 0
-IsCutOffBy cause =
-    MakesSession nothing ((asks 1 commands.CleanUp).request ∷ []) (clean_up_opened ∷ Halt cause ∷ []) (Some [])
+-- with this status, though no store failed and no line asked for it
+abbrev pub IsCutOffAs : Status → Cause → Type 0
+IsCutOffAs status cause =
+    MakesSession status nothing ((asks 1 commands.CleanUp).request ∷ []) (clean_up_opened ∷ Halt cause ∷ []) (Some [])
     (counted 0) (counted 0) [] (Some (cut_by cause))
+
+abbrev pub IsCutOffBy : Cause → Type 0
+IsCutOffBy cause = IsCutOffAs Memory cause

@@ -5,6 +5,7 @@ pub mod CutOff
 pub mod Deployed
 pub mod Generated
 pub mod Halted
+pub mod InCalls
 pub mod Kept
 pub mod Laws
 pub mod OneTurn
@@ -13,6 +14,7 @@ pub mod Others
 pub mod Planned
 pub mod Releases
 pub mod Replies
+pub mod Rooms
 pub mod Scenes
 pub mod Served
 pub mod Shelves

@@ -8,6 +8,7 @@ use Rattle.bosh_due.specs.InTurn.{Counts, MakesSession, TurnMade}
 use Rattle.bosh_due.specs.Together.{Numbered}
 use Rattle.bosh_history.specs.Moments.{nothing}
 use Rattle.bosh_lines.specs.declared.command.Command.TheVariants as commands
+use Rattle.bosh_transcript.specs.declared.status.Status.TheVariants.{Good}
 use Rattle.examples_replies.specs.AtOnce.{asks}
 use Rattle.examples_replies.specs.Scenes.{no_files}
 
@@ -35,7 +36,7 @@ asks_for_tasks number is_end = record {
 -- the session of a new director is this one line, under a number, over a shelf that has told this
 abbrev pub IsSessionOver : Option Shelved → ℕ → Type 0
 IsSessionOver shelf number =
-    MakesSession nothing ((asks 1 commands.Tasks).request ∷ []) (said_reply number (replies.Tasks []) ∷ []) shelf
+    MakesSession Good nothing ((asks 1 commands.Tasks).request ∷ []) (said_reply number (replies.Tasks []) ∷ []) shelf
     (counted 0) (counted 0) (asks_for_tasks number false ∷ []) None
 
 abbrev pub IsSessionOf : ℕ → Type 0
@@ -44,13 +45,13 @@ IsSessionOf number = IsSessionOver (Some []) number
 -- .. this line stands in the input in its place, or none
 abbrev pub IsSessionReading : List Numbered → Type 0
 IsSessionReading lines =
-    MakesSession nothing (map (λ it. it.request) lines) (said_reply 1 (replies.Tasks []) ∷ []) (Some [])
+    MakesSession Good nothing (map (λ it. it.request) lines) (said_reply 1 (replies.Tasks []) ∷ []) (Some [])
     (counted 0) (counted 0) (asks_for_tasks 1 false ∷ []) None
 
 -- .. though it takes no others along, the input is told to end
 abbrev pub IsToldToEnd : Type 0
 IsToldToEnd =
-    MakesSession nothing ((asks 1 commands.Tasks).request ∷ []) (said_reply 1 (replies.Tasks []) ∷ []) (Some [])
+    MakesSession Good nothing ((asks 1 commands.Tasks).request ∷ []) (said_reply 1 (replies.Tasks []) ∷ []) (Some [])
     (counted 0) (counted 0) (asks_for_tasks 1 true ∷ []) None
 
 -- a shelf of one file

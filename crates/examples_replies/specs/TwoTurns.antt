@@ -13,6 +13,7 @@ use Rattle.bosh_due.specs.Together.{Numbered}
 use Rattle.bosh_history.specs.Moments.{nothing}
 use Rattle.bosh_lines.specs.declared.command.Command.{Command}
 use Rattle.bosh_lines.specs.declared.command.Command.TheVariants as commands
+use Rattle.bosh_transcript.specs.declared.status.Status.TheVariants.{Failed}
 use Rattle.examples_histories.specs.Scenes.{stop}
 use Rattle.examples_replies.specs.AtOnce.{asks}
 use Rattle.examples_replies.specs.OneTurn.{counted, director_failed}
@@ -51,7 +52,7 @@ finds entry =
 -- .. after so many failures
 abbrev pub IsFoundAfter : ℕ → Entry → Type 0
 IsFoundAfter failures entry =
-    MakesSession nothing (map (λ it. it.request) both_lines)
+    MakesSession Failed nothing (map (λ it. it.request) both_lines)
     (Halt Store
     ∷ said_reply 1 store_fault
     ∷ stop (Some entry) [] None
@@ -69,5 +70,5 @@ unread failures = makes 2 commands.Restart failures (said_reply 2 store_fault �
 -- .. and the count rose so often in both
 abbrev pub IsUnreadAfter : (failures count : ℕ) → Type 0
 IsUnreadAfter failures count =
-    MakesSession nothing (map (λ it. it.request) both_lines)
+    MakesSession Failed nothing (map (λ it. it.request) both_lines)
     (Halt Store ∷ said_reply 1 store_fault ∷ said_reply 2 store_fault ∷ []) (Some []) (counted 0) (counted count) (halts 1 ∷ unread failures ∷ []) None

@@ -5,12 +5,12 @@ ghost use Rattle.bosh_base.specs.declared.moves.Cause.TheVariants.{CloudStore, S
 ghost use Rattle.bosh_base.specs.declared.moves.Move.TheVariants.{Halt, Note};
 ghost use Rattle.bosh_due.specs.HaltedBy.HaltedBy.{in_append, in_call};
 ghost use Rattle.bosh_due.specs.InTurn.{FailAsCounted};
-ghost use Rattle.bosh_lines.specs.declared.word.When.TheVariants.{After, Before};
 ghost use Rattle.examples_histories.specs.Scenes.{config, stop};
-ghost use Rattle.examples_replies.specs.Caused.{AreCaused, AreCausedBy, AreUncaused, IsCausedAfter, IsCutOffBy, IsUncausedAfter};
-ghost use Rattle.examples_replies.specs.Caused.{MayFindAfter, MayFindIn, NeverFindsAfter, NeverFindsIn, all_wait, both_at_once, fail_append};
-ghost use Rattle.examples_replies.specs.Caused.{fail_call, none_wait, none_wait_after, none_wait_behind, one_waits, performed, performed_with};
-ghost use Rattle.examples_replies.specs.Caused.{stop_append, stop_call, stop_in, waiting};
+ghost use Rattle.bosh_transcript.specs.declared.status.Status.TheVariants as statuses;
+ghost use Rattle.examples_replies.specs.Caused.{AreCaused, AreCausedBy, AreUncaused, AreUncausedBy, IsCausedAfter, IsCutOffAs, IsCutOffBy, IsUncausedAfter};
+ghost use Rattle.examples_replies.specs.Caused.{MayFindAfter, MayFindIn, NeverFindsAfter, NeverFindsIn, both_at_once, fail_append};
+ghost use Rattle.examples_replies.specs.Caused.{fail_call, none_wait, none_wait_after, one_waits, performed, performed_with};
+ghost use Rattle.examples_replies.specs.Caused.{stop_append, stop_call};
 ghost use Rattle.examples_replies.specs.OneTurn.{counted, director_failed};
 ghost use Rattle.examples_replies.specs.TwoTurns.{halts};
 
@@ -29,17 +29,19 @@ pub fn halts_have_causes()
     ensures no_call { AreUncaused (one_waits (stop_call CreateVm 1) 1) (Halt Stop ∷ []) }
     ensures first_decides { AreCaused both_at_once (Halt Store ∷ []) (none_wait_after (in_append (Some false))) }
     ensures second_does_not { AreUncaused both_at_once (Halt Stop ∷ []) }
+    ensures not_failed { AreUncausedBy (director_failed 1) (one_waits (stop_append 1) 1) (Halt Store ∷ []) }
+    ensures not_left { AreUncausedBy (director_failed 1) (one_waits fail_append 1)
+        (Halt Store ∷ stop (Some config) [] None ∷ []) }
 {}
 
-/// A line stops the director at the append that it names, and at none before, also where it has halted in a call.
+/// A line stops the director at the append that it names, and at none before.
 pub fn appends_are_counted()
     ensures noted { AreCaused (one_waits (stop_append 2) 2) (Note config ∷ []) (one_waits (stop_append 2) 1) }
     ensures not_stopped { AreUncaused (one_waits (stop_append 1) 1) (Note config ∷ []) }
     ensures not_failed { AreUncaused (one_waits fail_append 1) (Note config ∷ []) }
-    ensures behind_a_call { AreUncaused (all_wait true (waiting (stop_append 1) 1 ∷ [])) (Note config ∷ []) }
 {}
 
-/// A call fails, or the director stops in it, exactly where a line names it; one that is lost has no effect.
+/// A call fails, or the director stops in it, exactly where a line names it.
 pub fn calls_are_counted()
     ensures failed { IsCausedAfter 21 (one_waits (fail_call Start 1) 1) (performed Failed) none_wait }
     ensures with_effect { IsUncausedAfter 21 (one_waits (fail_call Start 1) 1) (performed_with true Failed) }
@@ -50,9 +52,8 @@ pub fn calls_are_counted()
     ensures later { IsCausedAfter 21 (one_waits (fail_call Start 2) 2) (performed Done)
         (one_waits (fail_call Start 2) 1) }
     ensures stopped { IsCausedAfter 21 (one_waits (stop_call Start 1) 1) (Halt Stop)
-        (none_wait_behind (in_call (stop_in Before Start 1))) }
+        (none_wait_after (in_call [] None)) }
     ensures not_stopped { IsUncausedAfter 21 (one_waits (stop_call Start 1) 1) (performed Done) }
-    ensures not_open { IsUncausedAfter 20 (one_waits (stop_call Start 1) 1) (Halt Stop) }
 {}
 
 /// A stop finds what the line says that halted the director: the entry of an append, or the effect of a call.
@@ -63,17 +64,24 @@ pub fn stops_find_what_lines_say()
     ensures not_kept { NeverFindsAfter (Some true) (stop None [] None) }
     ensures failed_beside { MayFindAfter None (stop None [] None) }
     ensures no_call { NeverFindsAfter None (stop None (6 ∷ []) None) }
-    ensures not_begun { MayFindIn Before (stop None [] None) }
-    ensures not_before { NeverFindsIn Before (stop None (6 ∷ []) None) }
-    ensures done { MayFindIn After (stop None (6 ∷ []) None) }
-    ensures other_call { NeverFindsIn After (stop None (5 ∷ []) None) }
-    ensures no_entry { NeverFindsIn After (stop (Some config) [] None) }
+    ensures not_done { MayFindIn [] None (stop None [] None) }
+    ensures not_before { NeverFindsIn [] None (stop None (6 ∷ []) None) }
+    ensures done { MayFindIn (6 ∷ []) None (stop None (6 ∷ []) None) }
+    ensures not_undone { NeverFindsIn (6 ∷ []) None (stop None [] None) }
+    ensures other_call { NeverFindsIn (6 ∷ []) None (stop None (5 ∷ []) None) }
+    ensures no_entry { NeverFindsIn [] None (stop (Some config) [] None) }
+    ensures not_kept_there { MayFindIn [] (Some 6) (stop None [] None) }
+    ensures kept_there { MayFindIn [] (Some 6) (stop None (6 ∷ []) None) }
+    ensures not_another { NeverFindsIn [] (Some 6) (stop None (5 ∷ []) None) }
 {}
 
 /// For want of memory the director stops last of all, and its store does not fail for it.
 pub fn want_of_memory_stops()
     ensures stopped { IsCutOffBy Stop }
     ensures not_failed { IsCutOffBy Store → ⊥ }
+    ensures not_at_the_end { IsCutOffAs statuses.Failed Stop → ⊥ }
+    ensures not_by_the_output { IsCutOffAs statuses.Sink Stop → ⊥ }
+    ensures not_by_the_input { IsCutOffAs statuses.Source Stop → ⊥ }
 {}
 
 /// A store failed as often as its count rose, at most; a count at its last number does not tell.

@@ -7,6 +7,7 @@ mod cut_off;
 mod deployed;
 mod files;
 mod generated;
+mod in_calls;
 mod jobs;
 mod laws;
 mod listings;
@@ -15,6 +16,7 @@ mod others;
 mod planned;
 mod releases;
 mod restarts;
+mod rooms;
 mod served;
 mod shelves;
 mod tasks;
@@ -35,6 +37,9 @@ pub use cut_off::{
 pub use deployed::manifests_are_deployed;
 pub use files::{configs_are_told, files_are_kept, files_are_looked_for_first};
 pub use generated::deployments_are_made;
+pub use in_calls::{
+    failing_lines_are_spent_in_stops, first_lines_stop_in_calls, stores_fail_in_calls,
+};
 pub use jobs::{disks_are_written_and_read, machines_are_lost_and_shown};
 pub use laws::{nothing_is_left, what_is_due_may_be_made};
 pub use listings::{instances_are_listed, records_are_listed, the_cloud_is_listed};
@@ -49,6 +54,9 @@ pub use others::{
 pub use planned::{deployments_are_few, links_are_kept, releases_are_sound};
 pub use releases::releases_are_told;
 pub use restarts::{restarts_are_told, restarts_find_what_was_asked};
+pub use rooms::{
+    runs_halt_in_their_work, tasks_end_where_there_is_room, work_begins_where_there_is_room,
+};
 pub use served::{blocks_keep_files, directors_are_loaded, replies_are_noted};
 pub use shelves::{failures_are_counted, kept_files_are_read};
 pub use tasks::{clean_ups_are_told, deploys_are_told, tasks_are_refused_in_order};

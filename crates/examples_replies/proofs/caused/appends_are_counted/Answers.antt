@@ -9,6 +9,3 @@ returns-clause-not_stopped c now caused = grind (arith, caused.0)
 
 pub returns-clause-not_failed : goal.returns-clause-not_failed
 returns-clause-not_failed c now caused = grind (arith, caused.0)
-
-pub returns-clause-behind_a_call : goal.returns-clause-behind_a_call
-returns-clause-behind_a_call c now caused = grind (arith, caused.0)

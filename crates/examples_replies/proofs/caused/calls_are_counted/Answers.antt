@@ -1,7 +1,7 @@
 use Rattle.std.proofs.Common.{[], ◌≡◌, arith, inr, refl}
 use Rattle.std.specs.Prelude.{false, true}
 use Rattle.bosh_base.specs.declared.method.Method.TheVariants.{Start}
-use Rattle.examples_replies.proofs.Lines.{neither_asks, none_asks, one_asks, one_rests}
+use Rattle.examples_replies.proofs.Lines.{none_asks, one_asks, one_rests}
 use Rattle.examples_replies.specs.Caused.{fail_call, waiting}
 use Rattle.examples_replies.proofs.caused.calls_are_counted.Goals as goal
 
@@ -42,18 +42,20 @@ returns-clause-later c built = (refl, (refl, refl))
 
 pub returns-clause-stopped : goal.returns-clause-stopped
 returns-clause-stopped c built = inr (record {
-  before = [];
-  line = _;
-  behind = [];
-  are = refl;
-  is_one = refl;
-  is_first = refl;
-  rest = refl;
+  number = 6;
+  call = _;
+  is_open = refl;
+  not_yet = refl;
+  so = record {
+    before = [];
+    line = _;
+    behind = [];
+    are = refl;
+    is_one = refl;
+    is_first = refl;
+    rest = refl;
+  };
 })
 
 pub returns-clause-not_stopped : goal.returns-clause-not_stopped
 returns-clause-not_stopped c built now caused = grind (arith, caused.0)
-
-pub returns-clause-not_open : goal.returns-clause-not_open
-returns-clause-not_open c built now caused =
-    neither_asks (λ asked. grind (arith, one_asks _ asked)) (λ asked. grind (arith, one_asks _ asked)) caused

@@ -10,13 +10,20 @@ use Rattle.examples_replies.proofs.cut_off.turns_are_cut_in_reading.Goals as goa
 alone : (segment : List Move) (now : UnderWay) → IsCutInReading segment now → segment ≡ said_reply 4 replies.Nothing ∷ []
 alone segment now (told turn) = grind (arith, turn.takes.ends)
 alone segment now (untold none makes) = grind (arith, none.none)
-alone segment now (in_reading count asked takes goes_on is stays) = is
+alone segment now (in_reading count reading) = reading.is
 alone segment now (in_openings count asked takes opens) = grind (arith, asked, takes.ends)
 alone segment now (in_run count asked takes runs) = grind (arith, asked, takes.ends)
 
 pub returns-clause-read : goal.returns-clause-read
 returns-clause-read c =
-    in_reading 2 refl (record { few = omega arith; numbered = (refl, tt) }) refl refl refl
+    in_reading 2
+    (record {
+      asked = refl;
+      takes = record { few = omega arith; numbered = (refl, tt) };
+      goes_on = refl;
+      is = refl;
+      stays = refl;
+    })
 
 pub returns-clause-opened : goal.returns-clause-opened
 returns-clause-opened c now cut =

@@ -29,7 +29,7 @@ returns-clause-asked c = record {
         };
       },
     );
-    causes = record { unread = tt; caused = (refl, refl) };
+    causes = record { unread = tt; caused = (tt, refl) };
     others = tt;
   });
   failed = record { shelf = omega arith; director = omega arith; cloud = omega arith };

@@ -33,6 +33,7 @@ returns c = record {
       few_failures = omega arith;
     };
     is_its_run = refl;
+    by_room = refl;
     leaves = refl;
     may_end = refl;
     ends_last = refl;
