@@ -15,6 +15,7 @@ use Rattle.bosh_input.specs.declared.request.Request.{Request}
 use Rattle.bosh_line_words.specs.declared.fault.LineFault.{LineFault}
 use Rattle.bosh_lines.specs.declared.command.Command.{Command}
 use Rattle.bosh_lines.specs.declared.command.Command.TheVariants as commands
+use Rattle.bosh_report.specs.Reply.{text_of}
 use Rattle.bosh_transcript.specs.declared.status.Status.{Status}
 use Rattle.bosh_transcript.specs.declared.status.Status.TheVariants as statuses
 
@@ -123,23 +124,17 @@ pub data MakesTurnUpTo
 
 -- ---- by the event
 
--- the last of these moves is a reply
-abbrev pub ends_with_reply : List Move → Bool
-ends_with_reply [] = false
-ends_with_reply (moves.Said said ∷ []) = true
-ends_with_reply (move ∷ more) = ends_with_reply more
+-- the last of these moves is a reply that has a text
+abbrev pub ends_with_text : List Move → Bool
+ends_with_text [] = false
+ends_with_text (moves.Said said ∷ []) = nat_lt 0 (length (text_of said.reply))
+ends_with_text (move ∷ more) = ends_with_text more
 
--- a line is told that it takes others along before it reads them
-abbrev pub has_read_none : List Move → List Numbered → Bool
-has_read_none (move ∷ []) (it ∷ others) = false
-has_read_none segment others = true
-
--- the output failed as the last reply was written
+-- the output failed as the last reply was written; of one without a text nothing is
 pub record IsCutWriting (b : Before) (files : FilesRead) (read : TurnRead) (segment : List Move) (now : UnderWay) : Type 0
   where
     pub makes : MakesTurnUpTo b files read segment now
-    pub told_last : ends_with_reply segment ≡ true
-    pub read_none : has_read_none segment read.others ≡ true
+    pub told_last : ends_with_text segment ≡ true
 
 -- the input failed, or had more than a session takes, before there were as many others as the line says
 pub record IsCutByInput (b : Before) (read : TurnRead) (segment : List Move) (now : UnderWay) : Type 0 where

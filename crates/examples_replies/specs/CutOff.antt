@@ -5,14 +5,16 @@ use Rattle.bosh_base.specs.declared.moves.Move.{Move}
 use Rattle.bosh_base.specs.declared.moves.Move.TheVariants.{Note}
 use Rattle.bosh_base.specs.declared.reply.Reply.{Reply}
 use Rattle.bosh_base.specs.declared.reply.Reply.TheVariants as replies
+use Rattle.bosh_due.specs.Before.{Before}
 use Rattle.bosh_due.specs.Due.{MakesBy}
 use Rattle.bosh_due.specs.Generating.{IsGeneratedUpTo, said_reply}
 use Rattle.bosh_due.specs.Together.{ComesAt, IsCutRun, OpensAtMost}
-use Rattle.bosh_due.specs.Turns.{MakesTurnUpTo, TurnRead}
+use Rattle.bosh_due.specs.Turns.{IsCutBy, MakesTurnUpTo, TurnRead}
 use Rattle.bosh_due.specs.UnderWay.{UnderWay}
 use Rattle.bosh_due.specs.UnderWay.UnderWay.{idle}
 use Rattle.bosh_lines.specs.declared.command.Command.{Command}
 use Rattle.bosh_lines.specs.declared.command.Command.TheVariants as commands
+use Rattle.bosh_transcript.specs.declared.status.Status.TheVariants.{Sink}
 use Rattle.examples_histories.specs.Scenes.{prepared}
 use Rattle.examples_replies.specs.AtOnce.{asks, clean_up}
 use Rattle.examples_replies.specs.Kept.{at_a_halt}
@@ -45,6 +47,12 @@ IsRefusedUnder number now = IsGeneratedUpTo at_a_halt 5 3 (said_reply number sto
 -- of two commands one was read as the line was cut off, which made these moves
 abbrev pub IsCutInReading : List Move → UnderWay → Type 0
 IsCutInReading segment now = MakesTurnUpTo (start prepared 2) no_files (one_of_two false) segment now
+
+-- the output fails behind this reply of a command that is carried out alone
+abbrev pub FailsBehind : Before → Command → Reply → Type 0
+FailsBehind b command reply =
+    IsCutBy Sink b no_files (record { first = asks 4 command; others = []; is_end = false }) (said_reply 4 reply ∷ [])
+    idle
 
 -- a line that takes one command along, whose task opens, was cut off behind these moves of its run, and these replies
 abbrev pub IsCutBehind : List Move → List Move → Type 0

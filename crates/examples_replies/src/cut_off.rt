@@ -9,8 +9,11 @@ ghost use Rattle.bosh_due.specs.UnderWay.{UnderWay};
 ghost use Rattle.bosh_due.specs.UnderWay.UnderWay.{idle, appending, working};
 ghost use Rattle.bosh_lines.specs.declared.command.Command.TheVariants as commands;
 ghost use Rattle.examples_replies.specs.AtOnce.{clean_up};
-ghost use Rattle.examples_replies.specs.CutOff.{IsCutBehind, IsCutInReading, IsRefusedUnder, MakesUntold, OpensUntold, ended};
+ghost use Rattle.examples_replies.specs.CutOff.{FailsBehind, IsCutBehind, IsCutInReading, IsRefusedUnder, MakesUntold, OpensUntold, ended};
 ghost use Rattle.examples_replies.specs.CutOff.{clean_up_opened, one_of_two, told_end};
+ghost use Rattle.bosh_fates.specs.declared.fate.Fate.TheVariants.{Lose};
+ghost use Rattle.examples_replies.specs.Kept.{at_a_halt, going_on};
+ghost use Rattle.examples_replies.specs.Replies.{stopped_reply};
 ghost use Rattle.examples_replies.specs.Stemcells.{jammy};
 
 /// A command that is carried out at once with others opens its task, and does no more.
@@ -51,6 +54,13 @@ pub fn turns_are_cut_in_reading()
     ensures read { IsCutInReading (said_reply 4 replies.Nothing ∷ []) idle }
     ensures opened { (now : UnderWay) →
         IsCutInReading (said_reply 4 replies.Nothing ∷ clean_up_opened ∷ []) now → ⊥ }
+{}
+
+/// The output fails only as the text of a reply is written: not behind one that prints nothing.
+pub fn outputs_fail_behind_texts()
+    ensures written { FailsBehind at_a_halt commands.Tasks stopped_reply }
+    ensures no_lines { FailsBehind going_on commands.Tasks (replies.Tasks []) → ⊥ }
+    ensures nothing { FailsBehind going_on (commands.FailStore Lose 1) replies.Nothing → ⊥ }
 {}
 
 /// A run is cut off in its work, behind it, or as its ends are told; none is told before it comes.

@@ -31,8 +31,8 @@ pub use caused::{
     stops_find_what_lines_say, want_of_memory_stops,
 };
 pub use cut_off::{
-    all_are_taken, lines_keep_their_number, openings_are_cut_off, runs_are_cut_off, tasks_end_last,
-    turns_are_cut_in_reading,
+    all_are_taken, lines_keep_their_number, openings_are_cut_off, outputs_fail_behind_texts,
+    runs_are_cut_off, tasks_end_last, turns_are_cut_in_reading,
 };
 pub use deployed::manifests_are_deployed;
 pub use files::{configs_are_told, files_are_kept, files_are_looked_for_first};
