@@ -2,7 +2,7 @@
 -- project's profile). Each halt and each failed call that lines ask for has a line of its own, and that line is obeyed at the
 -- very append or call that it names. The call in which the director halts is one of those that are open, and counts as
 -- others do.
-use Rattle.std.specs.Prelude.{◌≡◌, ◌≤◌, ◌⊎◌, ℕ, Bool, true, false}
+use Rattle.std.specs.Prelude.{◌≡◌, ◌≤◌, ◌⊎◌, ℕ, Bool, true, false, if◌then◌else◌}
 use Rattle.std.specs.Prelude.{List, [], ◌∷◌, ◌++◌, Option, Some, None, Result, Ok}
 use Rattle.std.specs.List.{list_any}
 use Rattle.bosh_answers.specs.Ends.{told_halt}
@@ -212,8 +212,14 @@ pub record HasCauses
     pub unread : IsUnreadFor failed asked (behind_own_halt asked segment)
     pub caused : HaveCauses failed m was (behind_own_halt asked segment) now
 
--- for want of memory the director may stop, which no line asked for; it does nothing more
-abbrev pub without_last_stop : List Move → List Move
-without_last_stop [] = []
-without_last_stop (moves.Halt causes.Stop ∷ []) = []
-without_last_stop (move ∷ more) = move ∷ without_last_stop more
+-- For want of memory the director stops, which no line asked for, where it gives up a call that is open, or in a restart;
+-- it does nothing more.
+abbrev pub may_give_up : Result Command LineFault → Moment → Bool
+may_give_up (Ok commands.Restart) m = true
+may_give_up asked m = has_open_call m
+
+abbrev pub without_last_stop : Result Command LineFault → Moment → List Move → List Move
+without_last_stop asked m [] = []
+without_last_stop asked m (moves.Halt causes.Stop ∷ []) =
+    if may_give_up asked m then [] else moves.Halt causes.Stop ∷ []
+without_last_stop asked m (move ∷ more) = move ∷ without_last_stop asked (later m move) more

@@ -68,6 +68,12 @@ abbrev pub IsCaused : Opening → SessionSoFar → TurnMade → List Move → Wa
 IsCaused o was turn segment waits =
     HasCauses turn.failed (before_of o was.said was.under_way).moment was.waits turn.read.first.request.asked segment waits
 
+-- .. and so do all of a turn that was cut off, but for a last stop for want of memory
+abbrev pub IsCausedUpTo : Opening → SessionSoFar → TurnMade → Waits → Type 0
+IsCausedUpTo o was turn waits =
+    IsCaused o was turn
+    (without_last_stop turn.read.first.request.asked (before_of o was.said was.under_way).moment turn.segment) waits
+
 -- a turn is made, and the others go on from there
 pub record MakesNextTurn
     (Rest : SessionSoFar → Type 0) (o : Opening) (shelf : Option Shelved) (was : SessionSoFar) (turn : TurnMade) :
@@ -87,7 +93,7 @@ pub record MakesLastTurn
   pub waits : Waits
   pub goes_on : GoesOnFrom shelf was turn
   pub cut_by : IsCutBy status (before_of o was.said was.under_way) turn.files turn.read turn.segment left
-  pub causes : IsCaused o was turn (without_last_stop turn.segment) waits
+  pub causes : IsCausedUpTo o was turn waits
 
 -- .. or none is cut off: the input ended; or an event came as the next command was read, of an input that was not seen to
 -- end. The output fails in a turn alone.

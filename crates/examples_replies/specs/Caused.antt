@@ -1,17 +1,15 @@
 -- Lines that wait to let appends and calls fail or to stop the director, and moves that they are the cause of.
-use Rattle.std.specs.Prelude.{ℕ, Bool, false, List, [], ◌∷◌, Option, None, Some}
+use Rattle.std.specs.Prelude.{ℕ, Bool, false, List, [], ◌∷◌, Option, None, Some, Ok}
 use Rattle.bosh_base.specs.declared.answer.Answer.{Answer}
 use Rattle.bosh_base.specs.declared.method.Method.{Method}
-use Rattle.bosh_base.specs.declared.moves.Cause.{Cause}
 use Rattle.bosh_base.specs.declared.moves.Move.{Move}
-use Rattle.bosh_base.specs.declared.moves.Move.TheVariants.{Halt}
-use Rattle.bosh_due.specs.Causes.{HaveCauses, StoreFailures}
+use Rattle.bosh_due.specs.Causes.{HasCauses, HaveCauses, StoreFailures, without_last_stop}
 use Rattle.bosh_due.specs.HaltedBy.{HaltedBy}
 use Rattle.bosh_due.specs.HaltedBy.HaltedBy.{in_append, in_call, no_line}
 use Rattle.bosh_due.specs.InTurn.{MakesSession, TurnMade}
 use Rattle.bosh_due.specs.Waiting.{WaitingLine, Waits}
 use Rattle.bosh_fates.specs.declared.fate.Fate.TheVariants.{Lose}
-use Rattle.bosh_history.specs.Moments.{nothing}
+use Rattle.bosh_history.specs.Moments.{Moment, nothing}
 use Rattle.bosh_lines.specs.declared.command.Command.{Command}
 use Rattle.bosh_lines.specs.declared.command.Command.TheVariants as commands
 use Rattle.bosh_lines.specs.declared.command.StopCall.{StopCall}
@@ -124,20 +122,25 @@ NeverFindsIn took last found = AreUncaused (none_wait_after (in_call took last))
 
 -- ---- a session that is cut off
 
--- the task of the first line opened, and the director halted
-abbrev pub cut_by : Cause → TurnMade
-cut_by cause = record {
+-- the task of the first line opened, and these moves came behind that
+abbrev pub cut_behind : List Move → TurnMade
+cut_behind more = record {
   read = record { first = asks 1 commands.CleanUp; others = []; is_end = false };
   files = no_files;
   failed = none_failed;
-  segment = clean_up_opened ∷ Halt cause ∷ [];
+  segment = clean_up_opened ∷ more;
 }
 
 -- with this status, though no store failed and no line asked for it
-abbrev pub IsCutOffAs : Status → Cause → Type 0
-IsCutOffAs status cause =
-    MakesSession status nothing ((asks 1 commands.CleanUp).request ∷ []) (clean_up_opened ∷ Halt cause ∷ []) (Some [])
-    (counted 0) (counted 0) [] (Some (cut_by cause))
+abbrev pub IsCutOffAs : Status → List Move → Type 0
+IsCutOffAs status more =
+    MakesSession status nothing ((asks 1 commands.CleanUp).request ∷ []) (clean_up_opened ∷ more) (Some [])
+    (counted 0) (counted 0) [] (Some (cut_behind more))
 
-abbrev pub IsCutOffBy : Cause → Type 0
-IsCutOffBy cause = IsCutOffAs Memory cause
+abbrev pub IsCutOffBehind : List Move → Type 0
+IsCutOffBehind more = IsCutOffAs Memory more
+
+-- a command was cut off with these moves, though no store failed and no line asked for it
+abbrev pub IsGivenUp : Command → Moment → List Move → Type 0
+IsGivenUp command m more =
+    HasCauses none_failed m none_wait (Ok command) (without_last_stop (Ok command) m more) none_wait

@@ -5,12 +5,14 @@ ghost use Rattle.bosh_base.specs.declared.moves.Cause.TheVariants.{CloudStore, S
 ghost use Rattle.bosh_base.specs.declared.moves.Move.TheVariants.{Halt, Note};
 ghost use Rattle.bosh_due.specs.HaltedBy.HaltedBy.{in_append, in_call};
 ghost use Rattle.bosh_due.specs.InTurn.{FailAsCounted};
-ghost use Rattle.examples_histories.specs.Scenes.{config, stop};
+ghost use Rattle.bosh_lines.specs.declared.command.Command.TheVariants as commands;
+ghost use Rattle.examples_histories.specs.Scenes.{config, prepared, stop};
 ghost use Rattle.bosh_transcript.specs.declared.status.Status.TheVariants as statuses;
-ghost use Rattle.examples_replies.specs.Caused.{AreCaused, AreCausedBy, AreUncaused, AreUncausedBy, IsCausedAfter, IsCutOffAs, IsCutOffBy, IsUncausedAfter};
+ghost use Rattle.examples_replies.specs.Caused.{AreCaused, AreCausedBy, AreUncaused, AreUncausedBy, IsCausedAfter, IsCutOffAs, IsCutOffBehind, IsGivenUp, IsUncausedAfter};
 ghost use Rattle.examples_replies.specs.Caused.{MayFindAfter, MayFindIn, NeverFindsAfter, NeverFindsIn, both_at_once, fail_append};
 ghost use Rattle.examples_replies.specs.Caused.{fail_call, none_wait, none_wait_after, one_waits, performed, performed_with};
 ghost use Rattle.examples_replies.specs.Caused.{stop_append, stop_call};
+ghost use Rattle.examples_replies.specs.InCalls.{begun};
 ghost use Rattle.examples_replies.specs.OneTurn.{counted, director_failed};
 ghost use Rattle.examples_replies.specs.TwoTurns.{halts};
 
@@ -75,13 +77,19 @@ pub fn stops_find_what_lines_say()
     ensures not_another { NeverFindsIn [] (Some 6) (stop None (5 ∷ []) None) }
 {}
 
-/// For want of memory the director stops last of all, and its store does not fail for it.
+/// For want of memory a session ends, and its store does not fail for it; the director stops for it last of all, in a call
+/// that is open or in a restart.
 pub fn want_of_memory_stops()
-    ensures stopped { IsCutOffBy Stop }
-    ensures not_failed { IsCutOffBy Store → ⊥ }
-    ensures not_at_the_end { IsCutOffAs statuses.Failed Stop → ⊥ }
-    ensures not_by_the_output { IsCutOffAs statuses.Sink Stop → ⊥ }
-    ensures not_by_the_input { IsCutOffAs statuses.Source Stop → ⊥ }
+    ensures opened { IsCutOffBehind [] }
+    ensures not_stopped { IsCutOffBehind (Halt Stop ∷ []) → ⊥ }
+    ensures not_failed { IsCutOffBehind (Halt Store ∷ []) → ⊥ }
+    ensures not_at_the_end { IsCutOffAs statuses.Failed [] → ⊥ }
+    ensures not_by_the_output { IsCutOffAs statuses.Sink [] → ⊥ }
+    ensures not_by_the_input { IsCutOffAs statuses.Source [] → ⊥ }
+    ensures in_call { IsGivenUp commands.CleanUp begun (Halt Stop ∷ []) }
+    ensures no_call { IsGivenUp commands.CleanUp prepared (Halt Stop ∷ []) → ⊥ }
+    ensures in_restart { IsGivenUp commands.Restart prepared (stop None [] None ∷ Halt Stop ∷ []) }
+    ensures other_cause { IsGivenUp commands.CleanUp begun (Halt CloudStore ∷ []) → ⊥ }
 {}
 
 /// A store failed as often as its count rose, at most; a count at its last number does not tell.
