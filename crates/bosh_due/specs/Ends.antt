@@ -13,7 +13,7 @@ use Rattle.bosh_due.specs.Before.{Before, left_under_way, with_moves}
 use Rattle.bosh_due.specs.Outcomes.{MakesMove, OpensAndRuns, Outcome, has_ended, is_clouds_halt, is_directors_halt}
 use Rattle.bosh_due.specs.Outcomes.Outcome.{Answers, Changes, Notes, Opens, Refuses, Restarts}
 use Rattle.bosh_due.specs.Restarting.{MayStartAt, StartsAt, after_halt, start_under_way}
-use Rattle.bosh_due.specs.Room.{goes_by_room, with_move}
+use Rattle.bosh_due.specs.Room.{goes_by_room, leaves_no_call, with_move}
 use Rattle.bosh_due.specs.UnderWay.{UnderWay}
 use Rattle.bosh_due.specs.UnderWay.UnderWay.{altering, idle, appending, working}
 use Rattle.bosh_due.specs.Work.{is_work_move}
@@ -66,13 +66,15 @@ MakesAtMost halts move [] = Unit {0}
 MakesAtMost halts move (moves.Halt cause ∷ []) = halts cause ≡ true
 MakesAtMost halts move more = more ≡ move ∷ []
 
--- the task that was to open has opened, and its work alone was done since, where there was room for it
+-- the task that was to open has opened, and its work alone was done since, where there was room for it; a call that began
+-- has ended, unless the director has halted
 pub record MayRunTask (b : Before) (due opened : TaskOpen) (run : List Move) (now : Before) : Type 0 where
   pub is_due : opened ≡ due
   pub is_its_work : list_all (is_work_move (due.task ∷ [])) run ≡ true
   pub by_room : goes_by_room (with_move b (moves.Note (entries.TaskOpen opened))) run ≡ true
   -- no halt comes after its end
   pub ends_last : (now.moment.halted && has_ended now due.task) ≡ false
+  pub settled : leaves_no_call now ≡ true
 
 -- the first move opens the task
 abbrev pub MayRunFrom : Before → TaskOpen → Before → Move → List Move → Type 0

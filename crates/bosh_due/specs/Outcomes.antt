@@ -16,7 +16,7 @@ use Rattle.bosh_base.specs.declared.reply.Reply.{Reply}
 use Rattle.bosh_base.specs.declared.reply.Reply.TheVariants.{Refused}
 use Rattle.bosh_base.specs.declared.task.TaskEnd.{TaskEnd}
 use Rattle.bosh_due.specs.Before.{Before, is_out_of_room}
-use Rattle.bosh_due.specs.Room.{goes_by_room, with_move}
+use Rattle.bosh_due.specs.Room.{goes_by_room, leaves_no_call, with_move}
 use Rattle.bosh_due.specs.Work.{is_work_move}
 use Rattle.bosh_history.specs.Held.{is_open}
 use Rattle.bosh_history.specs.Steps.{has_no_call}
@@ -88,7 +88,8 @@ may_be_left now task =
 abbrev pub has_ended : Before → ℕ → Bool
 has_ended now task = is_some (now.moment.known.task task).end
 
--- the task that was to open has opened, and its work alone was done since, where there was room for it; its end is told
+-- the task that was to open has opened, and its work alone was done since, where there was room for it; a call that began
+-- has ended, unless the director has halted; its end is told
 pub record RunsTask (b : Before) (due opened : TaskOpen) (run : List Move) (now : Before) (reply : Reply) : Type 0 where
   pub is_due : opened ≡ due
   pub is_its_work : list_all (is_work_move (due.task ∷ [])) run ≡ true
@@ -96,6 +97,7 @@ pub record RunsTask (b : Before) (due opened : TaskOpen) (run : List Move) (now 
   pub may_end : may_be_left now due.task ≡ true
   -- no halt comes after its end
   pub ends_last : (now.moment.halted && has_ended now due.task) ≡ false
+  pub settled : leaves_no_call now ≡ true
   pub told : reply ≡ end_reply now due.task
 
 -- the first move opens it

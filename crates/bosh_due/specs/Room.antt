@@ -35,6 +35,10 @@ is_unperformed call = is_none call.did
 abbrev pub is_performed : OpenCall → Bool
 is_performed call = not (is_unperformed call)
 
+-- no call is left open on a director that goes on
+abbrev pub leaves_no_call : Before → Bool
+leaves_no_call now = now.moment.halted || not (has_open_call now.moment)
+
 -- ---- the next move
 
 -- an entry may be noted that needs no room, or finds some

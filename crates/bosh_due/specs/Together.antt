@@ -20,7 +20,7 @@ use Rattle.bosh_due.specs.Generating.{said_reply}
 use Rattle.bosh_due.specs.Openings.{DeploysFile}
 use Rattle.bosh_due.specs.Outcomes.{Outcome, end_reply, has_ended, is_directors_halt, may_be_left}
 use Rattle.bosh_due.specs.Outcomes.Outcome.{Opens, Refuses}
-use Rattle.bosh_due.specs.Room.{goes_by_room}
+use Rattle.bosh_due.specs.Room.{goes_by_room, leaves_no_call}
 use Rattle.bosh_due.specs.UnderWay.{UnderWay}
 use Rattle.bosh_due.specs.UnderWay.UnderWay.{working}
 use Rattle.bosh_due.specs.Work.{is_work_move}
@@ -174,7 +174,7 @@ all_said now running run = map (said_at_end now) (by_end running run)
 -- ---- all
 
 -- The command of a number takes others with it. The moves before the replies that come as tasks end are `openings ++
--- run`.
+-- run`; a call that began in them has ended, unless the director has halted.
 pub record IsTogether
     (b : Before) (files : FilesRead) (number : ℕ) (others : List Numbered) (segment : List Move) (now : UnderWay) :
     Type 0
@@ -189,6 +189,7 @@ pub record IsTogether
     pub leaves : now ≡ run_leaves (with_moves b openings opened_under_way) (tasks_of running) run
     pub may_end : list_all (may_be_left (with_moves b (openings ++ run) now)) (tasks_of running) ≡ true
     pub ends_last : halts_in_work (with_moves b (openings ++ run) now) (tasks_of running) run ≡ true
+    pub settled : leaves_no_call (with_moves b (openings ++ run) now) ≡ true
     pub is :
         segment ≡ said_reply number replies.Nothing
         ∷ (openings ++ (run ++ all_said (with_moves b (openings ++ run) now) running run))
@@ -233,7 +234,7 @@ pub record IsCutOpening
     pub opens_last : OpensFirst (with_moves b openings opened_under_way) files left last now
     pub is : segment ≡ said_reply number replies.Nothing ∷ (openings ++ last)
 
--- it was cut off in its run, or as the ends were told
+-- it was cut off in its run, or as the ends were told; a call that began has ended, unless the director has halted
 pub record IsCutRun
     (b : Before) (files : FilesRead) (number : ℕ) (others : List Numbered) (segment : List Move) (now : UnderWay) :
     Type 0
@@ -251,5 +252,6 @@ pub record IsCutRun
     pub may_end :
         (ends_told ≡ []) ⊎ (list_all (may_be_left (with_moves b (openings ++ run) now)) (tasks_of running) ≡ true)
     pub ends_last : halts_in_work (with_moves b (openings ++ run) now) (tasks_of running) run ≡ true
+    pub settled : leaves_no_call (with_moves b (openings ++ run) now) ≡ true
     pub ends : all_said (with_moves b (openings ++ run) now) running run ≡ ends_told ++ ends_left
     pub is : segment ≡ said_reply number replies.Nothing ∷ (openings ++ (run ++ ends_told))

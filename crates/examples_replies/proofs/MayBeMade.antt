@@ -30,6 +30,7 @@ runs_from b due now (moves.Note (entries.TaskOpen opened)) run reply runs = reco
   is_its_work = runs.is_its_work;
   by_room = runs.by_room;
   ends_last = runs.ends_last;
+  settled = runs.settled;
 }
 runs_from b due now move run reply runs = runs
 

@@ -45,6 +45,9 @@ pub fn clean_ups_are_told()
     ensures of_less { NeverEnds prepared 44 45 clean_up_of_less commands.CleanUp (replies.TaskFinished 3) }
     ensures of_more { NeverMakes prepared 44 44 clean_up_of_more commands.CleanUp }
     ensures asked { MayMakeTo prepared 44 46 orphan commands.CleanUp (working (3 ∷ [])) }
+    ensures cut_off { MayMakeTo prepared 51 54 orphan commands.CleanUp idle }
+    ensures call_left_open { NeverMakes prepared 44 45 orphan commands.CleanUp }
+    ensures call_left_performed { NeverMakes prepared 51 53 orphan commands.CleanUp }
     ensures of_another_command { NeverMakes prepared 44 46 orphan commands.Tasks }
     ensures of_one_disk { NeverMakes prepared 44 46 orphan (commands.DeleteDisk 1) }
     ensures no_disk { Tells prepared 43 orphan (commands.DeleteDisk 2)

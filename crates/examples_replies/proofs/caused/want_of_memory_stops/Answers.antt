@@ -26,6 +26,7 @@ returns-clause-opened c = record {
             is_its_work = refl;
             by_room = refl;
             ends_last = refl;
+            settled = refl;
           };
           is_left = refl;
         });

@@ -52,6 +52,7 @@ returns-clause-at_once c = record {
   leaves = refl;
   may_end = inl refl;
   ends_last = refl;
+  settled = refl;
   ends = refl;
   is = refl;
 }
@@ -70,6 +71,7 @@ returns-clause-untold c = record {
   leaves = refl;
   may_end = inl refl;
   ends_last = refl;
+  settled = refl;
   ends = refl;
   is = refl;
 }
@@ -88,6 +90,7 @@ returns-clause-told c = record {
   leaves = refl;
   may_end = inr refl;
   ends_last = refl;
+  settled = refl;
   ends = refl;
   is = refl;
 }

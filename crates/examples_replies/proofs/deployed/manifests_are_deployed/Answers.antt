@@ -17,7 +17,7 @@ returns-clause-done c built text manifest it = record {
   comes = read text refl
       (whole (of_dep manifest) it.is (going_on (Ok (Some two_g1)) refl (planned two_g1 it.goal refl refl refl) refl));
   ends = record {
-    ends = record { is_due = refl; is_its_work = refl; by_room = refl; may_end = refl; ends_last = refl; told = refl };
+    ends = record { is_due = refl; is_its_work = refl; by_room = refl; may_end = refl; ends_last = refl; settled = refl; told = refl };
     is_left = refl;
   };
 }

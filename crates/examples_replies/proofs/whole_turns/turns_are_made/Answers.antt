@@ -37,6 +37,7 @@ returns c = record {
     leaves = refl;
     may_end = refl;
     ends_last = refl;
+    settled = refl;
     is = refl;
   };
 }
