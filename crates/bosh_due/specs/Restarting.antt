@@ -10,12 +10,14 @@ use Rattle.bosh_base.specs.declared.moves.Cause.{Cause}
 use Rattle.bosh_base.specs.declared.moves.Cause.TheVariants as causes
 use Rattle.bosh_base.specs.declared.moves.Move.{Move}
 use Rattle.bosh_base.specs.declared.moves.Move.TheVariants as moves
+use Rattle.bosh_base.specs.declared.moves.Stop as stop
 use Rattle.bosh_base.specs.declared.reply.Reply.{Reply}
 use Rattle.bosh_base.specs.declared.reply.Reply.TheVariants.{Restarted}
 use Rattle.bosh_due.specs.Before.{Before}
 use Rattle.bosh_due.specs.Outcomes.{is_directors_halt}
+use Rattle.bosh_due.specs.Room.{has_room_for}
 use Rattle.bosh_due.specs.UnderWay.{FindsAsked, UnderWay}
-use Rattle.bosh_due.specs.UnderWay.UnderWay.{idle, appending}
+use Rattle.bosh_due.specs.UnderWay.UnderWay.{idle, appending, working}
 use Rattle.bosh_history.specs.Held.{is_open}
 use Rattle.bosh_history.specs.Known.{Known}
 use Rattle.bosh_history.specs.Moments.{stopping}
@@ -40,6 +42,18 @@ after_halt false more = None
 abbrev pub halted_for : Before → Option Cause
 halted_for b = if b.moment.halted then b.last_halt else Some causes.Stop
 
+-- ---- what is found
+
+-- an entry of a run is found only where there was room for it
+abbrev pub keeps_by_room : Before → UnderWay → Option Entry → Bool
+keeps_by_room b (working tasks) (Some kept) = has_room_for b kept
+keeps_by_room b under kept = true
+
+-- the stop finds nothing but what was under way as the director halted
+pub record FindsDue (b : Before) (found : stop.Stop) : Type 0 where
+  pub asked : FindsAsked b.under_way b.moment.calls (halted_for b) found
+  pub by_room : keeps_by_room b b.under_way found.kept ≡ true
+
 -- ---- what is told
 
 -- a store was not read, since it failed
@@ -57,7 +71,7 @@ EndsInterrupted due more reply = ⊥
 abbrev pub StartsAt : Before → Option (List Move) → Reply → Type 0
 StartsAt b (Some []) reply = IsStoreUnread reply
 StartsAt b (Some (moves.Stop stop ∷ more)) reply =
-    FindsAsked b.under_way b.moment.calls (halted_for b) stop
+    FindsDue b stop
     × EndsInterrupted (interruptions (stopping b.moment stop).known) more reply
 StartsAt b more reply = ⊥
 
@@ -73,7 +87,7 @@ MayEndInterrupted due more = ⊥
 abbrev pub MayStartAt : Before → Option (List Move) → Type 0
 MayStartAt b (Some []) = Unit {0}
 MayStartAt b (Some (moves.Stop stop ∷ more)) =
-    FindsAsked b.under_way b.moment.calls (halted_for b) stop
+    FindsDue b stop
     × MayEndInterrupted (interruptions (stopping b.moment stop).known) more
 MayStartAt b more = ⊥
 

@@ -50,5 +50,5 @@ not_found session =
     second started.due.ends
     in
     let kept : MayBeKept (appending stemcell) (Some config) =
-    subst (λ under. MayBeKept under (Some config)) left ends.0.kept
+    subst (λ under. MayBeKept under (Some config)) left ends.0.asked.kept
     in grind (arith, kept)

@@ -55,7 +55,8 @@ pub use planned::{deployments_are_few, links_are_kept, releases_are_sound};
 pub use releases::releases_are_told;
 pub use restarts::{restarts_are_told, restarts_find_what_was_asked};
 pub use rooms::{
-    runs_halt_in_their_work, tasks_end_where_there_is_room, work_begins_where_there_is_room,
+    restarts_find_what_had_room, runs_halt_in_their_work, tasks_end_where_there_is_room,
+    work_begins_where_there_is_room,
 };
 pub use served::{blocks_keep_files, directors_are_loaded, replies_are_noted};
 pub use shelves::{failures_are_counted, kept_files_are_read};

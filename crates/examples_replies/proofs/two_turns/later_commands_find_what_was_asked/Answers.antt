@@ -24,7 +24,7 @@ returns-clause-asked c = record {
         reply = replies.Restarted;
         is = refl;
         due = record {
-          ends = (record { kept = refl; took = refl; wrote = tt; one_store = refl }, refl);
+          ends = (record { asked = record { kept = refl; took = refl; wrote = tt; one_store = refl }; by_room = refl }, refl);
           is_left = refl;
         };
       },
