@@ -1,5 +1,5 @@
 -- Openings without a reply, turns that read too little or are cut off, and deployments that are made.
-use Rattle.std.specs.Prelude.{◌++◌, ℕ, Bool, false, List, [], ◌∷◌, Ok}
+use Rattle.std.specs.Prelude.{◌≡◌, ◌++◌, ◌-◌, ℕ, Bool, false, List, [], ◌∷◌, Ok}
 use Rattle.bosh_base.specs.declared.entry.Entry.TheVariants as entries
 use Rattle.bosh_base.specs.declared.moves.Move.{Move}
 use Rattle.bosh_base.specs.declared.moves.Move.TheVariants.{Note}
@@ -15,11 +15,11 @@ use Rattle.bosh_due.specs.UnderWay.UnderWay.{idle}
 use Rattle.bosh_lines.specs.declared.command.Command.{Command}
 use Rattle.bosh_lines.specs.declared.command.Command.TheVariants as commands
 use Rattle.bosh_transcript.specs.declared.status.Status.TheVariants.{Sink}
-use Rattle.examples_histories.specs.Scenes.{prepared}
+use Rattle.examples_histories.specs.Scenes.{Builder, History, part, prepared}
 use Rattle.examples_replies.specs.AtOnce.{asks, clean_up}
 use Rattle.examples_replies.specs.Kept.{at_a_halt}
 use Rattle.examples_replies.specs.Replies.{stopped_reply}
-use Rattle.examples_replies.specs.Scenes.{no_files, start}
+use Rattle.examples_replies.specs.Scenes.{at, no_files, start}
 
 -- a command that is carried out at once with others makes these moves, and has no reply
 abbrev pub OpensUntold : Command → List Move → UnderWay → Type 0
@@ -59,6 +59,14 @@ abbrev pub IsCutBehind : List Move → List Move → Type 0
 IsCutBehind run told =
     IsCutRun (start prepared 2) no_files 4 (asks 5 commands.CleanUp ∷ [])
     (said_reply 4 replies.Nothing ∷ clean_up_opened ∷ (run ++ told)) idle
+
+-- a line that takes a clean-up along is not cut off so that the moves from one place of a history to another are its run,
+-- counted from 1, behind the one that opens its task
+abbrev pub NeverCutBehind : History → ℕ → ℕ → Type 0
+NeverCutBehind history first last =
+    (built : Builder) (segment : List Move) (now : UnderWay)
+    (cut : IsCutRun (at prepared (first - 2) (history built)) no_files 4 (asks 5 commands.CleanUp ∷ []) segment now) →
+    cut.openings ≡ part (first - 1) (first - 1) (history built) → cut.run ≡ part first last (history built) → ⊥
 
 abbrev pub ended : Move
 ended = Note (entries.TaskDone 1)

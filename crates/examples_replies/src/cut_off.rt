@@ -8,8 +8,9 @@ ghost use Rattle.bosh_due.specs.Turns.{TakesAll};
 ghost use Rattle.bosh_due.specs.UnderWay.{UnderWay};
 ghost use Rattle.bosh_due.specs.UnderWay.UnderWay.{idle, appending, working};
 ghost use Rattle.bosh_lines.specs.declared.command.Command.TheVariants as commands;
+ghost use Rattle.examples_histories.specs.Orphan.{orphan};
 ghost use Rattle.examples_replies.specs.AtOnce.{clean_up};
-ghost use Rattle.examples_replies.specs.CutOff.{FailsBehind, IsCutBehind, IsCutInReading, IsRefusedUnder, MakesUntold, OpensUntold, ended};
+ghost use Rattle.examples_replies.specs.CutOff.{FailsBehind, IsCutBehind, IsCutInReading, IsRefusedUnder, MakesUntold, NeverCutBehind, OpensUntold, ended};
 ghost use Rattle.examples_replies.specs.CutOff.{clean_up_opened, one_of_two, told_end};
 ghost use Rattle.bosh_fates.specs.declared.fate.Fate.TheVariants.{Lose};
 ghost use Rattle.examples_replies.specs.Kept.{at_a_halt, going_on};
@@ -69,5 +70,7 @@ pub fn runs_are_cut_off()
     ensures untold { IsCutBehind (ended ∷ []) [] }
     ensures told { IsCutBehind (ended ∷ []) (told_end (replies.TaskFinished 1) ∷ []) }
     ensures too_soon { IsCutBehind [] (told_end (replies.TaskFinished 1) ∷ []) → ⊥ }
+    ensures call_left_open { NeverCutBehind orphan 45 45 }
+    ensures call_left_performed { NeverCutBehind orphan 52 53 }
     ensures other_end { IsCutBehind (ended ∷ []) (told_end (replies.TaskFinished 2) ∷ []) → ⊥ }
 {}

@@ -3,19 +3,22 @@ use Rattle.std.specs.List.{list_all}
 use Rattle.std.specs.Prelude.{false, true}
 use Rattle.bosh_base.specs.declared.moves.Move.{Move}
 use Rattle.bosh_base.specs.declared.reply.Reply.TheVariants as replies
-use Rattle.bosh_due.specs.Before.{with_moves}
+use Rattle.bosh_due.specs.Before.{Before, with_moves}
+use Rattle.bosh_due.specs.Room.{leaves_no_call}
+use Rattle.bosh_due.specs.UnderWay.{UnderWay}
 use Rattle.bosh_due.specs.Outcomes.{full_reply, may_be_left}
 use Rattle.bosh_due.specs.Outcomes.Outcome.{Opens}
 use Rattle.bosh_due.specs.Together.{all_said, is_run}
 use Rattle.bosh_due.specs.Together.Came.{Runs}
 use Rattle.bosh_due.specs.Together.OpensOrTells.{opened}
 use Rattle.bosh_due.specs.UnderWay.UnderWay.{idle}
-use Rattle.examples_histories.specs.Scenes.{prepared}
+use Rattle.examples_histories.specs.Orphan.{orphan}
+use Rattle.examples_histories.specs.Scenes.{part, prepared}
 use Rattle.examples_replies.proofs.CutBehind.{behind}
 use Rattle.examples_replies.specs.AtOnce.{clean_up}
 use Rattle.examples_replies.specs.CutOff.{clean_up_opened, ended, told_end}
 use Rattle.examples_replies.specs.Others.{runs}
-use Rattle.examples_replies.specs.Scenes.{no_files, start}
+use Rattle.examples_replies.specs.Scenes.{at, no_files, start}
 use Rattle.bosh_due.specs.Together.{OpensEach}
 use Rattle.examples_replies.specs.AtOnce.{asks}
 use Rattle.bosh_lines.specs.declared.command.Command.TheVariants as commands
@@ -162,3 +165,24 @@ pub returns-clause-other_end : goal.returns-clause-other_end
 returns-clause-other_end c cut =
     let it = behind (ended ∷ told_end (replies.TaskFinished 2) ∷ []) cut
     in other_end it.run it.told it.left it.are it.is_work it.may_end it.ends
+
+-- what is known behind these openings and this run leaves a call open
+left_open : (b : Before) (now : UnderWay) (openings run first work : List Move) → openings ≡ first → run ≡ work →
+    leaves_no_call (with_moves b (openings ++ run) now) ≡ true → leaves_no_call (with_moves b (first ++ work) now) ≡ true
+left_open b now openings run first work are is settled =
+    subst (λ r. leaves_no_call (with_moves b (first ++ r) now) ≡ true) is
+    (subst (λ o. leaves_no_call (with_moves b (o ++ run) now) ≡ true) are settled)
+
+pub returns-clause-call_left_open : goal.returns-clause-call_left_open
+returns-clause-call_left_open c built segment now cut are is =
+    let open_then =
+    left_open (at prepared 43 (orphan built)) now cut.openings cut.run (part 44 44 (orphan built))
+    (part 45 45 (orphan built)) are is cut.settled
+    in grind (arith, open_then)
+
+pub returns-clause-call_left_performed : goal.returns-clause-call_left_performed
+returns-clause-call_left_performed c built segment now cut are is =
+    let open_then =
+    left_open (at prepared 50 (orphan built)) now cut.openings cut.run (part 51 51 (orphan built))
+    (part 52 53 (orphan built)) are is cut.settled
+    in grind (arith, open_then)
