@@ -1,6 +1,6 @@
 -- Each entry that is noted is counted, and the book has it.
-use Rattle.std.proofs.Common.{◌≡◌, ◌∙◌, ◌≤◌, ◌+◌, ℕ, Bool, true, false, List, [], ◌∷◌, ◌++◌, ap, arith, length, length-append, refl, subst, sym}
-use Rattle.std.specs.Prelude.{◌&&◌, ◌==◌, fold, nat_le, if◌then◌else◌}
+use Rattle.std.proofs.Common.{◌≡◌, ◌∙◌, ◌+◌, ℕ, true, false, List, [], ◌∷◌, ◌++◌, Option, ap, arith, length, length-append, refl, subst, suc, sym}
+use Rattle.std.specs.Prelude.{◌==◌, fold, if◌then◌else◌}
 use Rattle.std.specs.List.{filter_map, list_all, list_any}
 use Rattle.bosh_base.specs.Cloud.{numbers_to}
 use Rattle.std.proofs.lemmas.Bool.{and_parts, false≢true, leb-true}
@@ -15,7 +15,7 @@ use Rattle.bosh_due.specs.Before.{noted_by}
 use Rattle.bosh_history.specs.Fit.{IsFit}
 use Rattle.bosh_history.specs.Held.{is_open}
 use Rattle.bosh_history.specs.Moments.{Moment, Opening, beginning, durable, durable_entry, later, noting}
-use Rattle.bosh_history.specs.Notes.{FailsTask, IsCause, MayNote, Outside, is_task_open}
+use Rattle.bosh_history.specs.Notes.{FailsTask, IsCause, MayNote, Outside}
 use Rattle.bosh_history.specs.Permitted.{IsRun, IsRunFrom}
 use Rattle.bosh_history.specs.Recovered.{is_interruption, is_recovering}
 use Rattle.bosh_ports.specs.declared.keeper.Keeper as keeper
@@ -80,7 +80,7 @@ counted_along outside m (moves.Note e ∷ more) noted whole recovered run going 
     (still_recovered outside m whole.holds.known e run.0.2 recovered) run.1 going
     ∙ one_more noted (made more)
   where
-    one_more : (a b : ℕ) → (a + 1) + b ≡ a + (1 + b)
+    one_more : (a b : ℕ) → (a + 1) + b ≡ a + suc b
     one_more a b = omega arith
 counted_along outside m (moves.Did d ∷ more) noted whole recovered run going =
     counted_along outside (later m (moves.Did d)) more noted (whole_moves outside m (moves.Did d) run.0 whole) recovered run.1 going

@@ -1,8 +1,9 @@
 -- What a site does that is to open a task is due.
-use Rattle.std.proofs.Common.{◌≡◌, ◌∙◌, ◌<◌, ◌+◌, ◌-◌, ℕ, Bool, true, false, List, [], ◌∷◌, ◌++◌, Option, Some, None, Result, Ok, Err}
-use Rattle.std.proofs.Common.{append-nil, ap, arith, inl, inr, length, refl, subst, sym}
-use Rattle.std.specs.Prelude.{◌||◌, ◌⊎◌, IfErr, IfOk, fold, nat_le, option_map, if◌then◌else◌}
+use Rattle.std.proofs.Common.{◌≡◌, ◌∙◌, ◌<◌, ◌+◌, ℕ, true, false, List, [], ◌∷◌, ◌++◌, Option, Some, None, Result, Ok, Err}
+use Rattle.std.proofs.Common.{append-nil, ap, arith, inl, inr, refl, subst, sym}
+use Rattle.std.specs.Prelude.{◌⊎◌, IfErr, IfOk, option_map, if◌then◌else◌}
 use Rattle.bosh_answers.specs.Ends.{told_halt}
+use Rattle.bosh_asks.specs.Known.{next_task}
 use Rattle.bosh_asks.specs.Asked.{dep_of}
 use Rattle.bosh_asks.specs.Cause.{IsCause}
 use Rattle.bosh_asks.specs.Over.{GoalOver, IsNamed}
@@ -21,11 +22,10 @@ use Rattle.bosh_base.specs.declared.reply.Reply.TheVariants.{Refused}
 use Rattle.bosh_book.specs.Faults.{IsOpenFault}
 use Rattle.bosh_book.specs.Opens.{IsOpeningOf}
 use Rattle.bosh_book.specs.Running.{is_full}
-use Rattle.bosh_due.specs.Before.{Before, is_out_of_room, noted_by}
+use Rattle.bosh_due.specs.Before.{Before, is_out_of_room}
 use Rattle.bosh_due.specs.Openings.{opening_with}
 use Rattle.bosh_due.specs.Outcomes.{Outcome, is_directors_halt}
 use Rattle.bosh_due.specs.Outcomes.Outcome.{Opens, Refuses}
-use Rattle.bosh_due.specs.Plans.{Plan}
 use Rattle.bosh_due.specs.Together.Came.{Runs, Told}
 use Rattle.bosh_due.specs.Together.OpensAtMost.{opens_none}
 use Rattle.bosh_due.specs.Together.OpensOrTells.{failed as is_failed, opened as is_opened, refused as is_refused}
@@ -51,7 +51,6 @@ use Rattle.laws_due.specs.Asked.{ComesOfAsk}
 use Rattle.laws_due.specs.Asked.ComesOfAsk.{going_on, halted as has_halted}
 use Rattle.laws_due.specs.Counted.{CountsNoted}
 use Rattle.laws_due.specs.Opened.{IsOpened, OpensTo, came_of}
-use Rattle.laws_due.specs.Replies.{fault_reply}
 use Rattle.laws_held.proofs.HeldLemmas.{run_holds}
 use Rattle.laws_planned.proofs.OpeningLemmas.{opens_as, plans_as}
 use Rattle.laws_planned.proofs.PlanLemmas.{refused_as}
@@ -62,7 +61,6 @@ use Rattle.laws_facts.specs.KnownFacts.{KnownFacts}
 use Rattle.laws_sites.proofs.NumberLemmas.{opened_left}
 use Rattle.laws_sites.proofs.StepLemmas.{book_goes_on}
 use Rattle.laws_sites.specs.Good.{IsGood, IsRecorded, moment_of}
-use Rattle.laws_stands.specs.Stands.{Stands}
 use Rattle.laws_views.proofs.HistoryLemmas.{run_viewed}
 use Rattle.laws_views.proofs.OpenLemmas.{may_open}
 use Rattle.laws_views.proofs.ReadLemmas.{next_known, reads_known}
@@ -142,7 +140,7 @@ module _ {K L : Type 0} {k : keeper.Ghosts K} {l : keeper.Ghosts L} (outside : O
           (may_open m was.book.records facts (reads_known m it.told was.book.records it.whole.stands it.agrees facts) next ask
           opening planned)
         where
-          next : _
+          next : next_task was.book.records ≡ m.known.tasks + 1
           next = next_known m it.told.calls it.told.snapped was.book.records facts
               (stands_at m it.told was.book.records it.whole.stands it.agrees) (few room)
 

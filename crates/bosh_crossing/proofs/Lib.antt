@@ -1,0 +1,5 @@
+pub mod BookSent
+pub mod Cuts
+pub mod RecordsSent
+pub mod SiteSent
+pub mod WorkSent

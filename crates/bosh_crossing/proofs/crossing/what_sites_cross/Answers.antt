@@ -1,0 +1,6 @@
+use denote.Param.Send.{sendable}
+use Rattle.bosh_crossing.proofs.SiteSent.{site_sent}
+use Rattle.bosh_crossing.proofs.crossing.what_sites_cross.Goals as goal
+
+pub is_sent-requires-send-T : goal.is_sent-requires-send-T
+is_sent-requires-send-T g c κs = search (site_sent, sendable)
