@@ -1,4 +1,6 @@
 ghost use Rattle.std.specs.Prelude.{◌≡◌, Bool};
+ghost use Rattle.bosh_desk.specs.Calls.Call.{adds_stemcell, begins_task, drives, obeys, sets_config, uploads};
+ghost use Rattle.bosh_desk.specs.Calls.{Call};
 ghost use Rattle.bosh_records.specs.declared.records.Records.{Records};
 ghost use Rattle.bosh_transcript.specs.Past.{Past, Proceeds};
 
@@ -24,6 +26,9 @@ pub trait Desk {
     /// What holds of it as long as each call keeps it: that its history is permitted, say.
     ghost is_good: { Self → Type 0 };
 
+    /// What a call of it did, with what it answered.
+    ghost does: { Self → Call → Self → Type 0 };
+
     /// What is recorded.
     fn records(&self) -> &Records
         ensures { result.now ≡ records self.now };
@@ -34,31 +39,37 @@ pub trait Desk {
 
     /// Records a release, or tells that the same one is there.
     fn upload(&mut self, release: Release) -> Result<Added, SiteFault>
+        ensures did { does self.old (uploads release result) self.new }
         ensures proceeds { Proceeds (past self.old) (past self.new) }
         ensures kept { is_good self.old → is_good self.new };
 
     /// Records a stemcell, or tells that it is there.
     fn add_stemcell(&mut self, os: &Name, version: &[u8]) -> Result<Added, SiteFault>
+        ensures did { does self.old (adds_stemcell (record { os = os.now; version = version.now }) result) self.new }
         ensures proceeds { Proceeds (past self.old) (past self.new) }
         ensures kept { is_good self.old → is_good self.new };
 
     /// Puts a cloud config in the place of the one that is there.
     fn set_config(&mut self, file: &[u8]) -> Result<(), SiteFault>
+        ensures did { does self.old (sets_config file.now result) self.new }
         ensures proceeds { Proceeds (past self.old) (past self.new) }
         ensures kept { is_good self.old → is_good self.new };
 
     /// Opens the task that does what is asked, and answers its number.
     fn begin_task(&mut self, ask: &Ask) -> Result<u64, SiteFault>
+        ensures did { does self.old (begins_task ask.now result) self.new }
         ensures proceeds { Proceeds (past self.old) (past self.new) }
         ensures kept { is_good self.old → is_good self.new };
 
     /// Carries tasks to their ends.
     fn drive(&mut self, tasks: &[u64]) -> Result<(), SiteFault>
+        ensures did { does self.old (drives tasks.now result) self.new }
         ensures proceeds { Proceeds (past self.old) (past self.new) }
         ensures kept { is_good self.old → is_good self.new };
 
     /// Carries out a command about a director over a simulated cloud, and gives its reply.
     fn obey(&mut self, alloc: Global, command: &SiteCommand) -> Result<Reply, AnswerFault>
+        ensures did { does self.old (obeys command.now result) self.new }
         ensures proceeds { Proceeds (past self.old) (past self.new) }
         ensures kept { is_good self.old → is_good self.new };
 }

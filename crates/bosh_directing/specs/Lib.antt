@@ -1,2 +1,4 @@
 pub mod Acts
+pub mod Does
 pub mod Keeps
+pub mod Obeys

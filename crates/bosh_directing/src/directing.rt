@@ -1,4 +1,5 @@
 ghost use Rattle.bosh_directing.specs.Acts.{past_of};
+ghost use Rattle.bosh_directing.specs.Does.{Does};
 ghost use Rattle.bosh_directing.specs.Keeps.{GoesWell};
 
 use crate::{obeying, site_desk};
@@ -28,6 +29,8 @@ impl<K: Keeper, L: Keeper> Desk for Directing<K, L> {
     ghost is_halted = { λ it. it.site.history.is_halted };
 
     ghost is_good = { λ it. GoesWell K.bodies L.bodies it.site };
+
+    ghost does = { λ was call now. Does K.bodies K.faults K.is_broken L.bodies L.faults was.site call now.site };
 
     fn records(&self) -> &Records {
         self.site.book().records()

@@ -1,4 +1,5 @@
 //! Commands about a director over a simulated cloud.
+ghost use Rattle.bosh_directing.specs.Obeys.{Obeys};
 ghost use Rattle.bosh_directing.specs.Acts.{Acts};
 ghost use Rattle.bosh_directing.specs.Keeps.{Keeps};
 
@@ -17,6 +18,7 @@ pub(crate) fn obey<K: Keeper, L: Keeper>(
 ) -> Result<Reply, AnswerFault>
     ensures acts { Acts site.old site.new }
     ensures kept { Keeps K.bodies L.bodies site.old site.new }
+    ensures did { Obeys K.bodies K.faults K.is_broken L.bodies L.faults site.old command.now result site.new }
 {
     match command {
         SiteCommand::CloudCheck(dep) => seeing::check(alloc, dep, site),

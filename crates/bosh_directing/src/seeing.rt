@@ -1,4 +1,13 @@
 //! What machines and disks have is shown, and what is there is listed.
+ghost use Rattle.std.specs.Prelude.{◌≡◌, IfOk};
+ghost use Rattle.bosh_answers.specs.Checks.{check_reply};
+ghost use Rattle.bosh_answers.specs.Placed.{first_placed, shown_file};
+ghost use Rattle.bosh_base.specs.declared.reply.Reply.TheVariants.{Cloud, Contents};
+ghost use Rattle.bosh_desk.specs.Replies.{read_reply};
+ghost use Rattle.bosh_directing.specs.Obeys.{ReadsDisk, disk_slots, machine_slots, seen};
+ghost use Rattle.bosh_handlers.specs.Carried.{IsAsked};
+ghost use Rattle.bosh_shown.specs.Cloud.{cloud_listing};
+
 use bosh_answers::{AnswerFault, check_cloud, list_cloud, show_file};
 use bosh_base::{Copyable, Inst, Name, Reply, Text};
 use bosh_handlers::{refused_by_site, stopped};
@@ -11,7 +20,10 @@ pub(crate) fn check<K: Keeper, L: Keeper>(
     alloc: Global,
     dep: &Name,
     site: &Site<K, L>,
-) -> Result<Reply, AnswerFault> {
+) -> Result<Reply, AnswerFault>
+    ensures told { IfOk result (λ it. it ≡ seen site.now (check_reply dep.now site.now.book.records (machine_slots site.now)
+        (disk_slots site.now))) }
+{
     if site.halted() {
         return stopped(alloc);
     }
@@ -29,7 +41,9 @@ pub(crate) fn check<K: Keeper, L: Keeper>(
 pub(crate) fn list<K: Keeper, L: Keeper>(
     alloc: Global,
     site: &Site<K, L>,
-) -> Result<Reply, AnswerFault> {
+) -> Result<Reply, AnswerFault>
+    ensures told { IfOk result (λ it. it ≡ seen site.now (Cloud (cloud_listing (machine_slots site.now) (disk_slots site.now)))) }
+{
     if site.halted() {
         return stopped(alloc);
     }
@@ -37,7 +51,9 @@ pub(crate) fn list<K: Keeper, L: Keeper>(
     list_cloud(alloc, cloud.machines(), cloud.disks())
 }
 
-fn contents(alloc: Global, bytes: &[u8]) -> Result<Reply, AnswerFault> {
+fn contents(alloc: Global, bytes: &[u8]) -> Result<Reply, AnswerFault>
+    ensures told { IfOk result (λ it. it ≡ Contents bytes.now) }
+{
     Ok(Reply::Contents(Text::from(Vec::from_slice(alloc, bytes)?)))
 }
 
@@ -46,7 +62,9 @@ pub(crate) fn read<K: Keeper, L: Keeper>(
     alloc: Global,
     inst: &Inst,
     site: &Site<K, L>,
-) -> Result<Reply, AnswerFault> {
+) -> Result<Reply, AnswerFault>
+    ensures told { IsAsked (λ answer. ReadsDisk site.now inst.now answer site.now) read_reply site.now result site.now }
+{
     match site.read_disk(inst) {
         Ok(bytes) => contents(alloc, bytes),
         Err(fault) => refused_by_site(alloc, fault),
@@ -59,7 +77,9 @@ pub(crate) fn show<K: Keeper, L: Keeper>(
     inst: &Inst,
     path: &Text,
     site: &Site<K, L>,
-) -> Result<Reply, AnswerFault> {
+) -> Result<Reply, AnswerFault>
+    ensures told { IfOk result (λ it. it ≡ seen site.now (shown_file path.now (first_placed inst.now path.now (machine_slots site.now)))) }
+{
     if site.halted() {
         return stopped(alloc);
     }

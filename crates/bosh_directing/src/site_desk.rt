@@ -1,4 +1,5 @@
 //! What is done at the desk of a site: uploads are recorded, and tasks are opened and carried to their ends.
+ghost use Rattle.bosh_directing.specs.Does.{AddsStemcell, BeginsTask, Drives, SetsConfig, Uploads};
 ghost use Rattle.bosh_directing.specs.Acts.{Acts};
 ghost use Rattle.bosh_directing.specs.Keeps.{Keeps};
 ghost use Rattle.laws_views.specs.Planned.{IsChecked};
@@ -16,6 +17,7 @@ pub(crate) fn upload<K: Keeper, L: Keeper>(
 ) -> Result<Added, SiteFault>
     ensures acts { Acts site.old site.new }
     ensures kept { Keeps K.bodies L.bodies site.old site.new }
+    ensures did { Uploads K.bodies K.faults site.old release result site.new }
 {
     site.upload(release)
 }
@@ -28,6 +30,7 @@ pub(crate) fn add_stemcell<K: Keeper, L: Keeper>(
 ) -> Result<Added, SiteFault>
     ensures acts { Acts site.old site.new }
     ensures kept { Keeps K.bodies L.bodies site.old site.new }
+    ensures did { AddsStemcell K.bodies K.faults site.old (record { os = os.now; version = version.now }) result site.new }
 {
     site.add_stemcell(os, version)
 }
@@ -39,6 +42,7 @@ pub(crate) fn set_config<K: Keeper, L: Keeper>(
 ) -> Result<(), SiteFault>
     ensures acts { Acts site.old site.new }
     ensures kept { Keeps K.bodies L.bodies site.old site.new }
+    ensures did { SetsConfig K.bodies K.faults site.old file.now result site.new }
 {
     site.set_config(file)
 }
@@ -62,6 +66,7 @@ pub(crate) fn begin_task<K: Keeper, L: Keeper>(
 ) -> Result<u64, SiteFault>
     ensures acts { Acts site.old site.new }
     ensures kept { Keeps K.bodies L.bodies site.old site.new }
+    ensures did { BeginsTask K.bodies K.faults site.old ask.now result site.new }
 {
     see_checked(ask);
     site.begin_task(ask)
@@ -74,6 +79,7 @@ pub(crate) fn carry_out<K: Keeper, L: Keeper>(
 ) -> Result<(), SiteFault>
     ensures acts { Acts site.old site.new }
     ensures kept { Keeps K.bodies L.bodies site.old site.new }
+    ensures did { Drives K.bodies K.faults K.is_broken L.bodies L.faults site.old tasks.now result site.new }
 {
     drive(site, tasks)
 }

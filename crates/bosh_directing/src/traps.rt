@@ -1,5 +1,9 @@
 //! Calls and appends are made to fail, the director is stopped, and started anew.
-ghost use Rattle.std.specs.Prelude.{◌≤◌};
+ghost use Rattle.bosh_directing.specs.Obeys.{SetsTrap, StartsAnew, Traps, call_trap, failing, from_one, restart_reply};
+ghost use Rattle.bosh_directing.specs.Obeys.{stop_trap, stopping, trap_reply};
+ghost use Rattle.bosh_handlers.specs.Carried.{IsAsked};
+ghost use Rattle.bosh_traps.specs.declared.trap.Trap.TheVariants.{Store};
+ghost use Rattle.std.specs.Prelude.{◌≡◌, ◌≤◌};
 ghost use Rattle.bosh_world.specs.Arms.{count_of};
 ghost use Rattle.bosh_directing.specs.Acts.{Acts};
 ghost use Rattle.bosh_directing.specs.Keeps.{Keeps};
@@ -15,7 +19,8 @@ use std::alloc::Global;
 
 // A count of calls or appends, from 1 on, as each command has it.
 fn at_least_one(count: u64) -> u64
-    ensures { 1 ≤ result }
+    ensures some { 1 ≤ result }
+    ensures one { result ≡ from_one count }
 {
     if count == 0 { 1 } else { count }
 }
@@ -28,6 +33,7 @@ fn arm<K: Keeper, L: Keeper>(
     requires { 1 ≤ count_of trap }
     ensures acts { Acts site.old site.new }
     ensures kept { Keeps K.bodies L.bodies site.old site.new }
+    ensures did { IsAsked (λ answer. SetsTrap site.old trap answer site.new) trap_reply site.old result site.new }
 {
     match site.arm(trap) {
         Ok(()) => Ok(Reply::Nothing),
@@ -43,6 +49,7 @@ pub(crate) fn fail_call<K: Keeper, L: Keeper>(
 ) -> Result<Reply, AnswerFault>
     ensures acts { Acts site.old site.new }
     ensures kept { Keeps K.bodies L.bodies site.old site.new }
+    ensures did { Traps site.old (call_trap doom.now) result site.new }
 {
     let owner = doom.owner.copy(alloc)?;
     arm(
@@ -66,6 +73,7 @@ pub(crate) fn fail_store<K: Keeper, L: Keeper>(
 ) -> Result<Reply, AnswerFault>
     ensures acts { Acts site.old site.new }
     ensures kept { Keeps K.bodies L.bodies site.old site.new }
+    ensures did { Traps site.old (Store (from_one appends) (failing fate)) result site.new }
 {
     let how = match fate {
         Fate::Lose => Rig::FailLost,
@@ -89,6 +97,7 @@ pub(crate) fn stop_call<K: Keeper, L: Keeper>(
 ) -> Result<Reply, AnswerFault>
     ensures acts { Acts site.old site.new }
     ensures kept { Keeps K.bodies L.bodies site.old site.new }
+    ensures did { Traps site.old (stop_trap stop.now) result site.new }
 {
     let owner = stop.owner.copy(alloc)?;
     arm(
@@ -113,6 +122,7 @@ pub(crate) fn stop_store<K: Keeper, L: Keeper>(
 ) -> Result<Reply, AnswerFault>
     ensures acts { Acts site.old site.new }
     ensures kept { Keeps K.bodies L.bodies site.old site.new }
+    ensures did { Traps site.old (Store (from_one appends) (stopping when)) result site.new }
 {
     let how = match when {
         When::Before => Rig::StopBefore,
@@ -135,6 +145,7 @@ pub(crate) fn restart<K: Keeper, L: Keeper>(
 ) -> Result<Reply, AnswerFault>
     ensures acts { Acts site.old site.new }
     ensures kept { Keeps K.bodies L.bodies site.old site.new }
+    ensures did { IsAsked (λ answer. StartsAnew K.bodies K.faults K.is_broken L.bodies L.faults site.old answer site.new) restart_reply site.old result site.new }
 {
     match site.restart() {
         Ok(()) => Ok(Reply::Restarted),

@@ -1,4 +1,9 @@
 //! A command is carried out and answered.
+ghost use Rattle.std.specs.Prelude.{◌≡◌, IfOk, OnOk};
+ghost use Rattle.bosh_base.specs.declared.reply.Reply.TheVariants.{Nothing};
+ghost use Rattle.bosh_due.specs.Files.{put};
+ghost use Rattle.bosh_handlers.specs.Acts.{Asks, AsksOf, Records, kept_by, kept_of};
+ghost use Rattle.bosh_handlers.specs.Carried.{Answers, ListsUnless, ReadsThen};
 ghost use Rattle.bosh_transcript.specs.Past.{Proceeds};
 
 use crate::config::update_config;
@@ -24,6 +29,9 @@ pub fn answer<F: Shelf, D: Desk>(
 ) -> Result<Reply, AnswerFault>
     ensures proceeds { Proceeds (D.past desk.old) (D.past desk.new) }
     ensures kept { D.is_good desk.old → D.is_good desk.new }
+    ensures answers { Answers D.does D.records D.is_halted (ReadsThen files.old F.files F.faults (λ found act. Asks found request.asked act)
+        shelf.old shelf.new) desk.old result desk.new }
+    ensures keeps { OnOk result (files.new ≡ kept_by request.asked request.block files.old) }
 {
     let Request { asked, block } = request;
     match asked {
@@ -52,6 +60,9 @@ fn carry_out<F: Shelf, D: Desk>(
 ) -> Result<Reply, AnswerFault>
     ensures proceeds { Proceeds (D.past desk.old) (D.past desk.new) }
     ensures kept { D.is_good desk.old → D.is_good desk.new }
+    ensures answers { Answers D.does D.records D.is_halted (ReadsThen files.old F.files F.faults (λ found act. AsksOf found kind.now act)
+        shelf.old shelf.new) desk.old result desk.new }
+    ensures keeps { OnOk result (files.new ≡ kept_of kind.now block.now files.old) }
 {
     match kind {
         Kind::Keep(path) => keep_file(alloc, path, block, files),
@@ -75,7 +86,10 @@ fn keep_file(
     path: &Text,
     text: &Text,
     files: &mut Files,
-) -> Result<Reply, AnswerFault> {
+) -> Result<Reply, AnswerFault>
+    ensures told { IfOk result (λ reply. reply ≡ Nothing) }
+    ensures keeps { OnOk result (files.new ≡ put (record { path = path.now; text = text.now }) files.old) }
+{
     let (path, text) = copy_both(path, text, alloc)?;
     files.put(KeptFile { path, text })?;
     Ok(Reply::Nothing)
@@ -91,6 +105,8 @@ fn record<F: Shelf, D: Desk>(
 ) -> Result<Reply, AnswerFault>
     ensures proceeds { Proceeds (D.past desk.old) (D.past desk.new) }
     ensures kept { D.is_good desk.old → D.is_good desk.new }
+    ensures answers { Answers D.does D.records D.is_halted (ReadsThen files.now F.files F.faults (λ found act. Records found upload.now act)
+        shelf.old shelf.new) desk.old result desk.new }
 {
     match upload {
         Upload::Release { folder, version } => upload_folder(
@@ -111,7 +127,9 @@ fn list_recorded<D: Desk>(
     alloc: Global,
     listing: &Listing,
     desk: &D,
-) -> Result<Reply, AnswerFault> {
+) -> Result<Reply, AnswerFault>
+    ensures told { IfOk result (ListsUnless D.does D.records D.is_halted (D.is_halted desk.now) listing.now (D.records desk.now)) }
+{
     if desk.is_halted() {
         return stopped(alloc);
     }

@@ -1,5 +1,10 @@
 //! The cloud config is set.
+ghost use Rattle.bosh_cloudcfg.specs.Check.{config_of_tree};
+ghost use Rattle.bosh_handlers.specs.Acts.Act.{sets_config};
+ghost use Rattle.bosh_handlers.specs.Acts.{ConfiguresFile, checked_act, config_act};
+ghost use Rattle.bosh_handlers.specs.Carried.{Answers, IsCarriedOut, IsDone, ReadsThen};
 ghost use Rattle.bosh_transcript.specs.Past.{Proceeds};
+ghost use Rattle.bosh_yaml.specs.View.{tree_of};
 
 use crate::ends::refused_by_site;
 use bosh_answers::{AnswerFault, Files, read_file, refused};
@@ -20,6 +25,8 @@ pub(crate) fn update_config<F: Shelf, D: Desk>(
 ) -> Result<Reply, AnswerFault>
     ensures proceeds { Proceeds (D.past desk.old) (D.past desk.new) }
     ensures kept { D.is_good desk.old → D.is_good desk.new }
+    ensures answers { Answers D.does D.records D.is_halted (ReadsThen files.now F.files F.faults (λ found act. ConfiguresFile found path.now act)
+        shelf.old shelf.new) desk.old result desk.new }
 {
     match read_file(alloc, files, shelf, path) {
         Ok(text) => set_config(alloc, text.as_slice(), desk),
@@ -31,6 +38,7 @@ pub(crate) fn update_config<F: Shelf, D: Desk>(
 pub fn set_config<D: Desk>(alloc: Global, text: &[u8], desk: &mut D) -> Result<Reply, AnswerFault>
     ensures proceeds { Proceeds (D.past desk.old) (D.past desk.new) }
     ensures kept { D.is_good desk.old → D.is_good desk.new }
+    ensures did { IsCarriedOut D.does D.records D.is_halted (config_act text.now) desk.old result desk.new }
 {
     match read(alloc, text) {
         Ok(node) => set_checked(alloc, text, &node, desk),
@@ -46,6 +54,7 @@ fn set_checked<D: Desk>(
 ) -> Result<Reply, AnswerFault>
     ensures proceeds { Proceeds (D.past desk.old) (D.past desk.new) }
     ensures kept { D.is_good desk.old → D.is_good desk.new }
+    ensures did { IsCarriedOut D.does D.records D.is_halted (checked_act text.now (config_of_tree (tree_of node.now))) desk.old result desk.new }
 {
     match check(alloc, node) {
         Ok(config) => {
@@ -59,6 +68,7 @@ fn set_checked<D: Desk>(
 fn put<D: Desk>(alloc: Global, text: &[u8], desk: &mut D) -> Result<Reply, AnswerFault>
     ensures proceeds { Proceeds (D.past desk.old) (D.past desk.new) }
     ensures kept { D.is_good desk.old → D.is_good desk.new }
+    ensures did { IsDone D.does D.records D.is_halted (sets_config text.now) desk.old result desk.new }
 {
     match desk.set_config(text) {
         Ok(()) => Ok(Reply::ConfigUpdated),

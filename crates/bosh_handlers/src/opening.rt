@@ -1,4 +1,9 @@
 //! Tasks are opened.
+ghost use Rattle.std.specs.Result.{result_map_both};
+ghost use Rattle.bosh_answers.specs.Kinds.{kind_of};
+ghost use Rattle.bosh_director.specs.declared.opened.Opened.TheVariants.{Refused};
+ghost use Rattle.bosh_handlers.specs.Acts.{DeploysFile, Opens, OpensOf, deploy_act};
+ghost use Rattle.bosh_handlers.specs.Carried.{Begins, IsBegun, OpensTask, ReadsThen};
 ghost use Rattle.std.specs.Prelude.{◌≡◌};
 ghost use Rattle.bosh_transcript.specs.Past.{Proceeds};
 
@@ -23,6 +28,8 @@ pub fn open_request<F: Shelf, D: Desk>(
 ) -> Result<Opened, AnswerFault>
     ensures proceeds { Proceeds (D.past desk.old) (D.past desk.new) }
     ensures kept { D.is_good desk.old → D.is_good desk.new }
+    ensures begins { Begins D.does D.records D.is_halted (ReadsThen files.now F.files F.faults (λ found act. Opens found request.asked act)
+        shelf.old shelf.new) desk.old result desk.new }
 {
     match asked_of(request) {
         Ok(command) => open(alloc, command, files, shelf, desk),
@@ -48,6 +55,8 @@ fn open<F: Shelf, D: Desk>(
 ) -> Result<Opened, AnswerFault>
     ensures proceeds { Proceeds (D.past desk.old) (D.past desk.new) }
     ensures kept { D.is_good desk.old → D.is_good desk.new }
+    ensures begins { Begins D.does D.records D.is_halted (ReadsThen files.now F.files F.faults (λ found act. OpensOf found (kind_of command) act)
+        shelf.old shelf.new) desk.old result desk.new }
 {
     let kind = kind_of(command);
     let opened = open_kind(alloc, &kind, files, shelf, desk);
@@ -64,6 +73,8 @@ fn open_kind<F: Shelf, D: Desk>(
 ) -> Result<Opened, AnswerFault>
     ensures proceeds { Proceeds (D.past desk.old) (D.past desk.new) }
     ensures kept { D.is_good desk.old → D.is_good desk.new }
+    ensures begins { Begins D.does D.records D.is_halted (ReadsThen files.now F.files F.faults (λ found act. OpensOf found kind.now act)
+        shelf.old shelf.new) desk.old result desk.new }
 {
     match kind {
         Kind::Open(ask) => begin(alloc, ask, desk),
@@ -72,7 +83,9 @@ fn open_kind<F: Shelf, D: Desk>(
     }
 }
 
-fn opened_none(reply: Result<Reply, AnswerFault>) -> Result<Opened, AnswerFault> {
+fn opened_none(reply: Result<Reply, AnswerFault>) -> Result<Opened, AnswerFault>
+    ensures refused { result ≡ result_map_both Refused (λ fault. fault) reply }
+{
     match reply {
         Ok(reply) => Ok(Opened::Refused(reply)),
         Err(fault) => Err(fault),
@@ -83,6 +96,7 @@ fn opened_none(reply: Result<Reply, AnswerFault>) -> Result<Opened, AnswerFault>
 pub(crate) fn begin<D: Desk>(alloc: Global, ask: &Ask, desk: &mut D) -> Result<Opened, AnswerFault>
     ensures proceeds { Proceeds (D.past desk.old) (D.past desk.new) }
     ensures kept { D.is_good desk.old → D.is_good desk.new }
+    ensures opens { OpensTask D.does D.records D.is_halted ask.now desk.old result desk.new }
 {
     match desk.begin_task(ask) {
         Ok(task) => Ok(Opened::Task(task)),
@@ -100,6 +114,8 @@ pub(crate) fn open_file<F: Shelf, D: Desk>(
 ) -> Result<Opened, AnswerFault>
     ensures proceeds { Proceeds (D.past desk.old) (D.past desk.new) }
     ensures kept { D.is_good desk.old → D.is_good desk.new }
+    ensures begins { Begins D.does D.records D.is_halted (ReadsThen files.now F.files F.faults (λ found act. DeploysFile found deploy.now act)
+        shelf.old shelf.new) desk.old result desk.new }
 {
     let how = How {
         recreate: deploy.recreate,
@@ -129,6 +145,7 @@ pub fn open_text<D: Desk>(
 ) -> Result<Opened, AnswerFault>
     ensures proceeds { Proceeds (D.past desk.old) (D.past desk.new) }
     ensures kept { D.is_good desk.old → D.is_good desk.new }
+    ensures begins { IsBegun D.does D.records D.is_halted (deploy_act dep.now vars.now how text.now) desk.old result desk.new }
 {
     match deploy_of(alloc, dep, vars, how, text) {
         Ok(ask) => begin_deploy(alloc, ask, desk),
@@ -139,6 +156,7 @@ pub fn open_text<D: Desk>(
 fn begin_deploy<D: Desk>(alloc: Global, ask: Ask, desk: &mut D) -> Result<Opened, AnswerFault>
     ensures proceeds { Proceeds (D.past desk.old) (D.past desk.new) }
     ensures kept { D.is_good desk.old → D.is_good desk.new }
+    ensures opens { OpensTask D.does D.records D.is_halted ask desk.old result desk.new }
 {
     let opened = begin(alloc, &ask, desk);
     drop(ask);

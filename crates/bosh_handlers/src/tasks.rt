@@ -1,4 +1,7 @@
 //! Tasks are carried to their ends, and told.
+ghost use Rattle.std.specs.Prelude.{Some};
+ghost use Rattle.bosh_director.specs.declared.opened.Opened.TheVariants.{Task};
+ghost use Rattle.bosh_handlers.specs.Carried.{Drives, Runs, RunsOpened, left_by, left_by_fault};
 ghost use Rattle.std.specs.Option.{option_map_or};
 ghost use Rattle.std.specs.Prelude.{◌≡◌, IfOk};
 ghost use Rattle.bosh_answers.specs.Ends.{end_of, told_end};
@@ -20,6 +23,7 @@ use std::alloc::Global;
 pub fn carry_out<D: Desk>(tasks: &[u64], desk: &mut D) -> Result<Left, AnswerFault>
     ensures proceeds { Proceeds (D.past desk.old) (D.past desk.new) }
     ensures kept { D.is_good desk.old → D.is_good desk.new }
+    ensures drives { Drives D.does D.records D.is_halted tasks.now desk.old result desk.new }
 {
     let driven = desk.drive(tasks);
     let left = left_by(&driven);
@@ -39,7 +43,9 @@ pub(crate) fn cause_of(fault: &SiteFault) -> Option<Cause>
     }
 }
 
-fn left_by(driven: &Result<(), SiteFault>) -> Result<Left, AnswerFault> {
+fn left_by(driven: &Result<(), SiteFault>) -> Result<Left, AnswerFault>
+    ensures left { IfOk result (λ left. left_by driven.now ≡ Some left) }
+{
     match driven {
         Ok(()) => Ok(Left::Nothing),
         Err(fault) => left_after(fault),
@@ -47,7 +53,9 @@ fn left_by(driven: &Result<(), SiteFault>) -> Result<Left, AnswerFault> {
 }
 
 // What a fault left of a task.
-fn left_after(fault: &SiteFault) -> Result<Left, AnswerFault> {
+fn left_after(fault: &SiteFault) -> Result<Left, AnswerFault>
+    ensures left { IfOk result (λ left. left_by_fault fault.now ≡ Some left) }
+{
     match fault {
         SiteFault::Book(BookFault::Full) => Ok(Left::Full),
         SiteFault::Book(BookFault::Locked { task }) => Ok(Left::Waits(*task)),
@@ -66,6 +74,7 @@ pub fn run<D: Desk>(
 ) -> Result<Reply, AnswerFault>
     ensures proceeds { Proceeds (D.past desk.old) (D.past desk.new) }
     ensures kept { D.is_good desk.old → D.is_good desk.new }
+    ensures runs { Runs D.does D.records D.is_halted opened desk.old result desk.new }
 {
     match opened {
         Ok(Opened::Refused(reply)) => Ok(reply),
@@ -77,6 +86,7 @@ pub fn run<D: Desk>(
 fn run_task<D: Desk>(alloc: Global, task: u64, desk: &mut D) -> Result<Reply, AnswerFault>
     ensures proceeds { Proceeds (D.past desk.old) (D.past desk.new) }
     ensures kept { D.is_good desk.old → D.is_good desk.new }
+    ensures runs { RunsOpened D.does D.records D.is_halted (Task task) desk.old result desk.new }
 {
     let left = carry_out(&[task], desk)?;
     told(alloc, task, desk.records(), left)

@@ -1,4 +1,9 @@
 //! Releases and stemcells are uploaded.
+ghost use Rattle.std.specs.Prelude.{◌≡◌, IfOk};
+ghost use Rattle.bosh_due.specs.Uploads.{added};
+ghost use Rattle.bosh_handlers.specs.Acts.Act.{adds_stemcell, uploads};
+ghost use Rattle.bosh_handlers.specs.Acts.{UploadsFiles, UploadsFolder};
+ghost use Rattle.bosh_handlers.specs.Carried.{Answers, IsDone, ReadsThen};
 ghost use Rattle.bosh_transcript.specs.Past.{Proceeds};
 
 use crate::ends::refused_by_site;
@@ -21,6 +26,8 @@ pub(crate) fn upload_folder<F: Shelf, D: Desk>(
 ) -> Result<Reply, AnswerFault>
     ensures proceeds { Proceeds (D.past desk.old) (D.past desk.new) }
     ensures kept { D.is_good desk.old → D.is_good desk.new }
+    ensures answers { Answers D.does D.records D.is_halted (ReadsThen files.now F.files F.faults (λ found act. UploadsFolder found folder.now version.now act)
+        shelf.old shelf.new) desk.old result desk.new }
 {
     match read_folder(alloc, files, shelf, folder) {
         Ok(found) => upload_files(alloc, found.as_slice(), version, desk),
@@ -37,6 +44,7 @@ pub fn upload_files<D: Desk>(
 ) -> Result<Reply, AnswerFault>
     ensures proceeds { Proceeds (D.past desk.old) (D.past desk.new) }
     ensures kept { D.is_good desk.old → D.is_good desk.new }
+    ensures answers { Answers D.does D.records D.is_halted (UploadsFiles files.now version.now) desk.old result desk.new }
 {
     match collect(alloc, files, version) {
         Ok(release) => upload(alloc, release, desk),
@@ -45,7 +53,9 @@ pub fn upload_files<D: Desk>(
 }
 
 // What is told of a release that is new.
-fn summary(alloc: Global, release: &Release) -> Result<ReleaseAdded, AnswerFault> {
+fn summary(alloc: Global, release: &Release) -> Result<ReleaseAdded, AnswerFault>
+    ensures told { IfOk result (λ told. told ≡ added release.now) }
+{
     let (name, version) = copy_both(&release.name, &release.version, alloc)?;
     Ok(ReleaseAdded {
         name,
@@ -58,6 +68,7 @@ fn summary(alloc: Global, release: &Release) -> Result<ReleaseAdded, AnswerFault
 fn upload<D: Desk>(alloc: Global, release: Release, desk: &mut D) -> Result<Reply, AnswerFault>
     ensures proceeds { Proceeds (D.past desk.old) (D.past desk.new) }
     ensures kept { D.is_good desk.old → D.is_good desk.new }
+    ensures did { IsDone D.does D.records D.is_halted (uploads release) desk.old result desk.new }
 {
     match summary(alloc, &release) {
         Ok(summary) => upload_told(alloc, release, summary, desk),
@@ -73,6 +84,7 @@ fn upload_told<D: Desk>(
 ) -> Result<Reply, AnswerFault>
     ensures proceeds { Proceeds (D.past desk.old) (D.past desk.new) }
     ensures kept { D.is_good desk.old → D.is_good desk.new }
+    ensures did { summary ≡ added release → IsDone D.does D.records D.is_halted (uploads release) desk.old result desk.new }
 {
     match desk.upload(release) {
         Ok(Added::New) => Ok(Reply::ReleaseAdded(summary)),
@@ -92,6 +104,7 @@ pub fn upload_stemcell<D: Desk>(
 ) -> Result<Reply, AnswerFault>
     ensures proceeds { Proceeds (D.past desk.old) (D.past desk.new) }
     ensures kept { D.is_good desk.old → D.is_good desk.new }
+    ensures did { IsDone D.does D.records D.is_halted (adds_stemcell stemcell.now) desk.old result desk.new }
 {
     let told = stemcell.copy(alloc)?;
     match desk.add_stemcell(&stemcell.os, stemcell.version.as_slice()) {

@@ -42,7 +42,7 @@ use Rattle.laws_due.proofs.OutcomeLemmas.{answered_due, changed_due, refused_due
 use Rattle.laws_due.proofs.RefusedLemmas.{is_untold}
 use Rattle.laws_due.proofs.StemcellLemmas.{goes_on_with, is_stopped}
 use Rattle.laws_due.specs.Answered.{IsAnswered, before_on}
-use Rattle.laws_due.specs.Replies.{fault_reply, loss_reply, read_reply, write_reply}
+use Rattle.bosh_desk.specs.Replies.{fault_reply, loss_reply, read_reply, write_reply}
 use Rattle.laws_runs.proofs.ReadLemmas.{run_facts}
 use Rattle.laws_sites.proofs.StepLemmas.{book_goes_on}
 use Rattle.laws_sites.specs.Good.{IsGood, IsRecorded, moment_of}

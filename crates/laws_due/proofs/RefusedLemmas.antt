@@ -23,7 +23,7 @@ use Rattle.bosh_world.specs.declared.fault.SiteFault.TheVariants.{Book, CloudDam
 use Rattle.bosh_world.specs.declared.site.Site.{Site}
 use Rattle.laws_due.proofs.OutcomeLemmas.{nothing_due, refused_due, unnoted_due}
 use Rattle.laws_due.specs.Answered.{IsAnswered, before_on}
-use Rattle.laws_due.specs.Replies.{fault_reply}
+use Rattle.bosh_desk.specs.Replies.{fault_reply}
 
 -- a fault of one command alone: any command is refused by a site that has halted, or whose store fails
 abbrev pub IsOwn : BookFault → Type 0

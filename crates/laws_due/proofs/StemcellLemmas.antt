@@ -38,7 +38,7 @@ use Rattle.laws_due.proofs.OutcomeLemmas.{answered_due, noted_due}
 use Rattle.laws_due.proofs.RefusedLemmas.{IsOwn, refusal_due}
 use Rattle.laws_due.proofs.UploadLemmas.{not_version, same_order}
 use Rattle.laws_due.specs.Answered.{IsAnswered, before_on}
-use Rattle.laws_due.specs.Replies.{config_reply, stemcell_reply}
+use Rattle.bosh_desk.specs.Replies.{config_reply, stemcell_reply}
 use Rattle.laws_sites.proofs.StepLemmas.{book_goes_on}
 use Rattle.laws_sites.specs.Good.{IsGood, IsRecorded, moment_of}
 

@@ -37,7 +37,7 @@ use Rattle.bosh_world.specs.declared.site.Site.{Site}
 use Rattle.laws_due.proofs.OutcomeLemmas.{answered_due, noted_due}
 use Rattle.laws_due.proofs.RefusedLemmas.{IsOwn, refusal_due}
 use Rattle.laws_due.specs.Answered.{IsAnswered, before_on}
-use Rattle.laws_due.specs.Replies.{release_reply}
+use Rattle.bosh_desk.specs.Replies.{release_reply}
 use Rattle.laws_sites.proofs.StepLemmas.{book_goes_on}
 use Rattle.laws_sites.specs.Good.{IsGood, IsRecorded, moment_of}
 

@@ -14,7 +14,7 @@ use Rattle.bosh_world.specs.Told.{story_of}
 use Rattle.bosh_world.specs.declared.fault.SiteFault.{SiteFault}
 use Rattle.bosh_world.specs.declared.site.Site.{Site}
 use Rattle.laws_due.specs.Answered.{before_on}
-use Rattle.laws_due.specs.Replies.{fault_reply}
+use Rattle.bosh_desk.specs.Replies.{fault_reply}
 
 -- an outcome that may come, and how it came
 pub record OpensSo (Comes : Outcome → Type 0) (b : Before) (came : Came) (more : List Move) (left : UnderWay) : Type 0

@@ -14,7 +14,7 @@ ghost use Rattle.bosh_lines.specs.declared.word.Lost.{Lost};
 ghost use Rattle.bosh_world.specs.Jobs.{Changes, IsLoss, IsMissing, IsNotRead, IsNotRunning, IsWrite, RefusesJob};
 ghost use Rattle.bosh_world.specs.declared.fault.SiteFault.{SiteFault};
 ghost use Rattle.laws_due.specs.Answered.{IsAnswered};
-ghost use Rattle.laws_due.specs.Replies.{loss_reply, read_reply, write_reply};
+ghost use Rattle.bosh_desk.specs.Replies.{loss_reply, read_reply, write_reply};
 ghost use Rattle.laws_sites.specs.Good.{IsGood};
 
 use bosh_ports::Keeper;

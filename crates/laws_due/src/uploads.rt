@@ -22,7 +22,7 @@ ghost use Rattle.bosh_world.specs.Refuses.{IsBooks, Refuses};
 ghost use Rattle.bosh_world.specs.Steps.{Notes, entries_for};
 ghost use Rattle.bosh_world.specs.declared.fault.SiteFault.{SiteFault};
 ghost use Rattle.laws_due.specs.Answered.{IsAnswered};
-ghost use Rattle.laws_due.specs.Replies.{config_reply, release_reply, stemcell_reply};
+ghost use Rattle.bosh_desk.specs.Replies.{config_reply, release_reply, stemcell_reply};
 ghost use Rattle.laws_sites.specs.Good.{IsGood};
 
 use bosh_ports::Keeper;
