@@ -1,12 +1,13 @@
-# run: the program on the first session.  build: proves and builds the program.  test: the gate.  trials: wrong bodies
-# that the gate does not try.  tables: the cases of all tables.  sessions: every session of sessions/ through the built
-# program.  stops: the director is stopped at each call of some sessions.  kills: what keeps stores, and the program, are
-# killed at random moments.  examples: what each example prints.  tutorial: what the commands of docs/TUTORIAL.md print.
-# docs: whether what the pages tell of the tree is so.  pages: writes what pages have by script.  bench: how times grow, of
-# sessions, of the order of compilation, of texts read, of entries, of releases, of cloud configs and addresses, of goals,
-# of calls on a cloud, of entering a lock.  fmt: lays out all sources.  install: the program, its wrapper, pages and the
-# example below PREFIX.  dist: an archive of these, which needs no kit; GATE=FILE has what the gate printed.
-.PHONY: run build test trials tables sessions stops kills examples tutorial docs pages bench fmt install dist
+# run: the program on the first session.  build: proves and builds the program.  log: the same of bosh_log.  test: the
+# gate.  trials: wrong bodies that the gate does not try.  tables: the cases of all tables.  sessions: every session of
+# sessions/ through the built program.  stops: the director is stopped at each call of some sessions.  kills: what
+# keeps stores, and the program, are killed at random moments.  examples: what each example prints.  tutorial: what the
+# commands of docs/TUTORIAL.md print.  docs: whether what the pages tell of the tree is so.  pages: writes what pages
+# have by script.  bench: how times grow, of sessions, of the order of compilation, of texts read, of entries, of
+# releases, of cloud configs and addresses, of goals, of calls on a cloud, of entering a lock.  fmt: lays out all
+# sources.  install: the program, its wrapper, pages and the example below PREFIX.  dist: an archive of these, which
+# needs no kit; GATE=FILE has what the gate printed.
+.PHONY: run build log test trials tables sessions stops kills examples tutorial docs pages bench fmt install dist
 
 PROGRAM := crates/boshd/out/boshd
 PREFIX := /usr/local
@@ -24,6 +25,9 @@ run:
 
 build:
 	@cd crates/boshd && rt run < /dev/null > /dev/null
+
+log:
+	@cd crates/bosh_log && rt run -- data < /dev/null > /dev/null
 
 test:
 	@bash .ci/run
